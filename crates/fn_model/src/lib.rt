@@ -1,0 +1,2 @@
+//! Profiles and the fillings that fit them.
+#![tactic(auto)]

@@ -1,0 +1,2 @@
+//! The program, octets in to octets out.
+#![tactic(auto)]
