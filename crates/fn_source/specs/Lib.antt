@@ -1,0 +1,6 @@
+pub mod Faults
+pub mod Kinds
+pub mod Laws
+pub mod Lexical
+pub mod Places
+pub mod Scan

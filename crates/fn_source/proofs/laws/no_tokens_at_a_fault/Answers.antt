@@ -1,0 +1,5 @@
+use Rattle.fn_source.proofs.Unique as lemmas
+use Rattle.fn_source.proofs.laws.no_tokens_at_a_fault.Goals as goal
+
+pub returns : goal.returns
+returns c = lemmas.no_tokens

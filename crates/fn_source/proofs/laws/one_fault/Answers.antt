@@ -1,0 +1,5 @@
+use Rattle.fn_source.proofs.Unique as lemmas
+use Rattle.fn_source.proofs.laws.one_fault.Goals as goal
+
+pub returns : goal.returns
+returns c = lemmas.one_fault

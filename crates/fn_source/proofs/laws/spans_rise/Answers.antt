@@ -1,0 +1,5 @@
+use Rattle.fn_source.proofs.Slices as lemmas
+use Rattle.fn_source.proofs.laws.spans_rise.Goals as goal
+
+pub returns : goal.returns
+returns c = lemmas.spans_rise

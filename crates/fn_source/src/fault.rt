@@ -1,0 +1,99 @@
+//! What stands in the way of a profile.
+
+ghost use Rattle.std.specs.Prelude.{◌≡◌};
+ghost use Rattle.fn_source.specs.Faults as spec;
+
+use crate::span::Span;
+use std::alloc::{AllocError, AllocFailed};
+use thiserror::Error;
+
+/// What is wrong, without its place.
+#[derive(Clone, Copy, Debug, PartialEq, Eq, Error)]
+pub enum FaultKind {
+    #[error("character is not allowed here")]
+    Character,
+    #[error("number or bit text is too large")]
+    Large,
+    #[error("text is above 1 MiB")]
+    TooLong,
+    #[error("text is not UTF-8")]
+    NotUtf8,
+    #[error("unexpected token")]
+    Unexpected,
+    #[error("too many parts")]
+    TooManyParts,
+    #[error("no such top method without parameters")]
+    NoTop,
+    #[error("profile is too large")]
+    ProfileTooLarge,
+}
+
+impl FaultKind {
+    /// The code that a report of the fault begins with, such as `E01`.
+    pub fn code(self) -> &'static str
+        ensures { result.now ≡ spec.code_of self }
+    {
+        match self {
+            FaultKind::Character => "E01",
+            FaultKind::Large => "E03",
+            FaultKind::TooLong => "E04",
+            FaultKind::NotUtf8 => "E05",
+            FaultKind::Unexpected => "E10",
+            FaultKind::TooManyParts => "E15",
+            FaultKind::NoTop => "E27",
+            FaultKind::ProfileTooLarge => "E34",
+        }
+    }
+}
+
+/// A fault of a profile at its place. The names that its text shows are parts of the profile.
+#[derive(Clone, Copy, Debug, PartialEq, Eq, Error)]
+#[error("{kind}")]
+pub struct Fault {
+    pub kind: FaultKind,
+    pub at: Span,
+    pub first: Option<Span>,
+    pub second: Option<Span>,
+}
+
+/// Why there is no answer on a profile.
+#[derive(Clone, Copy, Debug, PartialEq, Eq, Error)]
+pub enum SourceError {
+    #[error("{0}")]
+    Fault(Fault),
+    #[error("out of memory")]
+    OutOfMemory,
+}
+
+impl From<Fault> for SourceError {
+    ghost use Rattle.std.specs.Prelude.{◌≡◌};
+    ghost use Rattle.fn_source.specs.declared.fault.SourceError.TheVariants as errors;
+
+    ghost from_gives = { λ fault e. e ≡ errors.Fault fault };
+
+    fn from(fault: Fault) -> SourceError {
+        SourceError::Fault(fault)
+    }
+}
+
+impl From<AllocError> for SourceError {
+    ghost use Rattle.std.specs.Prelude.{◌≡◌};
+    ghost use Rattle.fn_source.specs.declared.fault.SourceError.TheVariants as errors;
+
+    ghost from_gives = { λ _ e. e ≡ errors.OutOfMemory };
+
+    fn from(_error: AllocError) -> SourceError {
+        SourceError::OutOfMemory
+    }
+}
+
+impl<T: Drop> From<AllocFailed<T>> for SourceError {
+    ghost use Rattle.std.specs.Prelude.{◌≡◌};
+    ghost use Rattle.fn_source.specs.declared.fault.SourceError.TheVariants as errors;
+
+    ghost from_gives = { λ _ e. e ≡ errors.OutOfMemory };
+
+    fn from(_error: AllocFailed<T>) -> SourceError {
+        SourceError::OutOfMemory
+    }
+}

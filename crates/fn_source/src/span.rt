@@ -1,0 +1,8 @@
+//! Parts of a text.
+
+/// A part of a text, in octets: from the first one up to the one after the last.
+#[derive(Clone, Copy, Debug, PartialEq, Eq)]
+pub struct Span {
+    pub from: usize,
+    pub to: usize,
+}

@@ -1,0 +1,56 @@
+//! Tokens of the notation.
+
+ghost use Rattle.std.specs.Prelude.{◌≡◌, ◌↔◌, IsTrue};
+ghost use Rattle.fn_source.specs.Kinds as spec;
+
+use crate::span::Span;
+
+/// A mark of the notation: `{ } ( ) [ ] , ; =:=`.
+#[derive(Clone, Copy, Debug, PartialEq, Eq)]
+pub enum Mark {
+    OpenBrace,
+    CloseBrace,
+    Open,
+    Close,
+    OpenSquare,
+    CloseSquare,
+    Comma,
+    Semicolon,
+    Binds,
+}
+
+/// What a token is. A bit text has so many digits, which spell the value, the first digit highest.
+#[derive(Clone, Copy, Debug, PartialEq, Eq)]
+pub enum Kind {
+    Name,
+    Number(u64),
+    BitText { count: usize, value: u64 },
+    Mark(Mark),
+}
+
+/// A token and its place in the text.
+#[derive(Clone, Copy, Debug, PartialEq, Eq)]
+pub struct Token {
+    pub kind: Kind,
+    pub span: Span,
+}
+
+/// Whether the marks are the same.
+#[tactic(auto, unfolding(crate::specs::Kinds::same_mark))]
+pub fn same_mark(a: Mark, b: Mark) -> bool
+    ensures same { IsTrue result ↔ (a ≡ b) }
+    ensures test { result ≡ spec.same_mark a b }
+{
+    a == b
+}
+
+/// Whether the token is this mark.
+pub fn is_mark(kind: Kind, mark: Mark) -> bool
+    ensures same { IsTrue result ↔ (kind ≡ Kind.Mark mark) }
+    ensures test { result ≡ spec.is_mark mark kind }
+{
+    match kind {
+        Kind::Mark(other) => same_mark(other, mark),
+        _ => false,
+    }
+}
