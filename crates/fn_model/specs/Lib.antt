@@ -1,0 +1,3 @@
+pub mod NormalForm
+pub mod Fillings
+pub mod Fits

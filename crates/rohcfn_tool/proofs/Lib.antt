@@ -1,0 +1,4 @@
+pub mod Walk
+pub mod Fill
+pub mod Reading
+pub mod Listing
