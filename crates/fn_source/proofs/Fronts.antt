@@ -20,10 +20,10 @@ pub record Front (text rest : List ℕ) (tokens : List Token) : Type 0 where
 pub front_start : (text : List ℕ) → Front text text []
 front_start text = record { goes_on = λ to more h. h }
 
-front_gap : (text rest after : List ℕ) (tokens : List Token) → Front text rest tokens → IsGap rest after → Front text after tokens
+pub front_gap : (text rest after : List ℕ) (tokens : List Token) → Front text rest tokens → IsGap rest after → Front text after tokens
 front_gap text rest after tokens f g = record { goes_on = λ to more h. f.goes_on to more (s.gap g h) }
 
-front_token : (text rest after : List ℕ) (tokens : List Token) (kind : Kind) → Front text rest tokens → IsToken kind rest after
+pub front_token : (text rest after : List ℕ) (tokens : List Token) (kind : Kind) → Front text rest tokens → IsToken kind rest after
     → Front text after (tokens ++ record { kind = kind; span = span_of (length text) rest after } ∷ [])
 front_token text rest after tokens kind f g = record {
   goes_on = λ to more h.
@@ -31,7 +31,7 @@ front_token text rest after tokens kind f g = record {
       subst (λ (ts : List Token). Lexes (length text) text to ts) (sym (append_assoc tokens (t ∷ []) more)) (f.goes_on to (t ∷ more) (s.token g h));
 }
 
-front_lexes : (text rest : List ℕ) (tokens : List Token) → Front text rest tokens → Lexes (length text) text rest tokens
+pub front_lexes : (text rest : List ℕ) (tokens : List Token) → Front text rest tokens → Lexes (length text) text rest tokens
 front_lexes text rest tokens f = subst (λ (ts : List Token). Lexes (length text) text rest ts) (append-nil tokens) (f.goes_on rest [] s.done)
 
 -- ---- each takes an octet

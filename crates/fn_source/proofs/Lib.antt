@@ -6,3 +6,4 @@ pub mod Fronts
 pub mod Found
 pub mod Unique
 pub mod Slices
+pub mod Total

@@ -1,5 +1,5 @@
 -- What holds of the tokens of each text.
-use Rattle.std.specs.Prelude.{◌≡◌, ℕ, ◌<◌, ◌≤◌, List, [], ◌∷◌, length, drop}
+use Rattle.std.specs.Prelude.{◌≡◌, ℕ, ◌<◌, ◌≤◌, ◌⊎◌, List, [], ◌∷◌, length, drop}
 use Rattle.std.specs.List.{AllByRecursion}
 use Rattle.fn_source.specs.declared.fault.Fault.{Fault}
 use Rattle.fn_source.specs.declared.token.Token.{Token}
@@ -24,9 +24,14 @@ TokensAreTheirText = (text : List ℕ) (tokens : List Token) → Lexed text toke
 abbrev pub OneReading : Type 0
 OneReading = (text : List ℕ) (a b : List Token) → Lexed text a → Lexed text b → a ≡ b
 
--- a text has at most one fault of the tokens, and then no tokens
+-- a text has at most one fault of its tokens
 abbrev pub OneFault : Type 0
 OneFault = (text : List ℕ) (a b : Fault) → IsStopped text a → IsStopped text b → a ≡ b
 
+-- each text has tokens or a fault
+abbrev pub EveryText : Type 0
+EveryText = (text : List ℕ) → ((tokens : List Token) × Lexed text tokens) ⊎ ((fault : Fault) × IsStopped text fault)
+
+-- and then no tokens
 abbrev pub NoTokensAtAFault : Type 0
 NoTokensAtAFault = (text : List ℕ) (tokens : List Token) (fault : Fault) → IsStopped text fault → Lexed text tokens → ⊥

@@ -125,7 +125,7 @@ abbrev pub IsLexeme : Option Kind → List ℕ → List ℕ → Type 0
 IsLexeme None = IsGap
 IsLexeme (Some kind) = IsToken kind
 
--- The text is tokens and gaps up to where the fault stops it.
+-- The text is tokens and gaps up to `rest`, where the fault stops it. The fault's place is from `at` up to `to`.
 pub record IsStopped (text : List ℕ) (fault : Fault) : Type 0 where
   pub rest : List ℕ
   pub front : List Token

@@ -12,6 +12,11 @@ pub fn tokens_are_their_text()
     ensures { laws.TokensAreTheirText }
 {}
 
+/// Each text has a list of tokens or a fault of its tokens.
+pub fn every_text()
+    ensures { laws.EveryText }
+{}
+
 /// A text has at most one list of tokens.
 pub fn one_reading()
     ensures { laws.OneReading }

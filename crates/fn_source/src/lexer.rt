@@ -243,7 +243,9 @@ fn lexeme(text: &[u8]) -> Result<(Option<Kind>, &[u8]), Stop<'_>>
 /// The token or the gap at the front, in the words of the definition.
 fn next(text: &[u8]) -> Result<(Option<Kind>, &[u8]), Stop<'_>>
     requires { 0 < length text.now }
-    ensures { MatchResult result (λ x. spec.IsLexeme x.0 text.now x.1.now × (length x.1.now < length text.now)) (λ stop. spec.Stops stop.kind text.now stop.at.now stop.to.now) }
+    ensures { MatchResult result
+        (λ x. spec.IsLexeme x.0 text.now x.1.now × (length x.1.now < length text.now))
+        (λ stop. spec.Stops stop.kind text.now stop.at.now stop.to.now) }
 {
     lexeme(text)
 }
@@ -287,12 +289,15 @@ fn tokens_of(alloc: Global, text: &[u8]) -> Result<Vec<Token>, SourceError>
 }
 
 /// The tokens of a text, in order, or the fault at the first place where there is none.
+///
+/// E01 stands at an octet, or at the end of the text with no octet; E03 at the whole token.
 pub fn lex(alloc: Global, source: &Source<'_>) -> Result<Vec<Token>, SourceError>
     ensures lexed { IfOk result (λ v. spec.Lexed source.now v.items) }
     // E01 and E03 stand only where they are, after tokens and gaps; no other fault comes.
     ensures fault { IfErr result (spec.Refuses source.now) }
     // A text that has tokens is not refused but for want of memory.
-    ensures only { (ts : List Token) → spec.Lexed source.now ts → MatchResult result (λ v. v.items ≡ ts) (λ e. e ≡ SourceError.OutOfMemory) }
+    ensures only { (ts : List Token) → spec.Lexed source.now ts
+        → MatchResult result (λ v. v.items ≡ ts) (λ e. e ≡ SourceError.OutOfMemory) }
 {
     tokens_of(alloc, source.text().as_bytes())
 }

@@ -1,9 +1,6 @@
 -- Reading the tokens.
 use Rattle.std.proofs.Common.{◌≡◌, ℕ, ◌-◌, ◌+◌, ◌<◌, ◌≤◌, true, List, [], ◌∷◌, ◌++◌, length, take, drop, get_or, refl, ap, sym, ◌∙◌, subst, arith, append_assoc, codes}
 use Rattle.std.proofs.lemmas.List.{take_all, append-nil}
-use denote.Enum.Bare.{same_true}
-use Rattle.fn_source.specs.contracts.token.Mark.{the_type}
-use Rattle.fn_source.specs.Kinds.{same_mark}
 use Rattle.fn_source.specs.declared.span.Span.{Span}
 use Rattle.fn_source.specs.declared.token.Mark.{Mark}
 use Rattle.fn_source.specs.declared.token.Mark.TheVariants as m
@@ -20,10 +17,9 @@ pub front_token : (ts : List Token) (d : Token) → 1 ≤ length ts → ts ≡ g
 front_token [] d h = absurd (omega arith)
 front_token (t ∷ ts) d h = ap (λ us. t ∷ us) (sym (take_all (length (t ∷ ts) - 1) ts (omega arith)))
 
-pub mark_is : (t : Token) (old new : List Token) (mark other : Mark) → old ≡ t ∷ new → t.kind ≡ k.Mark other → same_mark other mark ≡ true → old ≡ mark_at mark t.span ∷ new
-unfolding same_mark
+pub mark_is : (t : Token) (old new : List Token) (mark other : Mark) → old ≡ t ∷ new → t.kind ≡ k.Mark other → other ≡ mark → old ≡ mark_at mark t.span ∷ new
 mark_is t old new mark other e is same =
-    let kind : t.kind ≡ k.Mark mark = is ∙ ap k.Mark (same_true the_type tt other mark same) in
+    let kind : t.kind ≡ k.Mark mark = is ∙ ap k.Mark same in
     e ∙ ap (λ (u : Token). u ∷ new) (λ i. record { kind = kind i; span = t.span })
 
 pub number_is : (t : Token) (old new : List Token) (n : ℕ) → old ≡ t ∷ new → t.kind ≡ k.Number n → old ≡ number_at n t.span ∷ new

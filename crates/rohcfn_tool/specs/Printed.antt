@@ -1,0 +1,149 @@
+-- What is printed for a profile and items or packets.
+use Rattle.std.specs.Prelude.{◌≡◌, ℕ, ◌+◌, ◌≤◌, Bool, List, [], ◌∷◌, ◌++◌, length, codes, decimal, Option, Some, None, string_bytes}
+use Rattle.std.specs.Str.{IsUtf8}
+use Rattle.std.specs.Borrow.{Bor}
+use Rattle.fn_bits.specs.Text.{IsText, ReadsAs}
+use Rattle.fn_bits.specs.Lines.{numbered_lines, broken_line}
+use Rattle.fn_source.specs.declared.fault.Fault.{Fault}
+use Rattle.fn_source.specs.declared.fault.FaultKind.{FaultKind}
+use Rattle.fn_source.specs.Faults.{code_of}
+use Rattle.fn_source.specs.Places.{line_of, column_of}
+use Rattle.fn_model.specs.declared.filling.Filling.{Filling}
+use Rattle.fn_model.specs.NormalForm.{NormalForm}
+use Rattle.fn_model.specs.Fillings.{header, packed}
+use Rattle.fn_model.specs.Fits.{Fits, InFronts}
+use Rattle.rohcfn_tool.specs.declared.bundle.Parts.{Parts}
+use Rattle.rohcfn_tool.specs.declared.reader.UnpackFault.{UnpackFault}
+use Rattle.rohcfn_tool.specs.declared.reader.UnpackFault.TheVariants.{Truncated, Refused, OutOfMemory}
+use Rattle.rohcfn_tool.specs.declared.status.Answer.{Answer}
+use Rattle.rohcfn_tool.specs.declared.status.Status.{Status}
+use Rattle.rohcfn_tool.specs.declared.status.Status.TheVariants as status
+use Rattle.rohcfn_tool.specs.declared.words.Command.{Command}
+use Rattle.rohcfn_tool.specs.declared.words.Command.TheVariants.{Pack, Unpack}
+use Rattle.rohcfn_tool.specs.declared.words.Order.{Order}
+use Rattle.rohcfn_tool.specs.declared.writer.PackFault.{PackFault}
+use Rattle.rohcfn_tool.specs.declared.writer.PackFault.TheVariants as writer
+use Rattle.rohcfn_tool.specs.declared.inputs.BadLine.{BadLine}
+use Rattle.rohcfn_tool.specs.declared.inputs.BadLine.TheVariants as bad
+use Rattle.rohcfn_tool.specs.declared.replies.Printed.{Printed}
+use Rattle.rohcfn_tool.specs.declared.replies.Printed.TheVariants as printed
+use Rattle.rohcfn_tool.specs.Faults.{Blames, BlamesItem}
+use Rattle.rohcfn_tool.specs.Meaning.{StandsFor}
+
+-- ---- the lines that go in
+
+-- the lines are the texts of these bits, a line each
+abbrev pub AreTexts : List (ℕ × List ℕ) → List (List Bool) → Type 0
+AreTexts [] [] = Unit {0}
+AreTexts (l ∷ ls) (b ∷ bs) = ReadsAs l.1 b × (length b ≤ 65536) × AreTexts ls bs
+AreTexts [] (b ∷ bs) = ⊥
+AreTexts (l ∷ ls) [] = ⊥
+
+-- the lines of a part, the empty ones left out, are the texts of these bits
+pub record HasTexts (octets : List ℕ) (inputs : List (List Bool)) : Type 0 where
+  pub utf8 : IsUtf8 octets
+  pub texts : AreTexts (numbered_lines octets) inputs
+
+-- no bits have this text
+abbrev pub IsNoText : List ℕ → Type 0
+IsNoText text = (b : List Bool) → length b ≤ 65536 → ReadsAs text b → ⊥
+
+-- The first line of a part that is no text of bits, by its number: where the part breaks UTF-8, else the first that can't be read.
+pub data IsBadLine (octets : List ℕ) : ℕ → Type 0 where
+  broken : {n : ℕ} → (IsUtf8 octets → ⊥) → n ≡ broken_line octets → IsBadLine octets n
+  unread : {n : ℕ} (front back : List (ℕ × List ℕ)) (text : List ℕ) (inputs : List (List Bool)) → IsUtf8 octets → numbered_lines octets ≡ front ++ (n, text) ∷ back
+      → AreTexts front inputs → IsNoText text → IsBadLine octets n
+
+abbrev pub BlamesLine : BadLine → List ℕ → Type 0
+BlamesLine (bad.Number n) octets = IsBadLine octets n
+BlamesLine bad.OutOfMemory octets = Unit {0}
+
+-- ---- the lines that go out
+
+-- For an item, the packed bits of a filling that fits and has it. For a packet, the header of a filling that fits and whose
+-- packed bits are at its front, and how many bits that takes.
+abbrev pub IsLine : Command → NormalForm → List Bool → List ℕ → Type 0
+IsLine Pack p item text = (f : Filling) × Fits p f × (header f ≡ item) × IsText text (packed f)
+IsLine Unpack p packet text = (f : Filling) × InFronts p packet f × ((front : List ℕ) × IsText front (header f) × (text ≡ front ++ codes " took " ++ decimal (length (packed f))))
+
+-- a refused item, by its number from 1
+abbrev pub IsItemFault : PackFault → ℕ → List ℕ → Type 0
+IsItemFault writer.HeaderLength n text = text ≡ codes "item " ++ decimal n ++ codes ": F1 HeaderLength"
+IsItemFault writer.NoFormat n text = text ≡ codes "item " ++ decimal n ++ codes ": F3 NoFormat"
+IsItemFault writer.OutOfMemory n text = ⊥
+
+-- a refused packet, by its number from 1; the refusal names the top method, and its one format, which has no name
+abbrev pub IsPacketFault : UnpackFault → List ℕ → ℕ → List ℕ → Type 0
+IsPacketFault Truncated top n text = text ≡ codes "packet " ++ decimal n ++ codes ": U1 Truncated"
+IsPacketFault Refused top n text = text ≡ codes "packet " ++ decimal n ++ codes ": U2 Refused " ++ top ++ codes ".-"
+IsPacketFault OutOfMemory top n text = ⊥
+
+-- the line of a refusal, which is true of the item or the packet
+abbrev pub IsFault : Command → List ℕ → NormalForm → ℕ → List Bool → List ℕ → Type 0
+IsFault Pack top p n item text = (e : PackFault) × BlamesItem e p item × IsItemFault e n text
+IsFault Unpack top p n packet text = (e : UnpackFault) × Blames e p packet × IsPacketFault e top n text
+
+-- What is printed for items or packets, counted from n: a line for each, up to the first that is refused.
+pub data Prints (command : Command) (top : List ℕ) (p : NormalForm) : ℕ → List (List Bool) → Status → List ℕ → Type 0 where
+  done : {n : ℕ} → Prints command top p n [] status.Done []
+  line : {n : ℕ} {x : List Bool} {xs : List (List Bool)} {s : Status} (text rest : List ℕ) → IsLine command p x text → Prints command top p (n + 1) xs s rest
+      → Prints command top p n (x ∷ xs) s (text ++ 10 ∷ rest)
+  fault : {n : ℕ} {x : List Bool} {xs : List (List Bool)} (text : List ℕ) → IsFault command top p n x text → Prints command top p n (x ∷ xs) status.Refused (text ++ 10 ∷ [])
+
+-- ---- the whole answer
+
+-- the part that a command reads, with its name and with what a bad line of it is called
+abbrev pub input_of : Command → Parts → Option (Bor (List ℕ))
+input_of Pack parts = parts.items
+input_of Unpack parts = parts.packets
+
+abbrev pub input_name : Command → List ℕ
+input_name Pack = codes "items"
+input_name Unpack = codes "packets"
+
+abbrev pub bad_line_words : Command → List ℕ
+bad_line_words Pack = codes ": I1 bad item"
+bad_line_words Unpack = codes ": I2 bad packet"
+
+-- a fault at its line and column, with its code
+pub record IsProfileFault (octets text : List ℕ) : Type 0 where
+  pub fault : Fault
+  pub words : List ℕ
+  pub spelled : text ≡ codes "profile:" ++ decimal (line_of octets fault.at.from) ++ codes ":" ++ decimal (column_of octets fault.at.from) ++ codes ": " ++ code_of fault.kind ++ codes " " ++ words
+
+-- What is answered to a command, by the octets of a profile and of items or packets.
+pub data AnsweredBy (command : Command) (top profile input : List ℕ) : Status → List ℕ → Type 0 where
+  -- the profile is at fault
+  at_fault : (text : List ℕ) → IsProfileFault profile text → AnsweredBy command top profile input status.Refused (text ++ 10 ∷ [])
+  -- the profile is outside the fragment
+  outside : AnsweredBy command top profile input status.Refused (codes "prove: P3 Limit" ++ 10 ∷ [])
+  -- a line can't be read
+  bad_line : (n : ℕ) → IsBadLine input n → AnsweredBy command top profile input status.Refused (input_name command ++ codes ":" ++ decimal n ++ bad_line_words command ++ 10 ∷ [])
+  -- a line for each item or packet, by the profile that the octets stand for
+  answered : {s : Status} {output : List ℕ} (p : NormalForm) (inputs : List (List Bool)) → StandsFor profile top p → HasTexts input inputs
+      → Prints command top p 1 inputs s output → AnsweredBy command top profile input s output
+
+-- What is answered to an order with these parts.
+pub data Answered (order : Order) (parts : Parts) : Status → List ℕ → Type 0 where
+  no_profile : parts.profile ≡ None → Answered order parts status.Refused (codes "bundle: I4 bad part profile" ++ 10 ∷ [])
+  no_input : input_of order.command parts ≡ None → Answered order parts status.Refused (codes "bundle: I4 bad part " ++ input_name order.command ++ 10 ∷ [])
+  both : {s : Status} {output : List ℕ} (profile input : Bor (List ℕ)) → parts.profile ≡ Some profile → input_of order.command parts ≡ Some input
+      → AnsweredBy order.command order.top.now profile.now input.now s output → Answered order parts s output
+
+-- ---- the steps
+
+abbrev pub Answers : Order → Parts → Answer → Type 0
+Answers order parts a = Answered order parts a.status (string_bytes a.output)
+
+abbrev pub AnswersBy : Command → List ℕ → List ℕ → List ℕ → Answer → Type 0
+AnswersBy command top profile input a = AnsweredBy command top profile input a.status (string_bytes a.output)
+
+-- one line, which refuses
+pub record IsRefusal (text : List ℕ) (a : Answer) : Type 0 where
+  pub status_is : a.status ≡ status.Refused
+  pub line_is : string_bytes a.output ≡ text ++ 10 ∷ []
+
+-- a line for an item or a packet, or the line of its refusal
+abbrev pub IsPrinted : Command → List ℕ → NormalForm → ℕ → List Bool → Printed → Type 0
+IsPrinted command top p n input (printed.Line text) = IsLine command p input (string_bytes text)
+IsPrinted command top p n input (printed.Fault text) = IsFault command top p n input (string_bytes text)

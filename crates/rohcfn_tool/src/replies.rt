@@ -1,0 +1,231 @@
+//! What is printed for an order and the parts of the input.
+
+ghost use Rattle.std.specs.Prelude.{◌≡◌, ◌∷◌, ◌++◌, [], ℕ, List, IfOk, OnOk, codes, decimal, string_bytes};
+ghost use Rattle.rohcfn_tool.specs.Printed.{IsPrinted, IsProfileFault, IsRefusal, Prints, Answers, AnswersBy, input_name, bad_line_words};
+
+use crate::bundle::Parts;
+use crate::inputs::{BadLine, read_inputs};
+use crate::normal::{ProfileError, read_profile};
+use crate::reader::{Read, UnpackFault, unpack};
+use crate::status::{Answer, Status};
+use crate::words::{Command, Order};
+use crate::writer::{PackFault, Written, pack};
+use fn_bits::{Bits, Cursor};
+use fn_model::Profile;
+use fn_source::{Fault, line_column};
+use std::alloc::{AllocError, Global};
+
+/// A line of the output.
+#[derive(Debug, Drop)]
+pub enum Printed {
+    /// The line of an item or a packet.
+    Line(String),
+    /// The line of its refusal, which is the last.
+    Fault(String),
+}
+
+/// What is printed for an order: a line for each item or packet up to the first refusal, or the one line of another fault.
+///
+/// The order of faults: a missing part, the profile, a line of the items or packets, and then each item or packet.
+pub fn answer(alloc: Global, order: &Order<'_>, parts: &Parts<'_>) -> Result<Answer, AllocError>
+    ensures { IfOk result (Answers order.now parts.now) }
+{
+    let Some(profile) = parts.profile else {
+        return refusal(alloc, "bundle: I4 bad part profile");
+    };
+    match order.command {
+        Command::Pack => match parts.items {
+            Some(items) => answer_lines(alloc, Command::Pack, order.top, profile, items),
+            None => refusal(alloc, "bundle: I4 bad part items"),
+        },
+        Command::Unpack => match parts.packets {
+            Some(packets) => answer_lines(alloc, Command::Unpack, order.top, profile, packets),
+            None => refusal(alloc, "bundle: I4 bad part packets"),
+        },
+    }
+}
+
+/// The answer to a command, by the octets of a profile and of items or packets.
+fn answer_lines(
+    alloc: Global,
+    command: Command,
+    top: &str,
+    profile: &[u8],
+    input: &[u8],
+) -> Result<Answer, AllocError>
+    ensures { IfOk result (AnswersBy command top.now profile.now input.now) }
+{
+    let normal = match read_profile(alloc, profile, top) {
+        Ok(normal) => normal,
+        Err(ProfileError::Fault(fault)) => {
+            let line = profile_line(alloc, profile, fault)?;
+            return refusal(alloc, line.as_str());
+        }
+        Err(ProfileError::Limit) => return refusal(alloc, "prove: P3 Limit"),
+        Err(ProfileError::OutOfMemory) => return Err(AllocError),
+    };
+    match read_inputs(alloc, input) {
+        Ok(inputs) => print_all(alloc, command, top, &normal, inputs.as_slice()),
+        Err(BadLine::Number(number)) => {
+            let line = bad_line(alloc, command, number)?;
+            refusal(alloc, line.as_str())
+        }
+        Err(BadLine::OutOfMemory) => Err(AllocError),
+    }
+}
+
+/// One line, and the status of a refusal.
+fn refusal(alloc: Global, line: &str) -> Result<Answer, AllocError>
+    ensures { IfOk result (IsRefusal line.now) }
+{
+    let mut output = String::from_str(alloc, line)?;
+    output.push('\n')?;
+    Ok(Answer {
+        status: Status::Refused,
+        output,
+    })
+}
+
+/// A fault of the profile, at its line and column.
+fn profile_line(alloc: Global, octets: &[u8], fault: Fault) -> Result<String, AllocError>
+    ensures { IfOk result (λ text. IsProfileFault octets.now (string_bytes text)) }
+{
+    let place = line_column(octets, fault.at.from);
+    let (line, column) = (place.line, place.column);
+    let code = fault.kind.code();
+    let words = fault.kind.to_string(alloc)?;
+    fault_line(alloc, line, column, code, words.as_str())
+}
+
+fn fault_line(
+    alloc: Global,
+    line: usize,
+    column: usize,
+    code: &str,
+    words: &str,
+) -> Result<String, AllocError>
+    ensures { IfOk result (λ text. string_bytes text ≡ codes "profile:" ++ decimal line ++ codes ":" ++ decimal column ++ codes ": " ++ code.now ++ codes " " ++ words.now) }
+{
+    format!(in alloc; "profile:{line}:{column}: {code} {words}")
+}
+
+/// The line of a part that can't be read.
+fn bad_line(alloc: Global, command: Command, number: usize) -> Result<String, AllocError>
+    ensures { IfOk result (λ text. string_bytes text ≡ input_name command ++ codes ":" ++ decimal number ++ bad_line_words command) }
+{
+    match command {
+        Command::Pack => format!(in alloc; "items:{number}: I1 bad item"),
+        Command::Unpack => format!(in alloc; "packets:{number}: I2 bad packet"),
+    }
+}
+
+/// A line for each item or packet, up to the first that is refused.
+fn print_all(
+    alloc: Global,
+    command: Command,
+    top: &str,
+    profile: &Profile,
+    inputs: &[Bits],
+) -> Result<Answer, AllocError>
+    ensures { IfOk result (λ a. Prints command top.now profile.now 1 inputs.now a.status (string_bytes a.output)) }
+{
+    let mut output = String::new(alloc);
+    for (i, input) in inputs.iter().enumerate() {
+        match print_one(alloc, command, top, profile, i + 1, input)? {
+            Printed::Line(line) => push_line(&mut output, line.as_str())?,
+            Printed::Fault(line) => {
+                push_line(&mut output, line.as_str())?;
+                return Ok(Answer {
+                    status: Status::Refused,
+                    output,
+                });
+            }
+        }
+    }
+    Ok(Answer {
+        status: Status::Done,
+        output,
+    })
+}
+
+fn push_line(output: &mut String, line: &str) -> Result<(), AllocError>
+    ensures { OnOk result (string_bytes output.new ≡ string_bytes output.old ++ line.now ++ 10 ∷ []) }
+{
+    output.push_str(line)?;
+    output.push('\n')
+}
+
+/// The line of an item or a packet, whose number counts from 1.
+fn print_one(
+    alloc: Global,
+    command: Command,
+    top: &str,
+    profile: &Profile,
+    number: usize,
+    input: &Bits,
+) -> Result<Printed, AllocError>
+    ensures { IfOk result (IsPrinted command top.now profile.now number input.now) }
+{
+    match command {
+        Command::Pack => print_packed(alloc, profile, number, input),
+        Command::Unpack => print_read(alloc, top, profile, number, input),
+    }
+}
+
+/// The packed bits of an item.
+fn print_packed(
+    alloc: Global,
+    profile: &Profile,
+    number: usize,
+    item: &Bits,
+) -> Result<Printed, AllocError>
+    ensures { (top : List ℕ) → IfOk result (IsPrinted Command.Pack top profile.now number item.now) }
+{
+    match pack(alloc, profile, item) {
+        Ok(Written { packed, filling: _ }) => Ok(Printed::Line(packed.print_text(alloc)?)),
+        Err(PackFault::HeaderLength) => {
+            Ok(Printed::Fault(format!(in alloc; "item {number}: F1 HeaderLength")?))
+        }
+        Err(PackFault::NoFormat) => {
+            Ok(Printed::Fault(format!(in alloc; "item {number}: F3 NoFormat")?))
+        }
+        Err(PackFault::OutOfMemory) => Err(AllocError),
+    }
+}
+
+/// The item of a packet, and how many bits it took.
+fn print_read(
+    alloc: Global,
+    top: &str,
+    profile: &Profile,
+    number: usize,
+    packet: &Bits,
+) -> Result<Printed, AllocError>
+    ensures { IfOk result (IsPrinted Command.Unpack top.now profile.now number packet.now) }
+{
+    let mut cursor = Cursor::new(packet);
+    match unpack(alloc, profile, &mut cursor) {
+        Ok(Read {
+            item,
+            bits,
+            filling: _,
+        }) => {
+            let item = item.print_text(alloc)?;
+            Ok(Printed::Line(format!(in alloc; "{item} took {bits}")?))
+        }
+        Err(UnpackFault::Truncated) => {
+            Ok(Printed::Fault(format!(in alloc; "packet {number}: U1 Truncated")?))
+        }
+        Err(UnpackFault::Refused) => {
+            Ok(Printed::Fault(refused_line(alloc, number, top)?))
+        }
+        Err(UnpackFault::OutOfMemory) => Err(AllocError),
+    }
+}
+
+/// The line of a refused packet, which names the top method and its one format, which has no name.
+fn refused_line(alloc: Global, number: usize, top: &str) -> Result<String, AllocError>
+    ensures { IfOk result (λ text. string_bytes text ≡ codes "packet " ++ decimal number ++ codes ": U2 Refused " ++ top.now ++ codes ".-") }
+{
+    format!(in alloc; "packet {number}: U2 Refused {top}.-")
+}
