@@ -1,5 +1,5 @@
 use crate::lines::lines;
-use crate::{Bits, BitsError, Cursor, LinesError, TEXT_LIMIT};
+use crate::{Bits, Cursor, LinesError, TEXT_LIMIT};
 use std::alloc::{AllocError, Global};
 use std::test::Fail;
 
@@ -56,49 +56,35 @@ fn reads_and_prints_text(rt: HostRuntime) -> Result<(), Fail> {
 #[test]
 fn keeps_bits(rt: HostRuntime) -> Result<(), Fail> {
     let alloc = rt.alloc();
-    let mut bits = Bits::new(alloc);
-    assert!(rt; bits.is_empty() && bits.len() == 0);
-    for bit in [true, false, false, true, false, true, true, false, true] {
-        bits.push(bit)?;
-    }
-    assert_eq!(rt; bits.to_octets(alloc)?.as_slice(), [0x96, 0x80].as_slice());
-    let tail = Bits::from_octets(alloc, &[0xaf, 0x00], 9)?.expect(&rt, "nine bits");
-    bits.append(&tail)?;
-    assert_eq!(rt; bits.print_text(alloc)?.as_str(), "18:96d780");
+    let mut bits = Bits::from_octets(alloc, &[0x96, 0x80], 9)?.expect(&rt, "nine bits");
+    bits.push(true)?;
+    let part = bits.slice(alloc, 1, 9)?.expect(&rt, "a part");
+    bits.append(&part.copy(alloc)?)?;
     assert_eq!(rt;
-        (bits.get(0), bits.get(17), bits.get(18)),
-        (Some(true), Some(false), None)
-    );
-    let copy = bits.copy(alloc)?;
-    assert!(rt; copy == bits && copy != tail);
-    let part = bits.slice(alloc, 9, 18)?.expect(&rt, "a part");
-    assert!(rt;
-        part == tail && bits.slice(alloc, 9, 19)?.is_none() && bits.slice(alloc, 2, 1)?.is_none()
+        bits.to_octets(alloc)?.as_slice(),
+        [0x96, 0xcb, 0x40].as_slice()
     );
     for (octets, count) in [([0xaf, 0x01], 9), ([0xaf, 0x00], 8), ([0xaf, 0x00], 17)] {
         assert!(rt; Bits::from_octets(alloc, &octets, count)?.is_none());
     }
-    for (len, value, spelled) in [
-        (64, u64::MAX, Some("64:ffffffffffffffff")),
-        (65, 0, None),
-        (4, 9, Some("4:90")),
-        (3, 9, None),
-        (0, 0, Some("0:")),
+    Ok(())
+}
+
+#[test]
+fn spells_values(rt: HostRuntime) -> Result<(), Fail> {
+    let alloc = rt.alloc();
+    for (len, value, octets) in [
+        (64, u64::MAX, [0xff; 8].as_slice()),
+        (5, 9, &[0x48]),
+        (0, 0, &[]),
     ] {
-        let Some(text) = spelled else {
-            assert!(rt; Bits::from_value(alloc, len, value)?.is_none());
-            continue;
-        };
-        let spelling = Bits::from_value(alloc, len, value)?.expect(&rt, text);
-        assert_eq!(rt; spelling.print_text(alloc)?.as_str(), text);
-        assert_eq!(rt; spelling.value(), Some(value));
+        let bits = Bits::from_value(alloc, len, value)?.expect(&rt, "a spelling");
+        assert_eq!(rt; bits.to_octets(alloc)?.as_slice(), octets);
+        assert_eq!(rt; bits.value(), Some(value));
     }
-    let long = Bits::read_text(alloc, "65:ffffffffffffffff80")?.expect(&rt, "65 bits");
-    assert_eq!(rt; long.value(), None);
-    assert_eq!(rt;
-        format!(in alloc; "{}", BitsError::Full)?.as_str(),
-        "bits above the limit"
-    );
+    for (len, value) in [(65, 0), (3, 9), (0, 1)] {
+        assert!(rt; Bits::from_value(alloc, len, value)?.is_none());
+    }
     Ok(())
 }
 

@@ -1,6 +1,9 @@
+pub mod Bundle
 pub mod Faults
-pub mod Tokens
 pub mod Grammar
 pub mod Meaning
-pub mod Status
 pub mod Printed
+pub mod Program
+pub mod Status
+pub mod Tokens
+pub mod Words

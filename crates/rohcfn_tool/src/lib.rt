@@ -9,6 +9,7 @@ pub mod bundle;
 mod grammar;
 pub mod inputs;
 pub mod normal;
+pub mod program;
 pub mod reader;
 pub mod replies;
 pub mod status;

@@ -1,0 +1,142 @@
+//! Each fault of the profile and of the bundle, with its place, worked by hand.
+
+use crate::running::{PLAIN, bundle, check};
+use std::test::Fail;
+
+#[test]
+fn profile_faults(rt: HostRuntime) -> Result<(), Fail> {
+    let alloc = rt.alloc();
+    let rows = [
+        ("a character", "plain { # }\n", "profile:1:9: E01 character is not allowed here\n"),
+        ("a character on line 2", "plain {\n  \u{e9} }\n", "profile:2:3: E01 character is not allowed here\n"),
+        ("an open bit text", "plain { '01\n", "profile:1:12: E01 character is not allowed here\n"),
+        (
+            "a large number",
+            "plain { UNCOMPRESSED { a [18446744073709551616]; } }\n",
+            "profile:1:27: E03 number or bit text is too large\n",
+        ),
+        (
+            "a long bit text",
+            "p '00000000000000000000000000000000000000000000000000000000000000000'\n",
+            "profile:1:3: E03 number or bit text is too large\n",
+        ),
+        ("no text", "", "profile:1:1: E10 unexpected token\n"),
+        ("the end of the text", "plain {\n", "profile:2:1: E10 unexpected token\n"),
+        ("a mark for another", "plain (\n", "profile:1:7: E10 unexpected token\n"),
+        ("another section", "plain { CONTROL { } }\n", "profile:1:9: E10 unexpected token\n"),
+        ("a reserved name", "THIS { }\n", "profile:1:1: E10 unexpected token\n"),
+        (
+            "another encoding",
+            "p { UNCOMPRESSED { a [4]; } COMPRESSED { a =:= static [0]; } }\n",
+            "profile:1:48: E10 unexpected token\n",
+        ),
+        (
+            "something after the method",
+            "p { UNCOMPRESSED { } COMPRESSED { } } ;\n",
+            "profile:1:39: E10 unexpected token\n",
+        ),
+        (
+            "another name",
+            "p { UNCOMPRESSED { } COMPRESSED { } }\n",
+            "profile:1:1: E27 no such top method without parameters\n",
+        ),
+        (
+            "a large header",
+            "\n plain { UNCOMPRESSED { a [4000]; b [97]; } COMPRESSED { } }\n",
+            "profile:2:2: E34 profile is too large\n",
+        ),
+        (
+            "a header at the limit",
+            "plain { UNCOMPRESSED { a [4000]; b [96]; } COMPRESSED { } }\n",
+            "prove: P3 Limit\n",
+        ),
+    ];
+    for (name, profile, output) in rows {
+        let input = bundle(alloc, "pack --top plain", profile, "items", "")?;
+        check(&rt, alloc, name, input.as_bytes(), 1, output);
+    }
+    Ok(())
+}
+
+// Each differs by one thing from a profile of the fragment.
+#[test]
+fn outside_the_fragment(rt: HostRuntime) -> Result<(), Fail> {
+    let alloc = rt.alloc();
+    let rows = [
+        ("a field that isn't listed", "a [4]; b [4];", "a =:= irregular(4) [4];"),
+        ("a field that is listed twice", "a [4];", "a =:= irregular(4) [4]; a =:= irregular(4) [4];"),
+        ("another argument", "a [4];", "a =:= irregular(5) [4];"),
+        ("another bracket", "a [4];", "a =:= irregular(4) [5];"),
+        ("another length", "a [5];", "a =:= irregular(4) [4];"),
+        ("65 bits", "a [65];", "a =:= irregular(65) [65];"),
+        ("a bit text of another count", "", "d =:= '10' [3];"),
+        ("a header field of bits", "a [2];", "a =:= '10' [2];"),
+        ("an irregular local field", "", "d =:= irregular(2) [2];"),
+        ("one name twice", "a [4]; a [4];", "a =:= irregular(4) [4];"),
+        ("one local name twice", "", "d =:= '1' [1]; d =:= '1' [1];"),
+    ];
+    for (name, header, listed) in rows {
+        let profile = format!(in alloc; "plain {{ UNCOMPRESSED {{ {header} }} COMPRESSED {{ {listed} }} }}\n")?;
+        let input = bundle(alloc, "pack --top plain", profile.as_str(), "items", "0:\n")?;
+        check(&rt, alloc, name, input.as_bytes(), 1, "prove: P3 Limit\n");
+    }
+    Ok(())
+}
+
+#[test]
+fn bundle_faults(rt: HostRuntime) -> Result<(), Fail> {
+    let alloc = rt.alloc();
+    let rows = [
+        ("nothing", "", "bundle: I4 bad part words\n"),
+        ("no profile", "=== words\npack --top plain\n=== items\n", "bundle: I4 bad part profile\n"),
+        ("no items", "=== words\npack --top plain\n=== profile\n", "bundle: I4 bad part items\n"),
+        ("no packets", "=== words\nunpack --top plain\n=== profile\n=== items\n", "bundle: I4 bad part packets\n"),
+        ("an unknown part", "=== words\npack --top plain\n=== wards\n", "bundle: I4 bad part wards\n"),
+        ("a repeated part", "=== items\n=== items\n", "bundle: I4 bad part items\n"),
+        ("text before the first part", "\n=== items\n", "bundle: I4 bad part -\n"),
+        ("two lines of words", "=== words\npack --top plain\npack --top plain\n", "bundle: I4 bad part words\n"),
+    ];
+    for (name, input, output) in rows {
+        check(&rt, alloc, name, input.as_bytes(), 1, output);
+    }
+    let input = bundle(alloc, "unpack --top plain", PLAIN, "packets", "18:96af01\n")?;
+    check(&rt, alloc, "a bad packet", input.as_bytes(), 1, "packets:1: I2 bad packet\n");
+    let input = bundle(alloc, "pack", PLAIN, "items", "")?;
+    check(&rt, alloc, "no top", input.as_bytes(), 2, "");
+    let input = bundle(alloc, "pack  --top plain", PLAIN, "items", "")?;
+    check(&rt, alloc, "two blanks", input.as_bytes(), 2, "");
+    let input = bundle(alloc, "check --top plain", PLAIN, "items", "")?;
+    check(&rt, alloc, "an unknown command", input.as_bytes(), 2, "");
+    Ok(())
+}
+
+// A part that isn't UTF-8: the octet ff, which begins no character.
+#[test]
+fn not_text(rt: HostRuntime) -> Result<(), Fail> {
+    let alloc = rt.alloc();
+    let mut input = Vec::from_slice(
+        alloc,
+        b"=== words\npack --top plain\n=== profile\nplain\n{ \xff }\n=== items\n",
+    )?;
+    check(
+        &rt,
+        alloc,
+        "a profile that isn't text",
+        input.as_slice(),
+        1,
+        "profile:2:3: E05 text is not UTF-8\n",
+    );
+    input.clear();
+    input.extend_from_slice(b"=== words\npack --top plain\n=== profile\n")?;
+    input.extend_from_slice(PLAIN.as_bytes())?;
+    input.extend_from_slice(b"=== items\nx\n16:5abc\n16:\xff\n")?;
+    check(
+        &rt,
+        alloc,
+        "items that aren't text",
+        input.as_slice(),
+        1,
+        "items:3: I1 bad item\n",
+    );
+    Ok(())
+}

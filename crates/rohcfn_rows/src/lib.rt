@@ -1,0 +1,11 @@
+//! Tests that cross the crates: whole inputs through the program.
+#![tactic(auto)]
+
+#[cfg(test)]
+mod faults;
+#[cfg(test)]
+mod limits;
+#[cfg(test)]
+mod rows;
+#[cfg(test)]
+mod running;

@@ -1,0 +1,129 @@
+-- What the program prints.
+use Rattle.std.specs.Prelude.{◌≡◌, ◌<◌, ◌≤◌, ◌⊎◌, ◌==◌, ℕ, List, [], ◌∷◌, ◌++◌, Option, None, Some, if◌then◌else◌, length, filter, not, codes, option_and_then, string_bytes}
+use Rattle.std.specs.Str.{is_utf8}
+use Rattle.std.specs.Str.Lines.{lines}
+use Rattle.std.specs.List.{slice_split}
+use Rattle.std.specs.Io.KnownBytes.{Appends, Keeps}
+use Rattle.rohcfn_tool.specs.Bundle.{BlamesPart, HoldsParts, IsBundle, parts_of, text_named}
+use Rattle.rohcfn_tool.specs.Printed.{Answered}
+use Rattle.rohcfn_tool.specs.Words.{AskHelp, asked, asked_of}
+use Rattle.rohcfn_tool.specs.declared.bundle.BadPart.{BadPart}
+use Rattle.rohcfn_tool.specs.declared.bundle.BadPart.TheVariants.{Front, Named}
+use Rattle.rohcfn_tool.specs.declared.bundle.Parts.{Parts}
+use Rattle.rohcfn_tool.specs.declared.program.Input.{Input}
+use Rattle.rohcfn_tool.specs.declared.program.Input.TheVariants.{Whole, Large}
+use Rattle.rohcfn_tool.specs.declared.program.Outcome.{Outcome}
+use Rattle.rohcfn_tool.specs.declared.program.Reply.{Reply}
+use Rattle.rohcfn_tool.specs.declared.program.Reply.TheVariants.{Print, Tell}
+use Rattle.rohcfn_tool.specs.declared.status.Status.{Status}
+use Rattle.rohcfn_tool.specs.declared.status.Status.TheVariants.{Done, Refused, Usage, Failed}
+use Rattle.rohcfn_tool.specs.declared.words.Order.{Order}
+
+-- 4 MiB
+abbrev pub most_octets : ℕ
+most_octets = 4194304
+
+abbrev pub large_line : List ℕ
+large_line = codes "bundle: I6 above 4 MiB" ++ 10 ∷ []
+
+abbrev pub bad_part_line : List ℕ → List ℕ
+bad_part_line name = codes "bundle: I4 bad part " ++ name ++ 10 ∷ []
+
+-- a part's name in a line: itself where it is text
+abbrev pub shown_name : BadPart → List ℕ
+shown_name Front = codes "-"
+shown_name (Named name) = if is_utf8 name.now then name.now else codes "-"
+
+-- the words of the one line
+abbrev pub words_of_line : List (List ℕ) → Option (List (List ℕ))
+words_of_line [] = None
+words_of_line (line ∷ []) = Some (slice_split (λ octet. octet == 32) line)
+words_of_line (line ∷ other ∷ more) = None
+
+-- the words in a part: its one line that isn't empty, cut at each blank
+abbrev pub words_in : List ℕ → Option (List (List ℕ))
+words_in text = if is_utf8 text
+    then words_of_line (filter (λ line. not (length line == 0)) (lines text)) else None
+
+-- the words of a call: those that are given, and with none those of the input
+abbrev pub words_of : List (List ℕ) → List ℕ → Option (List (List ℕ))
+words_of [] input = option_and_then words_in (text_named (codes "words") (parts_of input))
+words_of (word ∷ words) input = Some (word ∷ words)
+
+-- what is printed at an input, where words are given, and the status that goes with it
+pub data RunPrints (given : List (List ℕ)) (input : List ℕ) : Status → List ℕ → Type 0 where
+  -- the input is too long
+  large : most_octets < length input → RunPrints given input Refused large_line
+  -- it is no bundle
+  bad_part : (bad : BadPart) → length input ≤ most_octets → BlamesPart input bad
+      → RunPrints given input Refused (bad_part_line (shown_name bad))
+  -- it has no words, and none are given
+  no_words : length input ≤ most_octets → IsBundle input → words_of given input ≡ None
+      → RunPrints given input Refused (bad_part_line (codes "words"))
+  -- the answer to the words' order and the input's parts
+  answered : {status : Status} {output : List ℕ} (words : List (List ℕ)) (order : Order) (parts : Parts)
+      → length input ≤ most_octets → IsBundle input → words_of given input ≡ Some words
+      → asked_of words ≡ Some (asked order) → HoldsParts parts (parts_of input)
+      → Answered order parts status output → RunPrints given input status output
+
+-- the words of the call ask for nothing
+pub record AsksNothing (given : List (List ℕ)) (input : List ℕ) (asking : List (List ℕ)) : Type 0 where
+  pub short : length input ≤ most_octets
+  pub bundle : IsBundle input
+  pub words : words_of given input ≡ Some asking
+  pub nothing : asked_of asking ≡ None
+
+-- sent stands at the front of what may be printed
+abbrev pub BeginsPrint : List (List ℕ) → List ℕ → List ℕ → Type 0
+BeginsPrint given input sent = (sent ≡ [])
+    ⊎ ((status : Status) × (rest : List ℕ) × RunPrints given input status (sent ++ rest))
+
+-- the call is refused, and nothing is written; help is asked for where the status is that of a run that is done
+abbrev pub Tells : List (List ℕ) → List ℕ → Status → Type 0
+Tells given input Done = (words : List (List ℕ)) × AsksNothing given input words × AskHelp words
+Tells given input Usage = (words : List (List ℕ)) × AsksNothing given input words
+Tells given input Refused = ⊥
+Tells given input Failed = ⊥
+
+-- what a run does to the known bytes of its writer: it prints, or tells the person who called and
+-- writes nothing, or fails and has then written the front of what may be printed
+abbrev pub Gives : {Told : Type 0} → List (List ℕ) → List ℕ → Status → Option Told → Option (List ℕ) → Option (List ℕ) → Type 0
+Gives given input status (Some text) old new = Tells given input status × Keeps old new
+Gives given input Failed None old new = (sent : List ℕ) × BeginsPrint given input sent × Appends old new sent
+Gives given input status None old new = (output : List ℕ) × RunPrints given input status output × Appends old new output
+
+abbrev pub RunGives : List (List ℕ) → List ℕ → Outcome → Option (List ℕ) → Option (List ℕ) → Type 0
+RunGives given input outcome old new = Gives given input outcome.status outcome.usage old new
+
+-- the whole of what a reader had left, or that it is too long
+abbrev pub IsInput : List ℕ → Input → Type 0
+IsInput all (Whole input) = (input.items ≡ all) × (length all ≤ most_octets)
+IsInput all Large = most_octets < length all
+
+-- what was read is no more than the program takes
+abbrev pub IsShortInput : Input → Type 0
+IsShortInput (Whole input) = length input.items ≤ most_octets
+IsShortInput Large = Unit {0}
+
+-- what the reply to an input is
+abbrev pub Replies : List (List ℕ) → List ℕ → Reply → Type 0
+Replies given input (Print status output) = RunPrints given input status (string_bytes output)
+Replies given input (Tell status text) = Tells given input status
+
+-- the words ask for nothing, or for help
+abbrev pub TellsBy : List (List ℕ) → Status → Type 0
+TellsBy words Done = (asked_of words ≡ None) × AskHelp words
+TellsBy words Usage = asked_of words ≡ None
+TellsBy words Refused = ⊥
+TellsBy words Failed = ⊥
+
+-- what the reply to words and parts is
+abbrev pub RepliesBy : List (List ℕ) → Parts → Reply → Type 0
+RepliesBy words parts (Print status output) = (order : Order) × (asked_of words ≡ Some (asked order))
+    × Answered order parts status (string_bytes output)
+RepliesBy words parts (Tell status text) = TellsBy words status
+
+-- the reply is that fault line
+abbrev pub RefusesBy : List ℕ → Reply → Type 0
+RefusesBy line (Print status output) = (status ≡ Refused) × (string_bytes output ≡ line)
+RefusesBy line (Tell status text) = ⊥

@@ -1,0 +1,90 @@
+-- What the words of a call ask for, by what clap's contracts say of a command and words.
+use Rattle.std.specs.Prelude.{◌≡◌, ◌≢◌, ℕ, true, List, [], ◌∷◌, Option, None, Some, if◌then◌else◌, codes}
+use Rattle.std.specs.Str.{bytes_eq}
+use Rattle.clap.specs.Words.{App, IsAmong, Kinds, Row, Rule, fault_of, first_of, new_app, new_rule, subcommand_of, with_rule, with_subcommand}
+use Rattle.clap.specs.Simple.{on_top}
+use Rattle.clap.specs.declared.error.kind.ErrorKind.{ErrorKind}
+use Rattle.clap.specs.declared.error.kind.ErrorKind.TheVariants.{DisplayHelp, OutOfMemory}
+use Rattle.rohcfn_tool.specs.declared.words.Command.{Command}
+use Rattle.rohcfn_tool.specs.declared.words.Command.TheVariants.{Pack, Unpack}
+use Rattle.rohcfn_tool.specs.declared.words.Order.{Order}
+use Rattle.rohcfn_tool.specs.declared.words.WordsError.{WordsError}
+use Rattle.rohcfn_tool.specs.declared.words.WordsError.TheVariants as error
+
+-- `--top NAME`, which has to be there
+abbrev pub top_flag : Rule
+top_flag = record (new_rule (codes "top")) {
+  long = Some (codes "top");
+  value_names = 1;
+  required = true;
+}
+
+-- a command of that name with this flag
+abbrev pub with_top : List ℕ → App
+with_top name = with_rule (new_app name) top_flag
+
+-- the program's own command line: no name before the words, and one of the commands has to be there
+abbrev pub bare_program : App
+bare_program = on_top (λ top. record top { no_binary_name = true; subcommand_required = true })
+    (new_app (codes "rohcfn"))
+
+-- with its commands
+unfoldable pub program : App
+program = with_subcommand (with_subcommand bare_program (with_top (codes "pack")).top)
+    (with_top (codes "unpack")).top
+
+-- a command, and the name of a method
+pub record Asked : Type 0 where
+  pub command : Command
+  pub top : List ℕ
+
+abbrev pub asked : Order → Asked
+asked order = record { command = order.command; top = order.top.now }
+
+abbrev pub command_named : List ℕ → Option Command
+command_named name = if bytes_eq name (codes "pack") then Some Pack
+    else (if bytes_eq name (codes "unpack") then Some Unpack else None)
+
+abbrev pub asked_by : Option Command → Option (List ℕ) → Option Asked
+asked_by None top = None
+asked_by (Some command) None = None
+asked_by (Some command) (Some top) = Some (record { command = command; top = top })
+
+-- a command's name, and the values of its flags
+abbrev pub asked_in : Option (List ℕ × List Row) → Option Asked
+asked_in None = None
+asked_in (Some met) = asked_by (command_named met.0) (first_of (codes "top") met.1)
+
+-- words with a fault ask for nothing
+abbrev pub asked_unless : Kinds → Option (List ℕ × List Row) → Option Asked
+asked_unless [] met = asked_in met
+asked_unless (kind ∷ kinds) met = None
+
+-- what the words ask for
+unfoldable pub asked_of : List (List ℕ) → Option Asked
+asked_of words = asked_unless (fault_of program words) (subcommand_of program words)
+
+-- the words ask for help
+unfoldable pub AskHelp : List (List ℕ) → Type 0
+AskHelp words = IsAmong DisplayHelp (fault_of program words)
+
+-- why words are refused: they ask for help, or for nothing
+abbrev pub RefusesWords : List (List ℕ) → WordsError → Type 0
+RefusesWords words (error.Help text) = (asked_of words ≡ None) × AskHelp words
+RefusesWords words (error.Usage text) = asked_of words ≡ None
+RefusesWords words error.OutOfMemory = Unit {0}
+
+-- what clap's kind of refusal is to the caller
+abbrev pub RefusesError : ErrorKind → WordsError → Type 0
+RefusesError kind (error.Help text) = kind ≡ DisplayHelp
+RefusesError kind (error.Usage text) = kind ≢ OutOfMemory
+RefusesError kind error.OutOfMemory = Unit {0}
+
+-- what some words ask for, written out
+pub record ReadsWords : Type 0 where
+  pub pack : asked_of (codes "pack" ∷ codes "--top" ∷ codes "plain" ∷ []) ≡ Some (record { command = Pack; top = codes "plain" })
+  pub unpack : asked_of (codes "unpack" ∷ codes "--top=plain" ∷ []) ≡ Some (record { command = Unpack; top = codes "plain" })
+  pub no_top : asked_of (codes "pack" ∷ []) ≡ None
+  pub no_command : asked_of [] ≡ None
+  pub other_flag : asked_of (codes "pack" ∷ codes "--top" ∷ codes "plain" ∷ codes "--fly" ∷ []) ≡ None
+  pub help : AskHelp (codes "--help" ∷ [])
