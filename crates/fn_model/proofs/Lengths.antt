@@ -1,5 +1,5 @@
 -- How long the two sides of a fitting filling are.
-use Rattle.std.proofs.Common.{◌≡◌, ℕ, zero, suc, ◌+◌, ◌*◌, ◌<◌, ◌≤◌, Bool, true, false, List, [], ◌∷◌, ◌++◌, length, take, drop, filter, refl, ap, sym, ◌∙◌, arith, append_assoc, length-append}
+use Rattle.std.proofs.Common.{◌≡◌, ℕ, zero, suc, ◌+◌, ◌*◌, ◌<◌, ◌≤◌, Bool, true, false, List, [], ◌∷◌, ◌++◌, length, take, refl, ap, sym, ◌∙◌, arith, append_assoc, length-append}
 use Rattle.std.specs.Prelude.{slice_index, sum_by}
 use Rattle.std.specs.List.{flat_map}
 use Rattle.std.proofs.lemmas.List.Sums.{sum_by-cons, sum_by_more, sum_by-take-le}
@@ -12,9 +12,9 @@ use Rattle.fn_model.specs.declared.profile.Encoding.TheVariants.{CompressedValue
 use Rattle.fn_model.specs.declared.filling.FilledField.{FilledField}
 use Rattle.fn_model.specs.declared.filling.Filling.{Filling}
 use Rattle.fn_model.specs.NormalForm.{NormalForm, IsFragment, Suits, no_field, field_at, field_in, width, taken}
-use Rattle.fn_model.specs.Fillings.{filled_in, filled_at, is_header, header_bits, packed_bits, header, packed}
+use Rattle.fn_model.specs.Fillings.{filled_in, is_header, header_bits, packed_bits, header, packed}
 use Rattle.fn_model.specs.Fits.{Encodes, Fills, Fits}
-use Rattle.fn_model.proofs.Fronts.{split_same, encodes_width, Within, packed_is}
+use Rattle.fn_model.proofs.Fronts.{split_same, encodes_width, packed_is}
 
 -- how many bits these fields put into a packet
 abbrev pub widths : NormalForm → List ℕ → ℕ

@@ -1,5 +1,5 @@
 -- The two sides of a filling.
-use Rattle.std.specs.Prelude.{◌≡◌, ℕ, ◌<◌, ◌≤◌, ◌^◌, Bool, true, false, List, [], length, filter, slice_index_or}
+use Rattle.std.specs.Prelude.{ℕ, ◌≤◌, ◌^◌, Bool, true, false, List, [], length, filter, slice_index_or}
 use Rattle.std.specs.List.{flat_map}
 use Rattle.fn_bits.specs.declared.bits.BitsError.{BitsError}
 use Rattle.fn_bits.specs.declared.bits.BitsError.TheVariants.{Full, OutOfMemory}

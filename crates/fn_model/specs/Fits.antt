@@ -6,7 +6,7 @@ use Rattle.fn_model.specs.declared.profile.Encoding.TheVariants.{CompressedValue
 use Rattle.fn_model.specs.declared.filling.FilledField.{FilledField}
 use Rattle.fn_model.specs.declared.filling.Filling.{Filling}
 use Rattle.fn_model.specs.NormalForm.{NormalForm, field_at}
-use Rattle.fn_model.specs.Fillings.{filled_at, header, packed}
+use Rattle.fn_model.specs.Fillings.{filled_at, packed}
 
 -- What a library method says of the two sides of its field (RFC 4997, section 4.11).
 abbrev pub Encodes : Encoding → FilledField → Type 0

@@ -1,6 +1,5 @@
 -- What a profile of the fragment is.
-use Rattle.std.specs.Prelude.{◌≡◌, ℕ, ◌<◌, ◌≤◌, Bool, true, false, List, [], length, sum_by, slice_index, slice_index_or}
-use Rattle.fn_source.specs.declared.span.Span.{Span}
+use Rattle.std.specs.Prelude.{◌≡◌, ℕ, ◌<◌, ◌≤◌, List, [], length, slice_index, slice_index_or}
 use Rattle.fn_model.specs.declared.profile.Part.{Part}
 use Rattle.fn_model.specs.declared.profile.Part.TheVariants.{Header, Local}
 use Rattle.fn_model.specs.declared.profile.Declared.{Declared}

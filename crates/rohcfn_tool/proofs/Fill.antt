@@ -1,6 +1,5 @@
 -- Writing the fields.
-use Rattle.std.proofs.Common.{◌≡◌, ℕ, zero, suc, ◌+◌, ◌*◌, ◌<◌, ◌≤◌, Bool, List, [], ◌∷◌, ◌++◌, length, take, drop, refl, ap, sym, ◌∙◌, subst, arith, append_assoc, length-append, below_more}
-use Rattle.std.specs.List.{flat_map}
+use Rattle.std.proofs.Common.{◌≡◌, ℕ, ◌+◌, ◌<◌, ◌≤◌, Bool, List, [], ◌∷◌, ◌++◌, length, take, refl, ap, sym, ◌∙◌, subst, arith, length-append, below_more}
 use Rattle.std.proofs.lemmas.List.{append-nil, get_or_append_left, get_or_push, length_push, take_all, length-take, get_or-take, nil_from_length}
 use Rattle.std.proofs.lemmas.List.Concat.{flat_map-append}
 use Rattle.fn_bits.specs.Cursor.{Place, Advances}
@@ -8,8 +7,8 @@ use Rattle.fn_model.specs.declared.profile.Field.{Field}
 use Rattle.fn_model.specs.declared.filling.FilledField.{FilledField}
 use Rattle.fn_model.specs.declared.filling.Filling.{Filling}
 use Rattle.fn_model.specs.NormalForm.{NormalForm, IsFragment, field_at, field_in, no_field, taken}
-use Rattle.fn_model.specs.Fillings.{no_filled, filled_in, filled_at, header, header_bits}
-use Rattle.fn_model.specs.Fits.{Encodes, Fills, Fits}
+use Rattle.fn_model.specs.Fillings.{no_filled, filled_in, header}
+use Rattle.fn_model.specs.Fits.{Fills, Fits}
 use Rattle.fn_model.proofs.Lengths.{taken_by, taken_bits, AreFilled, taken_length, header_is, header_length, taken_front}
 use Rattle.rohcfn_tool.specs.declared.writer.PackFault.{PackFault}
 use Rattle.rohcfn_tool.specs.declared.writer.PackFault.TheVariants.{HeaderLength, NoFormat, OutOfMemory}

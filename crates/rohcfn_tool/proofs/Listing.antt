@@ -1,5 +1,5 @@
 -- From the tree to the profile.
-use Rattle.std.proofs.Common.{Bool, ◌≡◌, ℕ, ◌+◌, ◌<◌, ◌≤◌, List, [], ◌∷◌, ◌++◌, length, take, map, get_or, refl, ap, sym, ◌∙◌, subst, arith, below_more, append_assoc, length-append, Option, Some, None}
+use Rattle.std.proofs.Common.{Bool, ◌≡◌, ℕ, ◌+◌, ◌<◌, List, [], ◌∷◌, ◌++◌, length, take, map, get_or, refl, ap, sym, ◌∙◌, subst, arith, below_more, append_assoc, length-append, Option, Some, None}
 use Rattle.std.specs.Prelude.{slice_index, option_to_list, IfSome}
 use Rattle.std.specs.List.{filter_map, cons_option}
 use Rattle.std.proofs.lemmas.List.{append-nil, get_or_append_left, get_or_push, length_push, take_more, take_all, get_or_default}
@@ -7,11 +7,9 @@ use Rattle.fn_bits.specs.Number.{enc}
 use Rattle.fn_bits.proofs.Numbers.{length-enc}
 use Rattle.fn_model.specs.declared.profile.Part.TheVariants.{Local}
 use Rattle.fn_model.specs.declared.profile.Field.{Field}
-use Rattle.fn_model.specs.declared.profile.Encoding.{Encoding}
 use Rattle.fn_model.specs.declared.profile.Encoding.TheVariants as encoding
 use Rattle.fn_model.specs.NormalForm.{NormalForm, field_in, no_field, width}
 use Rattle.rohcfn_tool.specs.declared.tree.Method.{Method}
-use Rattle.rohcfn_tool.specs.declared.tree.Declaration.{Declaration}
 use Rattle.rohcfn_tool.specs.declared.tree.Binding.{Binding}
 use Rattle.rohcfn_tool.specs.declared.tree.Coding.{Coding}
 use Rattle.rohcfn_tool.specs.declared.tree.Coding.TheVariants.{BitText}

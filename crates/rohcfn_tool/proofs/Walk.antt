@@ -1,12 +1,10 @@
 -- Reading the listed fields.
-use Rattle.std.proofs.Common.{◌≡◌, ℕ, zero, suc, ◌+◌, ◌*◌, ◌^◌, ◌<◌, ◌≤◌, Bool, List, [], ◌∷◌, ◌++◌, length, take, drop, get_or, refl, ap, sym, ◌∙◌, subst, arith, append_assoc, length-append, below_more, ◌⊎◌, inl, inr}
+use Rattle.std.proofs.Common.{◌≡◌, ℕ, suc, ◌+◌, ◌<◌, ◌≤◌, Bool, List, [], ◌∷◌, ◌++◌, length, take, get_or, refl, ap, sym, ◌∙◌, subst, arith, append_assoc, length-append, below_more, ◌⊎◌, inl, inr}
 use Rattle.std.proofs.Math.ListN.{set}
 use Rattle.std.specs.Prelude.{slice_index}
-use Rattle.std.specs.List.{flat_map}
 use Rattle.std.proofs.lemmas.List.{append-nil, length-set, get_or-set_other, get_or-set_same, get_or_read, take_more, take_all, length-take, get_or-take, ext_get_or}
 use Rattle.std.proofs.lemmas.Bool.{cases_eq}
 use Rattle.std.proofs.lemmas.List.Concat.{flat_map-append}
-use Rattle.fn_bits.specs.declared.bits.BitsError.{BitsError}
 use Rattle.fn_bits.specs.declared.bits.BitsError.TheVariants.{Full}
 use Rattle.fn_bits.specs.Cursor.{Place, Advances}
 use Rattle.fn_model.specs.declared.profile.Field.{Field}
@@ -88,9 +86,6 @@ so_far p k filled s fragment h inside =
     ∙ ap (λ b. b ++ ((filled_in (set filled f s) f).compressed ++ [])) before
     ∙ ap (λ b. packed_bits (take k p.listing) filled ++ b) last
 
-
-
-
 blank_set : (fields : List Field) (filled : List FilledField) (f : ℕ) (s : FilledField) → IsBlank fields filled → f < length fields → s.declared ≡ (field_in fields f).declared → IsBlank fields (set filled f s)
 blank_set fields filled f s b h e = record {
   count = length-set filled f s ∙ b.count;
@@ -127,19 +122,19 @@ walked_more p start now next k filled s fragment h w r a =
 pub walked_end : (p : NormalForm) (start now : Place) (k : ℕ) (filled : List FilledField) (listing : List ℕ) (f : Filling) → IsFragment p → listing ≡ p.listing → length listing ≤ k → Walked p start now k filled → f.listing ≡ p.listing → f.fields ≡ filled → IsWalked p start now f
 walked_end p start now k filled listing f fragment same long w el ef =
     let n : length p.listing ≤ k = omega (arith, ap length same) in record {
-  listing = el;
-  count = ap length ef ∙ w.blank.count;
-  each = λ i h.
-      let l : (j : ℕ) × (j < length p.listing) × (slice_index p.listing j ≡ i) = fragment.all i h in
-      let P : ℕ → Type 0 = λ g. IsRead (field_at p g) (filled_in filled g) in
-      let Q : List FilledField → Type 0 = λ fs. IsRead (field_at p i) (filled_in fs i) in
-      subst Q (sym ef) (subst P l.2 (w.each l.0 (omega arith)));
-  at =
-      let whole : take k p.listing ≡ p.listing = take_all k p.listing n in
-      let e : packed f ≡ packed_bits (take k p.listing) filled = ap (λ l. packed_bits l f.fields) (el ∙ sym whole) ∙ ap (λ fs. packed_bits (take k p.listing) fs) ef in
-      let P : List Bool → Type 0 = λ b. Advances start now b in
-      subst P (sym e) w.at;
-}
+      listing = el;
+      count = ap length ef ∙ w.blank.count;
+      each = λ i h.
+          let l : (j : ℕ) × (j < length p.listing) × (slice_index p.listing j ≡ i) = fragment.all i h in
+          let P : ℕ → Type 0 = λ g. IsRead (field_at p g) (filled_in filled g) in
+          let Q : List FilledField → Type 0 = λ fs. IsRead (field_at p i) (filled_in fs i) in
+          subst Q (sym ef) (subst P l.2 (w.each l.0 (omega arith)));
+      at =
+          let whole : take k p.listing ≡ p.listing = take_all k p.listing n in
+          let e : packed f ≡ packed_bits (take k p.listing) filled = ap (λ l. packed_bits l f.fields) (el ∙ sym whole) ∙ ap (λ fs. packed_bits (take k p.listing) fs) ef in
+          let P : List Bool → Type 0 = λ b. Advances start now b in
+          subst P (sym e) w.at;
+    }
 
 read_wide : (p : NormalForm) (listing : List ℕ) (filled : List FilledField) → ((j : ℕ) → j < length listing → IsRead (field_at p (slice_index listing j)) (filled_in filled (slice_index listing j))) → AreWide p listing filled
 read_wide p listing filled r j h = read_width _ _ (r j h).sides

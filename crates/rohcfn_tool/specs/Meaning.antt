@@ -1,5 +1,5 @@
 -- The profile that a text of the fragment stands for.
-use Rattle.std.specs.Prelude.{◌≡◌, ℕ, ◌+◌, ◌<◌, List, [], ◌∷◌, ◌++◌, length, map, Option, Some, None, slice_index, slice_index_or, option_to_list}
+use Rattle.std.specs.Prelude.{◌≡◌, ℕ, ◌<◌, List, ◌++◌, length, map, Option, Some, None, slice_index, slice_index_or, option_to_list}
 use Rattle.std.specs.List.{filter_map}
 use Rattle.fn_bits.specs.Number.{enc}
 use Rattle.fn_source.specs.Lexical.{Lexed}

@@ -5,7 +5,6 @@ use Rattle.std.specs.Borrow.{Bor}
 use Rattle.fn_bits.specs.Text.{IsText, ReadsAs}
 use Rattle.fn_bits.specs.Lines.{numbered_lines, broken_line}
 use Rattle.fn_source.specs.declared.fault.Fault.{Fault}
-use Rattle.fn_source.specs.declared.fault.FaultKind.{FaultKind}
 use Rattle.fn_source.specs.Faults.{code_of}
 use Rattle.fn_source.specs.Places.{line_of, column_of}
 use Rattle.fn_model.specs.declared.filling.Filling.{Filling}

@@ -67,10 +67,7 @@ pub fn read_profile(alloc: Global, octets: &[u8], top: &str) -> Result<Profile, 
         return Err(ProfileError::Fault(fault(FaultKind::NoTop, start)));
     }
     if header_length(method.header.as_slice()) > HEADER_LIMIT {
-        return Err(ProfileError::Fault(fault(
-            FaultKind::ProfileTooLarge,
-            method.name,
-        )));
+        return Err(ProfileError::Fault(fault(FaultKind::ProfileTooLarge, method.name)));
     }
     match profile(alloc, &source, &method)? {
         Some(profile) => Ok(profile),
@@ -88,7 +85,11 @@ fn header_length(header: &[Declaration]) -> u64 {
 }
 
 /// The profile of a method, or `None` outside the fragment.
-fn profile(alloc: Global, source: &Source<'_>, method: &Method) -> Result<Option<Profile>, AllocError>
+fn profile(
+    alloc: Global,
+    source: &Source<'_>,
+    method: &Method,
+) -> Result<Option<Profile>, AllocError>
     ensures { IfOk result (λ o. IfSome o (λ p. IsNormalForm source.now method.now p)) }
 {
     let mut fields = header_fields(alloc, method.header.as_slice())?;

@@ -102,11 +102,7 @@ fn header_of(alloc: Global, profile: &Profile, filling: &Filling) -> Result<Bits
 }
 
 /// Takes the listed fields one after the other, and tests nothing.
-fn walk(
-    alloc: Global,
-    profile: &Profile,
-    cursor: &mut Cursor<'_>,
-) -> Result<Filling, UnpackFault>
+fn walk(alloc: Global, profile: &Profile, cursor: &mut Cursor<'_>) -> Result<Filling, UnpackFault>
     ensures fragment { IsFragment profile.now }
     ensures found { IfOk result (λ f. IsWalked profile.now cursor.old cursor.new f) }
     ensures fault { IfErr result (λ e. Blames e profile.now cursor.old.left) }

@@ -205,20 +205,20 @@ fn print_read(
 {
     let mut cursor = Cursor::new(packet);
     match unpack(alloc, profile, &mut cursor) {
-        Ok(Read {
-            item,
-            bits,
-            filling: _,
-        }) => {
+        Ok(
+            Read {
+                item,
+                bits,
+                filling: _,
+            },
+        ) => {
             let item = item.print_text(alloc)?;
             Ok(Printed::Line(format!(in alloc; "{item} took {bits}")?))
         }
         Err(UnpackFault::Truncated) => {
             Ok(Printed::Fault(format!(in alloc; "packet {number}: U1 Truncated")?))
         }
-        Err(UnpackFault::Refused) => {
-            Ok(Printed::Fault(refused_line(alloc, number, top)?))
-        }
+        Err(UnpackFault::Refused) => { Ok(Printed::Fault(refused_line(alloc, number, top)?)) }
         Err(UnpackFault::OutOfMemory) => Err(AllocError),
     }
 }

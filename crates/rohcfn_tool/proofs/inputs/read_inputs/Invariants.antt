@@ -1,5 +1,4 @@
 use Rattle.std.proofs.Common.{take}
-use Rattle.fn_bits.specs.declared.lines.Line.{Line}
 use Rattle.rohcfn_tool.specs.Printed.{AreTexts}
 use Rattle.rohcfn_tool.proofs.InputLines.{shown}
 use Rattle.rohcfn_tool.proofs.inputs.read_inputs.Given as goal

@@ -1,0 +1,300 @@
+use super::{Outcome, run};
+use crate::status::Status;
+use std::alloc::{AllocError, Global};
+use std::io;
+use std::io::{ErrorKind, Read, Write};
+use std::process::Abort;
+use std::test::Fail;
+
+// Gives so many octets a read, and fails at the end of its reads.
+#[derive(Drop)]
+struct Source<'a> {
+    left: &'a [u8],
+    step: usize,
+    reads: usize,
+    fault: ErrorKind,
+}
+
+impl Read for Source<'_> {
+    fn read(&mut self, buf: &mut [u8]) -> io::Result<usize> {
+        if self.reads == 0 {
+            return Err(io::Error::from(self.fault));
+        }
+        self.reads -= 1;
+        let count = self.step.min(buf.len()).min(self.left.len());
+        buf[..count].copy_from_slice(&self.left[..count]);
+        self.left = &self.left[count..];
+        Ok(count)
+    }
+}
+
+// Gives as many octets as are asked for, and counts them.
+#[derive(Drop)]
+struct Endless {
+    given: usize,
+}
+
+impl Read for Endless {
+    fn read(&mut self, buf: &mut [u8]) -> io::Result<usize> {
+        self.given = self.given.saturating_add(buf.len());
+        Ok(buf.len())
+    }
+}
+
+// Takes so many octets a write, and fails at the end of its writes.
+#[derive(Drop)]
+struct Sink {
+    taken: Vec<u8>,
+    step: usize,
+    writes: usize,
+}
+
+impl Write for Sink {
+    fn write(&mut self, buf: &[u8]) -> io::Result<usize> {
+        if self.writes == 0 {
+            return Err(io::Error::from(ErrorKind::BrokenPipe));
+        }
+        self.writes -= 1;
+        let count = self.step.min(buf.len());
+        self.taken.extend_from_slice(&buf[..count])?;
+        Ok(count)
+    }
+
+    fn flush(&mut self) -> io::Result<()> {
+        Ok(())
+    }
+}
+
+const ROW: &[u8] =
+    b"=== words\npack --top plain\n=== profile\nplain\n{\n  UNCOMPRESSED { a [4]; b [12]; }\n  COMPRESSED {\n    d =:= '10' [2];\n    a =:= irregular(4) [4];\n    b =:= irregular(12) [12];\n  }\n}\n=== items\n16:5abc\n";
+
+const ENDED: &[u8] =
+    b"=== words\r\n\r\npack --top plain\r\n\n=== profile\r\nplain\n{\n  UNCOMPRESSED { a [4]; b [12]; }\n  COMPRESSED {\n    d =:= '10' [2];\n    a =:= irregular(4) [4];\n    b =:= irregular(12) [12];\n  }\n}\n=== items\r\n16:5abc\r\n=== packets";
+
+fn with_steps(
+    alloc: Global,
+    words: &[&str],
+    input: &[u8],
+    reads: usize,
+    writes: usize,
+) -> (Outcome, Vec<u8>) {
+    let mut source = Source {
+        left: input,
+        step: reads,
+        reads: usize::MAX,
+        fault: ErrorKind::Other,
+    };
+    let mut sink = Sink {
+        taken: Vec::new(alloc),
+        step: writes,
+        writes: usize::MAX,
+    };
+    let outcome = run(alloc, words, &mut source, &mut sink);
+    let Sink { taken, .. } = sink;
+    (outcome, taken)
+}
+
+// A part of so many octets, its heading's ten among them.
+fn part_of(alloc: Global, count: usize) -> Result<Vec<u8>, AllocError> {
+    let mut input = Vec::new(alloc);
+    input.extend_from_slice(b"=== items\n")?;
+    for _ in 10..count {
+        input.push(b'\n')?;
+    }
+    Ok(input)
+}
+
+// The output and the status, by single octets and by many.
+fn prints(
+    rt: &(impl Abort + AllocGlobal),
+    words: &[&str],
+    input: &[u8],
+    status: Status,
+    text: &[u8],
+) {
+    for (reads, writes) in [(1, 1), (usize::MAX, usize::MAX)] {
+        let (outcome, taken) = with_steps(rt.alloc(), words, input, reads, writes);
+        assert!(rt; taken.as_slice() == text, "{taken:?} at {input:?}");
+        assert!(rt; outcome.status == status, "at {input:?}");
+        assert!(rt; outcome.usage.is_none(), "at {input:?}");
+    }
+}
+
+#[test]
+fn prints_an_answer(rt: HostRuntime) {
+    let words = ["pack", "--top", "plain"];
+    prints(&rt, &[], ROW, Status::Done, b"18:96af00\n");
+    prints(&rt, &[], ENDED, Status::Done, b"18:96af00\n");
+    prints(&rt, words.as_slice(), ROW, Status::Done, b"18:96af00\n");
+    let missing = b"bundle: I4 bad part profile\n";
+    prints(&rt, words.as_slice(), b"", Status::Refused, missing);
+    prints(
+        &rt,
+        words.as_slice(),
+        b"=== words\n\xff\na\nb",
+        Status::Refused,
+        missing,
+    );
+}
+
+#[test]
+fn refuses_parts(rt: HostRuntime) {
+    let table: [(&[u8], &[u8]); 12] = [
+        (b"", b"bundle: I4 bad part words\n"),
+        (b"x", b"bundle: I4 bad part -\n"),
+        (
+            b"\n=== words\npack --top plain\n",
+            b"bundle: I4 bad part -\n",
+        ),
+        (b"===words\n", b"bundle: I4 bad part -\n"),
+        (
+            b"=== events\n=== words\n=== words\n",
+            b"bundle: I4 bad part events\n",
+        ),
+        (
+            b"=== words \npack --top plain\n",
+            b"bundle: I4 bad part words \n",
+        ),
+        (
+            b"=== items\n=== profile\r\n=== items",
+            b"bundle: I4 bad part items\n",
+        ),
+        (b"=== items\n=== \xff\n", b"bundle: I4 bad part -\n"),
+        (b"=== words\r\r\n", b"bundle: I4 bad part words\r\n"),
+        (
+            b"=== words\npack --top a\npack --top b\n",
+            b"bundle: I4 bad part words\n",
+        ),
+        (b"=== words\n\n\n", b"bundle: I4 bad part words\n"),
+        (
+            b"=== words\npack --top \xff\n",
+            b"bundle: I4 bad part words\n",
+        ),
+    ];
+    for (input, text) in table {
+        prints(&rt, &[], input, Status::Refused, text);
+    }
+    prints(
+        &rt,
+        ["fly"].as_slice(),
+        b"x",
+        Status::Refused,
+        b"bundle: I4 bad part -\n",
+    );
+}
+
+#[test]
+fn tells_usage(rt: HostRuntime) {
+    let table: [(&[&str], Status, &str); 8] = [
+        (
+            ["pack"].as_slice(),
+            Status::Usage,
+            "Usage: rohcfn pack --top <NAME>",
+        ),
+        (["fly", "--top", "plain"].as_slice(), Status::Usage, "'fly'"),
+        (
+            ["pack", "--top", "plain", "--context"].as_slice(),
+            Status::Usage,
+            "'--context'",
+        ),
+        (
+            ["unpack", "--top"].as_slice(),
+            Status::Usage,
+            "'--top <NAME>'",
+        ),
+        (
+            ["--top", "plain"].as_slice(),
+            Status::Usage,
+            "Usage: rohcfn",
+        ),
+        (["help"].as_slice(), Status::Done, "Usage: rohcfn"),
+        (["--help"].as_slice(), Status::Done, "Usage: rohcfn"),
+        (
+            ["pack", "--help"].as_slice(),
+            Status::Done,
+            "Usage: rohcfn pack",
+        ),
+    ];
+    for (words, status, part) in table {
+        let (outcome, taken) = with_steps(rt.alloc(), words, ROW, 7, 7);
+        let usage = outcome.usage.expect(&rt, "a text");
+        assert!(rt; outcome.status == status, "at {words:?}");
+        assert!(rt; taken.is_empty(), "at {words:?}");
+        assert!(rt; usage.as_str().contains(part), "{usage} at {words:?}");
+    }
+    let blanks = b"=== words\npack  --top plain\n";
+    let (outcome, taken) = with_steps(rt.alloc(), &[], blanks, 7, 7);
+    assert!(rt; outcome.status == Status::Usage);
+    assert!(rt; outcome.usage.is_some());
+    assert!(rt; taken.is_empty());
+}
+
+#[test]
+fn takes_four_mebibytes(rt: HostRuntime) -> Result<(), Fail> {
+    let alloc = rt.alloc();
+    let words = ["pack", "--top", "plain"];
+    let mut input = part_of(alloc, 4_194_304)?;
+    let most = input.len();
+    let missing = b"bundle: I4 bad part profile\n";
+    let (outcome, taken) = with_steps(alloc, words.as_slice(), input.as_slice(), most, most);
+    assert!(rt; outcome.status == Status::Refused);
+    assert!(rt; taken.as_slice() == missing.as_slice());
+    input.push(b'\n')?;
+    let large = b"bundle: I6 above 4 MiB\n";
+    let (outcome, taken) = with_steps(alloc, words.as_slice(), input.as_slice(), most, most);
+    assert!(rt; outcome.status == Status::Refused);
+    assert!(rt; taken.as_slice() == large.as_slice());
+    let mut endless = Endless { given: 0 };
+    let mut written = Vec::new(alloc);
+    let outcome = run(alloc, words.as_slice(), &mut endless, &mut written);
+    assert!(rt; outcome.status == Status::Refused);
+    assert!(rt; written.as_slice() == large.as_slice());
+    assert!(rt; endless.given == 4_194_305, "{}", endless.given);
+    Ok(())
+}
+
+#[test]
+fn fails_with_its_reader(rt: HostRuntime) {
+    for reads in [0, 1, 5, ROW.len()] {
+        for fault in [ErrorKind::Other, ErrorKind::Interrupted] {
+            let mut source = Source {
+                left: ROW,
+                step: 1,
+                reads,
+                fault,
+            };
+            let mut written = Vec::new(rt.alloc());
+            let outcome = run(rt.alloc(), &[], &mut source, &mut written);
+            assert!(rt; outcome.status == Status::Failed, "at {reads}");
+            assert!(rt; outcome.usage.is_none(), "at {reads}");
+            assert!(rt; written.is_empty(), "at {reads}");
+        }
+    }
+}
+
+#[test]
+fn fails_with_its_writer(rt: HostRuntime) {
+    let text = b"18:96af00\n";
+    for writes in 0..11 {
+        let mut sink = Sink {
+            taken: Vec::new(rt.alloc()),
+            step: 1,
+            writes,
+        };
+        let mut source = ROW;
+        let outcome = run(rt.alloc(), &[], &mut source, &mut sink);
+        let wanted = if writes < 10 {
+            Status::Failed
+        } else {
+            Status::Done
+        };
+        assert!(rt; outcome.status == wanted, "at {writes}");
+        assert!(rt;
+            sink.taken.as_slice() == &text[..writes.min(10)],
+            "at {writes}"
+        );
+    }
+    let (outcome, taken) = with_steps(rt.alloc(), &[], ROW, 1, 0);
+    assert!(rt; outcome.status == Status::Failed);
+    assert!(rt; taken.is_empty());
+}
