@@ -7,9 +7,21 @@ use std::test::Fail;
 fn profile_faults(rt: HostRuntime) -> Result<(), Fail> {
     let alloc = rt.alloc();
     let rows = [
-        ("a character", "plain { # }\n", "profile:1:9: E01 character is not allowed here\n"),
-        ("a character on line 2", "plain {\n  \u{e9} }\n", "profile:2:3: E01 character is not allowed here\n"),
-        ("an open bit text", "plain { '01\n", "profile:1:12: E01 character is not allowed here\n"),
+        (
+            "a character",
+            "plain { # }\n",
+            "profile:1:9: E01 character is not allowed here\n",
+        ),
+        (
+            "a character on line 2",
+            "plain {\n  \u{e9} }\n",
+            "profile:2:3: E01 character is not allowed here\n",
+        ),
+        (
+            "an open bit text",
+            "plain { '01\n",
+            "profile:1:12: E01 character is not allowed here\n",
+        ),
         (
             "a large number",
             "plain { UNCOMPRESSED { a [18446744073709551616]; } }\n",
@@ -21,10 +33,26 @@ fn profile_faults(rt: HostRuntime) -> Result<(), Fail> {
             "profile:1:3: E03 number or bit text is too large\n",
         ),
         ("no text", "", "profile:1:1: E10 unexpected token\n"),
-        ("the end of the text", "plain {\n", "profile:2:1: E10 unexpected token\n"),
-        ("a mark for another", "plain (\n", "profile:1:7: E10 unexpected token\n"),
-        ("another section", "plain { CONTROL { } }\n", "profile:1:9: E10 unexpected token\n"),
-        ("a reserved name", "THIS { }\n", "profile:1:1: E10 unexpected token\n"),
+        (
+            "the end of the text",
+            "plain {\n",
+            "profile:2:1: E10 unexpected token\n",
+        ),
+        (
+            "a mark for another",
+            "plain (\n",
+            "profile:1:7: E10 unexpected token\n",
+        ),
+        (
+            "another section",
+            "plain { CONTROL { } }\n",
+            "profile:1:9: E10 unexpected token\n",
+        ),
+        (
+            "a reserved name",
+            "THIS { }\n",
+            "profile:1:1: E10 unexpected token\n",
+        ),
         (
             "another encoding",
             "p { UNCOMPRESSED { a [4]; } COMPRESSED { a =:= static [0]; } }\n",
@@ -63,8 +91,16 @@ fn profile_faults(rt: HostRuntime) -> Result<(), Fail> {
 fn outside_the_fragment(rt: HostRuntime) -> Result<(), Fail> {
     let alloc = rt.alloc();
     let rows = [
-        ("a field that isn't listed", "a [4]; b [4];", "a =:= irregular(4) [4];"),
-        ("a field that is listed twice", "a [4];", "a =:= irregular(4) [4]; a =:= irregular(4) [4];"),
+        (
+            "a field that isn't listed",
+            "a [4]; b [4];",
+            "a =:= irregular(4) [4];",
+        ),
+        (
+            "a field that is listed twice",
+            "a [4];",
+            "a =:= irregular(4) [4]; a =:= irregular(4) [4];",
+        ),
         ("another argument", "a [4];", "a =:= irregular(5) [4];"),
         ("another bracket", "a [4];", "a =:= irregular(4) [5];"),
         ("another length", "a [5];", "a =:= irregular(4) [4];"),
@@ -76,7 +112,9 @@ fn outside_the_fragment(rt: HostRuntime) -> Result<(), Fail> {
         ("one local name twice", "", "d =:= '1' [1]; d =:= '1' [1];"),
     ];
     for (name, header, listed) in rows {
-        let profile = format!(in alloc; "plain {{ UNCOMPRESSED {{ {header} }} COMPRESSED {{ {listed} }} }}\n")?;
+        let profile = format!(in alloc;
+            "plain {{ UNCOMPRESSED {{ {header} }} COMPRESSED {{ {listed} }} }}\n"
+        )?;
         let input = bundle(alloc, "pack --top plain", profile.as_str(), "items", "0:\n")?;
         check(&rt, alloc, name, input.as_bytes(), 1, "prove: P3 Limit\n");
     }
@@ -88,19 +126,54 @@ fn bundle_faults(rt: HostRuntime) -> Result<(), Fail> {
     let alloc = rt.alloc();
     let rows = [
         ("nothing", "", "bundle: I4 bad part words\n"),
-        ("no profile", "=== words\npack --top plain\n=== items\n", "bundle: I4 bad part profile\n"),
-        ("no items", "=== words\npack --top plain\n=== profile\n", "bundle: I4 bad part items\n"),
-        ("no packets", "=== words\nunpack --top plain\n=== profile\n=== items\n", "bundle: I4 bad part packets\n"),
-        ("an unknown part", "=== words\npack --top plain\n=== wards\n", "bundle: I4 bad part wards\n"),
-        ("a repeated part", "=== items\n=== items\n", "bundle: I4 bad part items\n"),
-        ("text before the first part", "\n=== items\n", "bundle: I4 bad part -\n"),
-        ("two lines of words", "=== words\npack --top plain\npack --top plain\n", "bundle: I4 bad part words\n"),
+        (
+            "no profile",
+            "=== words\npack --top plain\n=== items\n",
+            "bundle: I4 bad part profile\n",
+        ),
+        (
+            "no items",
+            "=== words\npack --top plain\n=== profile\n",
+            "bundle: I4 bad part items\n",
+        ),
+        (
+            "no packets",
+            "=== words\nunpack --top plain\n=== profile\n=== items\n",
+            "bundle: I4 bad part packets\n",
+        ),
+        (
+            "an unknown part",
+            "=== words\npack --top plain\n=== wards\n",
+            "bundle: I4 bad part wards\n",
+        ),
+        (
+            "a repeated part",
+            "=== items\n=== items\n",
+            "bundle: I4 bad part items\n",
+        ),
+        (
+            "text before the first part",
+            "\n=== items\n",
+            "bundle: I4 bad part -\n",
+        ),
+        (
+            "two lines of words",
+            "=== words\npack --top plain\npack --top plain\n",
+            "bundle: I4 bad part words\n",
+        ),
     ];
     for (name, input, output) in rows {
         check(&rt, alloc, name, input.as_bytes(), 1, output);
     }
     let input = bundle(alloc, "unpack --top plain", PLAIN, "packets", "18:96af01\n")?;
-    check(&rt, alloc, "a bad packet", input.as_bytes(), 1, "packets:1: I2 bad packet\n");
+    check(
+        &rt,
+        alloc,
+        "a bad packet",
+        input.as_bytes(),
+        1,
+        "packets:1: I2 bad packet\n",
+    );
     let input = bundle(alloc, "pack", PLAIN, "items", "")?;
     check(&rt, alloc, "no top", input.as_bytes(), 2, "");
     let input = bundle(alloc, "pack  --top plain", PLAIN, "items", "")?;

@@ -56,10 +56,24 @@ fn long_headers(rt: HostRuntime) -> Result<(), Fail> {
     let zeros = repeated(alloc, "00", 512)?;
     let item = format!(in alloc; "4096:{zeros}\n")?;
     let input = bundle(alloc, "pack --top plain", PLAIN, "items", item.as_str())?;
-    check(&rt, alloc, "4,096 bits", input.as_bytes(), 1, "item 1: F3 NoFormat\n");
+    check(
+        &rt,
+        alloc,
+        "4,096 bits",
+        input.as_bytes(),
+        1,
+        "item 1: F3 NoFormat\n",
+    );
     let item = format!(in alloc; "4097:{zeros}00\n")?;
     let input = bundle(alloc, "pack --top plain", PLAIN, "items", item.as_str())?;
-    check(&rt, alloc, "4,097 bits", input.as_bytes(), 1, "item 1: F1 HeaderLength\n");
+    check(
+        &rt,
+        alloc,
+        "4,097 bits",
+        input.as_bytes(),
+        1,
+        "item 1: F1 HeaderLength\n",
+    );
     Ok(())
 }
 
@@ -69,12 +83,40 @@ fn long_inputs(rt: HostRuntime) -> Result<(), Fail> {
     let spaces = repeated(alloc, " ", 1_048_575)?;
     let profile = format!(in alloc; "{spaces}\n")?;
     let input = bundle(alloc, "pack --top plain", profile.as_str(), "items", "")?;
-    check(&rt, alloc, "1 MiB of profile", input.as_bytes(), 1, "profile:2:1: E10 unexpected token\n");
+    check(
+        &rt,
+        alloc,
+        "1 MiB of profile",
+        input.as_bytes(),
+        1,
+        "profile:2:1: E10 unexpected token\n",
+    );
     let profile = format!(in alloc; " {spaces}\n")?;
     let input = bundle(alloc, "pack --top plain", profile.as_str(), "items", "")?;
-    check(&rt, alloc, "above 1 MiB of profile", input.as_bytes(), 1, "profile:1:1: E04 text is above 1 MiB\n");
+    check(
+        &rt,
+        alloc,
+        "above 1 MiB of profile",
+        input.as_bytes(),
+        1,
+        "profile:1:1: E04 text is above 1 MiB\n",
+    );
     let large = repeated(alloc, " ", 4_194_305)?;
-    check(&rt, alloc, "above 4 MiB", large.as_bytes(), 1, "bundle: I6 above 4 MiB\n");
-    check(&rt, alloc, "4 MiB", &large.as_bytes()[..4_194_304], 1, "bundle: I4 bad part -\n");
+    check(
+        &rt,
+        alloc,
+        "above 4 MiB",
+        large.as_bytes(),
+        1,
+        "bundle: I6 above 4 MiB\n",
+    );
+    check(
+        &rt,
+        alloc,
+        "4 MiB",
+        &large.as_bytes()[..4_194_304],
+        1,
+        "bundle: I4 bad part -\n",
+    );
     Ok(())
 }

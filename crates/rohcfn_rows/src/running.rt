@@ -6,7 +6,8 @@ use std::process::Abort;
 use std::test::Fail;
 
 /// Two fields of 4 and 12 bits, which follow the bits 10.
-pub const PLAIN: &str = "plain\n{\n  UNCOMPRESSED { a [4]; b [12]; }\n  COMPRESSED {\n    d =:= '10' [2];\n    a =:= irregular(4) [4];\n    b =:= irregular(12) [12];\n  }\n}\n";
+pub const PLAIN: &str =
+    "plain\n{\n  UNCOMPRESSED { a [4]; b [12]; }\n  COMPRESSED {\n    d =:= '10' [2];\n    a =:= irregular(4) [4];\n    b =:= irregular(12) [12];\n  }\n}\n";
 
 /// A bundle of words, a profile and a part of lines.
 pub fn bundle(
@@ -21,14 +22,7 @@ pub fn bundle(
 }
 
 /// Runs the program on an input without words of its own, and compares its status and its output.
-pub fn check(
-    rt: &impl Abort,
-    alloc: Global,
-    name: &str,
-    input: &[u8],
-    status: u8,
-    output: &str,
-) {
+pub fn check(rt: &impl Abort, alloc: Global, name: &str, input: &[u8], status: u8, output: &str) {
     let mut reader = input;
     let mut writer: Vec<u8> = Vec::new(alloc);
     let Outcome {
@@ -36,5 +30,9 @@ pub fn check(
         usage: _,
     } = run(alloc, &[], &mut reader, &mut writer);
     assert_eq!(rt; found.code(), status, "the status at {name}");
-    assert_eq!(rt; writer.as_slice(), output.as_bytes(), "the output at {name}");
+    assert_eq!(rt;
+        writer.as_slice(),
+        output.as_bytes(),
+        "the output at {name}"
+    );
 }
