@@ -101,7 +101,16 @@ fn long_inputs(rt: HostRuntime) -> Result<(), Fail> {
         1,
         "profile:1:1: E04 text is above 1 MiB\n",
     );
-    let large = repeated(alloc, " ", 4_194_305)?;
+    let mut large = repeated(alloc, " ", 4_194_304)?;
+    check(
+        &rt,
+        alloc,
+        "4 MiB",
+        large.as_bytes(),
+        1,
+        "bundle: I4 bad part -\n",
+    );
+    large.push_str(" ")?;
     check(
         &rt,
         alloc,
@@ -109,14 +118,6 @@ fn long_inputs(rt: HostRuntime) -> Result<(), Fail> {
         large.as_bytes(),
         1,
         "bundle: I6 above 4 MiB\n",
-    );
-    check(
-        &rt,
-        alloc,
-        "4 MiB",
-        &large.as_bytes()[..4_194_304],
-        1,
-        "bundle: I4 bad part -\n",
     );
     Ok(())
 }
