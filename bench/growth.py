@@ -1,13 +1,9 @@
 #!/usr/bin/env python3
 """Growth of `pack` and `unpack` over the lines of the plain profile, on the built program."""
-import os
-import resource
-import subprocess
 import sys
-import time
 
-ROOT = os.path.dirname(os.path.dirname(os.path.abspath(__file__)))
-PROGRAM = os.path.join(ROOT, "crates", "rohcfn", "out", "rohcfn")
+from measure import MIB, best_of
+
 PROFILE = """plain
 {
   UNCOMPRESSED { a [4]; b [12]; }
@@ -19,8 +15,6 @@ PROFILE = """plain
 }
 """
 SIZES = [2000, 4000, 8000, 16000, 32000, 64000]
-ROUNDS = 15
-MIB = 1024 * 1024
 
 
 def header(i):
@@ -45,31 +39,7 @@ def expected(command, count):
     return "".join("16:%04x took 18\n" % header(i) for i in range(count)).encode()
 
 
-def run(data):
-    """Time and peak memory of one run, in a child of its own."""
-    read, write = os.pipe()
-    child = os.fork()
-    if child == 0:
-        start = time.perf_counter()
-        done = subprocess.run([PROGRAM], input=data, stdout=subprocess.PIPE)
-        took = time.perf_counter() - start
-        peak = resource.getrusage(resource.RUSAGE_CHILDREN).ru_maxrss * 1024
-        out = "%d %r %d\n" % (done.returncode, took, peak)
-        with os.fdopen(write, "wb") as pipe:
-            pipe.write(out.encode())
-            pipe.write(done.stdout)
-        os._exit(0)
-    os.close(write)
-    with os.fdopen(read, "rb") as pipe:
-        status, took, peak = pipe.readline().split()
-        output = pipe.read()
-    os.waitpid(child, 0)
-    return int(status), float(took), int(peak), output
-
-
 def main():
-    if not os.access(PROGRAM, os.X_OK):
-        sys.exit("build the program first: bin/rohcfn pack --top plain < examples/plain.bundle")
     good = True
     print("| command | lines | input octets | ms | ns a line | peak MiB | octets beyond 32 MiB an octet |")
     print("|---|---|---|---|---|---|---|")
@@ -77,13 +47,7 @@ def main():
         per_line = {}
         for count in SIZES:
             data = bundle(command, count)
-            best, most = None, 0
-            for _ in range(ROUNDS):
-                status, took, peak, output = run(data)
-                if status != 0 or output != expected(command, count):
-                    sys.exit("%s of %d lines: wrong output or status %d" % (command, count, status))
-                best = took if best is None else min(best, took)
-                most = max(most, peak)
+            best, most = best_of(data, 0, expected(command, count))
             per_line[count] = best / count
             beyond = max(0, most - 32 * MIB) / len(data)
             good = good and beyond <= 64

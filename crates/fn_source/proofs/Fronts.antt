@@ -1,5 +1,5 @@
 -- The tokens so far, in the words of the code.
-use Rattle.std.proofs.Common.{◌≡◌, ◌==◌, ℕ, ◌<◌, List, [], ◌∷◌, ◌++◌, length, Option, Some, None, Result, Ok, Err, true, refl, sym, ap, subst, ◌∙◌, append_assoc, arith}
+use Rattle.std.proofs.Common.{◌≡◌, ◌==◌, ℕ, ◌<◌, List, [], ◌∷◌, ◌++◌, length, Option, Some, None, Result, Ok, Err, true, refl, sym, ap, subst, ◌∙◌, append_assoc, length-append, arith}
 use Rattle.std.proofs.lemmas.List.{append-nil}
 use Rattle.std.proofs.lemmas.Bool.{eqb-true}
 use Rattle.std.specs.Borrow.{Bor}
@@ -7,11 +7,13 @@ use Rattle.std.specs.Prelude.{MatchResult}
 use Rattle.fn_source.specs.declared.lexer.Stop.{Stop}
 use Rattle.fn_source.specs.declared.span.Span.{Span}
 use Rattle.fn_source.specs.declared.token.Kind.{Kind}
+use Rattle.fn_source.specs.declared.token.Mark.{Mark}
 use Rattle.fn_source.specs.declared.token.Token.{Token}
 use Rattle.fn_source.specs.Lexical as s
-use Rattle.fn_source.specs.Lexical.{Lexes, Lexed, IsStopped, span_of, IsGap, IsToken, IsLexeme, Stops}
+use Rattle.fn_source.specs.Lexical.{Lexes, Lexed, IsStopped, span_of, IsGap, IsToken, IsNumeral, IsLexeme, Stops, spelling}
 use Rattle.fn_source.specs.Scan.{lexeme, seen}
 use Rattle.fn_source.proofs.Runs.{run_len}
+use Rattle.fn_source.proofs.Words.{closes_len, spelling_some}
 use Rattle.fn_source.proofs.Meaning.{meant_at}
 
 pub record Front (text rest : List ℕ) (tokens : List Token) : Type 0 where
@@ -38,20 +40,23 @@ front_lexes text rest tokens f = subst (λ (ts : List Token). Lexes (length text
 
 pub gap_len : {from to : List ℕ} → IsGap from to → length to < length from
 gap_len (s.space e) = omega arith
+gap_len (s.line h) = let le = run_len h in omega arith
+gap_len (s.block h) = let lt = closes_len h in omega arith
+
+pub numeral_len : {base : ℕ} {from digits to : List ℕ} → IsNumeral base from digits to → length to < length from
+numeral_len (s.decimal e p h) = let le = run_len h in omega arith
+numeral_len (s.binary e h) = let le = run_len h in omega arith
+numeral_len (s.hexadecimal e h) = let le = run_len h in omega arith
+
+sign_len : (mark : Mark) (to : List ℕ) → length to < length (spelling mark ++ to)
+sign_len mark to = rw (length-append (spelling mark) to) (let some = spelling_some mark in omega arith)
 
 pub token_len : {kind : Kind} {from to : List ℕ} → IsToken kind from to → length to < length from
-token_len (s.name e h) = let le = run_len h in omega arith
-token_len (s.number e h f g i) = let le = run_len h in omega arith
+token_len (s.name e h never) = let le = run_len h in omega arith
+token_len (s.word mark r e h is) = let le = run_len h in omega arith
+token_len (s.number h f g i) = numeral_len h
 token_len (s.bit_text h e f g) = let le = run_len h in omega arith
-token_len s.open_brace = omega arith
-token_len s.close_brace = omega arith
-token_len s.opens = omega arith
-token_len s.closes = omega arith
-token_len s.open_square = omega arith
-token_len s.close_square = omega arith
-token_len s.comma = omega arith
-token_len s.semicolon = omega arith
-token_len s.binds = omega arith
+token_len {to = to} (s.sign mark r e) = sign_len mark to
 
 lexeme_len : (o : Option Kind) (from to : List ℕ) → IsLexeme o from to → length to < length from
 lexeme_len None from to h = gap_len h

@@ -1,9 +1,11 @@
 pub mod Numbers
 pub mod PlaceLaws
 pub mod Runs
+pub mod Words
 pub mod Meaning
 pub mod Fronts
 pub mod Found
 pub mod Unique
 pub mod Slices
 pub mod Total
+pub mod Longest

@@ -1,8 +1,8 @@
 -- The value of digits.
-use Rattle.std.proofs.Common.{◌≡◌, ℕ, zero, suc, ◌+◌, ◌-◌, ◌*◌, ◌^◌, ◌<◌, ◌≤◌, List, [], ◌∷◌, length, get_or, drop, Some, None, sym, ap, ◌∙◌, refl, arith, drop-cons}
+use Rattle.std.proofs.Common.{◌≡◌, ℕ, zero, suc, ◌+◌, ◌*◌, ◌^◌, ◌<◌, ◌≤◌, List, [], ◌∷◌, length, get_or, drop, Some, None, sym, ap, ◌∙◌, refl, arith, drop-cons}
 use Rattle.std.proofs.lemmas.List.{drop_all}
 use Rattle.std.proofs.lemmas.Bool.{lt-ltb, le-ltb}
-use Rattle.fn_source.specs.Lexical.{number_from, number_of}
+use Rattle.fn_source.specs.Lexical.{digit, number_from, number_of}
 use Rattle.fn_source.specs.Scan.{value}
 
 times : (base n : ℕ) → 0 < base → n ≤ base * n
@@ -13,7 +13,7 @@ times (suc b) n h = omega arith
 grows : (base : ℕ) → 0 < base → (cs : List ℕ) (n : ℕ) → n ≤ number_from base n cs
 grows base h [] n = omega arith
 grows base h (c ∷ cs) n =
-    let le = grows base h cs (base * n + (c - 48)) in
+    let le = grows base h cs (base * n + digit c) in
     let more = times base n h in
     omega arith
 
@@ -23,10 +23,10 @@ value_some base digits n i lt end h =
     let e : n ≡ number_of base digits = sym (ap (λ (cs : List ℕ). number_from base n cs) (drop_all i digits end)) ∙ h in
     rw (← e, lt-ltb n (2 ^ 64) lt) refl
 
-pub value_none : (base : ℕ) (digits : List ℕ) (n i : ℕ) → 0 < base → i < length digits → 2 ^ 64 ≤ base * n + (get_or digits i 0 - 48) → number_from base n (drop i digits) ≡ number_of base digits
+pub value_none : (base : ℕ) (digits : List ℕ) (n i : ℕ) → 0 < base → i < length digits → 2 ^ 64 ≤ base * n + digit (get_or digits i 0) → number_from base n (drop i digits) ≡ number_of base digits
     → None ≡ value base digits
 unfolding value
 value_none base digits n i some lt large h =
-    let e : number_from base (base * n + (get_or digits i 0 - 48)) (drop (suc i) digits) ≡ number_of base digits = sym (ap (λ (cs : List ℕ). number_from base n cs) (drop-cons digits i 0 lt)) ∙ h in
-    let le = grows base some (drop (suc i) digits) (base * n + (get_or digits i 0 - 48)) in
+    let e : number_from base (base * n + digit (get_or digits i 0)) (drop (suc i) digits) ≡ number_of base digits = sym (ap (λ (cs : List ℕ). number_from base n cs) (drop-cons digits i 0 lt)) ∙ h in
+    let le = grows base some (drop (suc i) digits) (base * n + digit (get_or digits i 0)) in
     rw (le-ltb (number_of base digits) (2 ^ 64) (omega arith)) refl

@@ -1,9 +1,9 @@
 -- Runs of octets that pass a test.
-use Rattle.std.proofs.Common.{◌≡◌, ℕ, suc, ◌+◌, ◌-◌, ◌*◌, ◌^◌, ◌<◌, ◌≤◌, List, [], ◌∷◌, length, drop, take, Bool, true, false, ◌==◌, refl, ap, ◌∙◌, arith}
+use Rattle.std.proofs.Common.{◌≡◌, ℕ, suc, ◌+◌, ◌-◌, ◌*◌, ◌^◌, ◌<◌, ◌≤◌, List, [], ◌∷◌, length, drop, take, Bool, true, false, ◌==◌, refl, sym, ap, subst, ◌∙◌, arith}
 use Rattle.std.proofs.lemmas.Bool.{eqb-true}
 use Rattle.std.proofs.Math.Nat.{pow-le-pow_right, pow-succ'}
 use Rattle.fn_source.specs.Lexical as s
-use Rattle.fn_source.specs.Lexical.{Run, Ends, is_bit, number_from, number_of, text_of}
+use Rattle.fn_source.specs.Lexical.{Run, Ends, is_bit, digit, number_from, number_of, text_of}
 use Rattle.fn_source.specs.Scan.{after_run}
 
 pub run_is : (test : ℕ → Bool) (ts : List ℕ) → Run test ts (after_run test ts)
@@ -47,19 +47,19 @@ run_drop {to = to} (s.more {c = c} {from = from} e h) =
     let more : suc (length from) - length to ≡ suc (length from - length to) = omega arith in
     ap (λ (n : ℕ). drop n (c ∷ from)) more ∙ run_drop h
 
-bit_small : (c : ℕ) → is_bit c ≡ true → c - 48 ≤ 1
+bit_small : (c : ℕ) → is_bit c ≡ true → digit c ≤ 1
 bit_small c e = by_test (c == 48) refl
   where
-    by_test : (b : Bool) → (c == 48) ≡ b → c - 48 ≤ 1
-    by_test true h = let is = eqb-true c 48 h in omega arith
-    by_test false h = let other : (c == 49) ≡ true = rw h at e in let is = eqb-true c 49 other in omega arith
+    by_test : (b : Bool) → (c == 48) ≡ b → digit c ≤ 1
+    by_test true h = subst (λ (d : ℕ). digit d ≤ 1) (sym (eqb-true c 48 h)) (omega arith)
+    by_test false h = let other : (c == 49) ≡ true = rw h at e in subst (λ (d : ℕ). digit d ≤ 1) (sym (eqb-true c 49 other)) (omega arith)
 
 -- so many bits spell a number below a power of two
 bits_below : {from to : List ℕ} → Run is_bit from to → (n k : ℕ) → n < k → number_from 2 n (text_of from to) < k * 2 ^ length (text_of from to)
 bits_below {to = to} (s.end e) n k lt = rw (text_end to) (omega arith)
 bits_below {to = to} (s.more {c = c} {from = from} e h) n k lt =
     let small = bit_small c e in
-    let rec = bits_below h (2 * n + (c - 48)) (2 * k) (omega arith) in
+    let rec = bits_below h (2 * n + digit c) (2 * k) (omega arith) in
     let power = pow-succ' 2 (length (text_of from to)) in
     rw (text_more c from to (run_len h), power) (omega arith)
 

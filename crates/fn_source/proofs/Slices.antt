@@ -1,13 +1,14 @@
 -- Where tokens stand.
-use Rattle.std.proofs.Common.{◌≡◌, ℕ, suc, ◌+◌, ◌-◌, ◌<◌, ◌≤◌, List, [], ◌∷◌, length, drop, sym, ap, subst, ◌∙◌, arith}
+use Rattle.std.proofs.Common.{◌≡◌, ℕ, suc, ◌+◌, ◌-◌, ◌<◌, ◌≤◌, List, [], ◌∷◌, ◌++◌, length, length-append, drop, sym, ap, subst, ◌∙◌, arith}
 use Rattle.std.proofs.lemmas.List.{drop-drop}
 use Rattle.std.specs.List.{AllByRecursion}
 use Rattle.fn_source.specs.declared.token.Kind.{Kind}
 use Rattle.fn_source.specs.declared.token.Token.{Token}
 use Rattle.fn_source.specs.Lexical as s
-use Rattle.fn_source.specs.Lexical.{Lexes, Lexed, IsGap, IsToken, span_of}
+use Rattle.fn_source.specs.Lexical.{Lexes, Lexed, Closes, IsGap, IsNumeral, IsToken, span_of, spelling}
 use Rattle.fn_source.specs.Laws.{Rise, IsItsText}
 use Rattle.fn_source.proofs.Runs.{run_len, run_drop}
+use Rattle.fn_source.proofs.Words.{closes_len}
 use Rattle.fn_source.proofs.Fronts.{gap_len, token_len}
 
 -- ---- spans rise
@@ -42,22 +43,33 @@ quoted_drop from to le e =
     (let more : length from - length to ≡ (length from - length (39 ∷ to)) + 1 = omega arith in
     ap (λ (n : ℕ). drop n from) more ∙ sym (drop-drop 1 (length from - length (39 ∷ to)) from) ∙ ap (λ (us : List ℕ). drop 1 us) e)
 
+closes_drop : {from to : List ℕ} → Closes from to → drop (length from - length to) from ≡ to
+closes_drop {to = to} s.end = cons_drop 42 (47 ∷ to) to (omega arith) (one_drop 47 to)
+closes_drop {to = to} (s.more {c = c} {from = from} e h) = let lt = closes_len h in cons_drop c from to (omega arith) (closes_drop h)
+
 gap_drop : {from to : List ℕ} → IsGap from to → drop (length from - length to) from ≡ to
 gap_drop {to = to} (s.space {c = c} e) = one_drop c to
+gap_drop {to = to} (s.line {from = from} h) = let le = run_len h in cons_drop 47 (47 ∷ from) to (omega arith) (cons_drop 47 from to le (run_drop h))
+gap_drop {to = to} (s.block {from = from} h) = let lt = closes_len h in cons_drop 47 (42 ∷ from) to (omega arith) (cons_drop 42 from to (omega arith) (closes_drop h))
 
-token_drop : {kind : Kind} {from to : List ℕ} → IsToken kind from to → drop (length from - length to) from ≡ to
-token_drop {to = to} (s.name {c = c} {from = from} e h) = cons_drop c from to (run_len h) (run_drop h)
-token_drop {to = to} (s.number {c = c} {from = from} e h f g i) = cons_drop c from to (run_len h) (run_drop h)
+numeral_drop : {base : ℕ} {from digits to : List ℕ} → IsNumeral base from digits to → drop (length from - length to) from ≡ to
+numeral_drop {to = to} (s.decimal {c = c} {from = from} e p h) = cons_drop c from to (run_len h) (run_drop h)
+numeral_drop {to = to} (s.binary {c = c} {from = from} e h) =
+    let le = run_len h in cons_drop 48 (98 ∷ c ∷ from) to (omega arith) (cons_drop 98 (c ∷ from) to (omega arith) (cons_drop c from to le (run_drop h)))
+numeral_drop {to = to} (s.hexadecimal {c = c} {from = from} e h) =
+    let le = run_len h in cons_drop 48 (120 ∷ c ∷ from) to (omega arith) (cons_drop 120 (c ∷ from) to (omega arith) (cons_drop c from to le (run_drop h)))
+
+-- after a front comes what follows it
+front_drop : (front to : List ℕ) → drop (length (front ++ to) - length to) (front ++ to) ≡ to
+front_drop [] to = here_drop to
+front_drop (c ∷ front) to = let e = length-append front to in cons_drop c (front ++ to) to (omega arith) (front_drop front to)
+
+pub token_drop : {kind : Kind} {from to : List ℕ} → IsToken kind from to → drop (length from - length to) from ≡ to
+token_drop {to = to} (s.name {c = c} {from = from} e h never) = cons_drop c from to (run_len h) (run_drop h)
+token_drop {to = to} (s.word mark {c = c} {from = from} r e h is) = cons_drop c from to (run_len h) (run_drop h)
+token_drop (s.number h f g i) = numeral_drop h
 token_drop (s.bit_text {from = from} {to = to} h e f g) = quoted_drop from to (run_len h) (run_drop h)
-token_drop {to = to} s.open_brace = one_drop 123 to
-token_drop {to = to} s.close_brace = one_drop 125 to
-token_drop {to = to} s.opens = one_drop 40 to
-token_drop {to = to} s.closes = one_drop 41 to
-token_drop {to = to} s.open_square = one_drop 91 to
-token_drop {to = to} s.close_square = one_drop 93 to
-token_drop {to = to} s.comma = one_drop 44 to
-token_drop {to = to} s.semicolon = one_drop 59 to
-token_drop {to = to} s.binds = cons_drop 61 (58 ∷ 61 ∷ to) to (omega arith) (cons_drop 58 (61 ∷ to) to (omega arith) (one_drop 61 to))
+token_drop {to = to} (s.sign mark r e) = front_drop (spelling mark) to
 
 -- what is left of the text is left after the octets before it
 abbrev IsLeft : List ℕ → List ℕ → Type 0

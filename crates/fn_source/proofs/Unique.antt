@@ -9,9 +9,9 @@ use Rattle.fn_source.specs.declared.fault.SourceError.TheVariants as errors
 use Rattle.fn_source.specs.declared.token.Kind.{Kind}
 use Rattle.fn_source.specs.declared.token.Token.{Token}
 use Rattle.fn_source.specs.Lexical as s
-use Rattle.fn_source.specs.Lexical.{Lexes, Lexed, IsGap, IsToken, IsLexeme, IsStopped, IsBad, IsLarge, Stops, Refuses, span_of}
+use Rattle.fn_source.specs.Lexical.{Lexes, Lexed, IsGap, IsToken, IsLexeme, IsStopped, IsBad, IsLarge, IsOpen, Stops, Refuses, span_of}
 use Rattle.fn_source.specs.Scan.{Found, lexeme}
-use Rattle.fn_source.proofs.Fronts.{gap_len, token_len}
+use Rattle.fn_source.proofs.Fronts.{gap_len, numeral_len, token_len}
 use Rattle.fn_source.proofs.Found.{lexeme_found, stop_found}
 
 -- ---- one lexeme
@@ -31,7 +31,7 @@ same_gap from to at g h = (one_lexeme None None from to at g h).1
 no_gap : (kind : Kind) (from to at : List ℕ) → IsGap from to → IsToken kind from at → ⊥
 no_gap kind from to at g h = let e : ◌≡◌ {A = Option Kind} None (Some kind) = (one_lexeme None (Some kind) from to at g h).0 in absurd cc
 
-same_token : (k l : Kind) (from to at : List ℕ) → IsToken k from to → IsToken l from at → (k ≡ l) × (to ≡ at)
+pub same_token : (k l : Kind) (from to at : List ℕ) → IsToken k from to → IsToken l from at → (k ≡ l) × (to ≡ at)
 same_token k l from to at g h =
     let p = one_lexeme (Some k) (Some l) from to at g h in
     let e : ◌≡◌ {A = Option Kind} (Some k) (Some l) = p.0 in
@@ -99,17 +99,27 @@ one_fault text a b g h =
 
 bad_some : {from at : List ℕ} → IsBad from at → 0 < length from
 bad_some (s.alone e) = omega arith
-bad_some (s.equals e) = omega arith
-bad_some (s.after_number e h lt word) = omega arith
+bad_some (s.half e n) = omega arith
+bad_some (s.no_bit e) = omega arith
+bad_some (s.no_hex e) = omega arith
+bad_some (s.after_number h lt word) = let lt = numeral_len h in omega arith
 bad_some (s.in_bits h e) = omega arith
 
 large_some : {from to : List ℕ} → IsLarge from to → 0 < length from
-large_some (s.number e h le) = omega arith
+large_some (s.number h le) = let lt = numeral_len h in omega arith
 large_some (s.bit_text h lt) = omega arith
+
+open_some : {from : List ℕ} → IsOpen from → 0 < length from
+open_some (s.comment never) = omega arith
 
 stop_some : (kind : FaultKind) (from at to : List ℕ) → Stops kind from at to → 0 < length from
 stop_some f.Character from at to h = bad_some h.0
 stop_some f.Large from at to h = large_some h.1
+stop_some f.OpenComment from at to h = open_some h.2
+stop_some f.Nesting from at to h = absurd h
+stop_some f.EmptyBracket from at to h = absurd h
+stop_some f.RepeatedSection from at to h = absurd h
+stop_some f.MixedRemainder from at to h = absurd h
 stop_some f.TooLong from at to h = absurd h
 stop_some f.NotUtf8 from at to h = absurd h
 stop_some f.Unexpected from at to h = absurd h

@@ -1,7 +1,8 @@
 -- What holds of the tokens of each text.
-use Rattle.std.specs.Prelude.{◌≡◌, ℕ, ◌<◌, ◌≤◌, ◌⊎◌, List, [], ◌∷◌, length, drop}
+use Rattle.std.specs.Prelude.{◌≡◌, ℕ, ◌<◌, ◌≤◌, ◌⊎◌, List, [], ◌∷◌, ◌++◌, length, drop}
 use Rattle.std.specs.List.{AllByRecursion}
 use Rattle.fn_source.specs.declared.fault.Fault.{Fault}
+use Rattle.fn_source.specs.declared.token.Kind.{Kind}
 use Rattle.fn_source.specs.declared.token.Token.{Token}
 use Rattle.fn_source.specs.Lexical.{Lexed, IsToken, IsStopped}
 
@@ -35,3 +36,7 @@ EveryText = (text : List ℕ) → ((tokens : List Token) × Lexed text tokens) �
 -- and then no tokens
 abbrev pub NoTokensAtAFault : Type 0
 NoTokensAtAFault = (text : List ℕ) (tokens : List Token) (fault : Fault) → IsStopped text fault → Lexed text tokens → ⊥
+
+-- no longer front of the text at that place is a token, read by itself
+abbrev pub Longest : Type 0
+Longest = (kind other : Kind) (front rest to : List ℕ) → IsToken kind (front ++ rest) to → length rest < length to → IsToken other front [] → ⊥

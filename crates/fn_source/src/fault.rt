@@ -12,6 +12,8 @@ use thiserror::Error;
 pub enum FaultKind {
     #[error("character is not allowed here")]
     Character,
+    #[error("comment is not closed")]
+    OpenComment,
     #[error("number or bit text is too large")]
     Large,
     #[error("text is above 1 MiB")]
@@ -20,6 +22,14 @@ pub enum FaultKind {
     NotUtf8,
     #[error("unexpected token")]
     Unexpected,
+    #[error("nesting is above 64")]
+    Nesting,
+    #[error("bracket is empty")]
+    EmptyBracket,
+    #[error("section is repeated")]
+    RepeatedSection,
+    #[error("% needs brackets here")]
+    MixedRemainder,
     #[error("too many parts")]
     TooManyParts,
     #[error("no such top method without parameters")]
@@ -35,10 +45,15 @@ impl FaultKind {
     {
         match self {
             FaultKind::Character => "E01",
+            FaultKind::OpenComment => "E02",
             FaultKind::Large => "E03",
             FaultKind::TooLong => "E04",
             FaultKind::NotUtf8 => "E05",
             FaultKind::Unexpected => "E10",
+            FaultKind::Nesting => "E11",
+            FaultKind::EmptyBracket => "E12",
+            FaultKind::RepeatedSection => "E13",
+            FaultKind::MixedRemainder => "E14",
             FaultKind::TooManyParts => "E15",
             FaultKind::NoTop => "E27",
             FaultKind::ProfileTooLarge => "E34",

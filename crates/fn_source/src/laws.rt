@@ -31,3 +31,8 @@ pub fn one_fault()
 pub fn no_tokens_at_a_fault()
     ensures { laws.NoTokensAtAFault }
 {}
+
+/// Each token is the longest that fits: no longer front of what stands there is a token by itself.
+pub fn longest()
+    ensures { laws.Longest }
+{}

@@ -1,6 +1,6 @@
 //! From octets to tokens.
 
-ghost use Rattle.std.specs.Prelude.{[], ◌∷◌, ◌≡◌, ◌<◌, ◌-◌, ℕ, List, length, Some, None, Ok, Err, IfOk, IfErr, MatchResult};
+ghost use Rattle.std.specs.Prelude.{[], ◌∷◌, ◌≡◌, ◌<◌, ◌-◌, ℕ, List, length, drop, option_map, Some, None, Ok, Err, IfOk, IfErr, MatchResult};
 ghost use Rattle.std.specs.Char.{is_ascii_digit};
 ghost use Rattle.fn_source.specs.Lexical as spec;
 ghost use Rattle.fn_source.specs.declared.token.Token.{Token};
@@ -12,12 +12,35 @@ use crate::span::Span;
 use crate::token::{Kind, Mark, Token};
 use std::alloc::Global;
 
+/// A token, or none for a gap, and what is left after it.
+type Lexeme<'a> = Result<(Option<Kind>, &'a [u8]), Stop<'a>>;
+
 /// Why nothing is read: the fault's kind, and what is left at and after its place.
 #[derive(Clone, Copy)]
 struct Stop<'a> {
     kind: FaultKind,
     at: &'a [u8],
     to: &'a [u8],
+}
+
+/// The character at the front, or the end, is not allowed.
+fn stray(at: &[u8]) -> Stop<'_>
+    ensures kind { result.kind ≡ FaultKind.Character }
+    ensures at { result.at.now ≡ at.now }
+    ensures to { result.to.now ≡ drop 1 at.now }
+{
+    Stop {
+        kind: FaultKind::Character,
+        at,
+        to: after_one(at),
+    }
+}
+
+/// A mark, after which `rest` is left.
+fn mark(found: Mark, rest: &[u8]) -> Lexeme<'_>
+    ensures { scan.seen result ≡ scan.marked found rest.now }
+{
+    Ok((Some(Kind::Mark(found)), rest))
 }
 
 fn is_word(c: u8) -> bool
@@ -38,6 +61,32 @@ fn is_bit(c: u8) -> bool
     c == b'0' || c == b'1'
 }
 
+fn is_hex(c: u8) -> bool
+    ensures { result ≡ spec.is_hex c }
+{
+    c.is_ascii_digit() || (b'a' <= c && c <= b'f') || (b'A' <= c && c <= b'F')
+}
+
+/// Whether that octet comes next.
+fn is_next(c: u8, text: &[u8]) -> bool
+    ensures { result ≡ spec.is_next c text.now }
+{
+    match text {
+        [next, ..] => *next == c,
+        [] => false,
+    }
+}
+
+/// What is left after one octet, if there is one.
+fn after_one(text: &[u8]) -> &[u8]
+    ensures { result.now ≡ drop 1 text.now }
+{
+    match text {
+        [_, rest @ ..] => rest,
+        [] => text,
+    }
+}
+
 /// What is left after a name's letters, digits and underscores.
 #[tactic(auto, unfolding(crate::specs::Scan::after_run))]
 fn after_word(text: &[u8]) -> &[u8]
@@ -53,7 +102,7 @@ fn after_word(text: &[u8]) -> &[u8]
     rest
 }
 
-/// What is left after a number's digits.
+/// What is left after the digits of a decimal number.
 #[tactic(auto, unfolding(crate::specs::Scan::after_run))]
 fn after_digits(text: &[u8]) -> &[u8]
     ensures { result.now ≡ scan.after_run is_ascii_digit text.now }
@@ -68,7 +117,7 @@ fn after_digits(text: &[u8]) -> &[u8]
     rest
 }
 
-/// What is left after a bit text's digits.
+/// What is left after the digits 0 and 1.
 #[tactic(auto, unfolding(crate::specs::Scan::after_run))]
 fn after_bits(text: &[u8]) -> &[u8]
     ensures { result.now ≡ scan.after_run spec.is_bit text.now }
@@ -83,11 +132,69 @@ fn after_bits(text: &[u8]) -> &[u8]
     rest
 }
 
+/// What is left after the digits of a hexadecimal number.
+#[tactic(auto, unfolding(crate::specs::Scan::after_run))]
+fn after_hex(text: &[u8]) -> &[u8]
+    ensures { result.now ≡ scan.after_run spec.is_hex text.now }
+{
+    let mut rest = text;
+    'run: while let [first, tail @ ..] = rest {
+        if !is_hex(*first) {
+            break;
+        }
+        rest = tail;
+    }
+    rest
+}
+
+/// What is left at the line's end.
+#[tactic(auto, unfolding(crate::specs::Scan::after_run))]
+fn after_line(text: &[u8]) -> &[u8]
+    ensures { result.now ≡ scan.after_run spec.is_in_line text.now }
+{
+    let mut rest = text;
+    'run: while let [first, tail @ ..] = rest {
+        if *first == b'\n' {
+            break;
+        }
+        rest = tail;
+    }
+    rest
+}
+
+/// What is left after the first `*/`.
+#[tactic(auto, unfolding(crate::specs::Scan::after_comment))]
+fn after_comment(text: &[u8]) -> Option<&[u8]>
+    ensures { option_map (λ rest. rest.now) result ≡ scan.after_comment text.now }
+{
+    let mut rest = text;
+    'seek: while let [first, tail @ ..] = rest {
+        if *first == b'*' && is_next(b'/', tail) {
+            return Some(after_one(tail));
+        }
+        rest = tail;
+    }
+    None
+}
+
 /// The octets of `from` up to `to`, which is left of it.
 fn text_of<'a>(from: &'a [u8], to: &[u8]) -> &'a [u8]
     ensures { result.now ≡ spec.text_of from.now to.now }
 {
     &from[..from.len().saturating_sub(to.len())]
+}
+
+/// The number that a digit stands for.
+fn digit(c: u8) -> u64
+    ensures { result ≡ spec.digit c }
+{
+    if c <= b'9' {
+        u64::from(c.saturating_sub(b'0'))
+    } else if c <= b'F' {
+        u64::from(c.saturating_sub(b'A' - 10))
+    } else {
+        u64::from(c.saturating_sub(b'a' - 10))
+    }
 }
 
 /// The number that the digits of a base spell, if it fits.
@@ -96,20 +203,19 @@ fn value(base: u64, digits: &[u8]) -> Option<u64>
     ensures { result ≡ scan.value base digits.now }
 {
     let mut n: u64 = 0;
-    for digit in digits {
-        n = base
-            .checked_mul(n)?
-            .checked_add(u64::from(digit.saturating_sub(b'0')))?;
+    for octet in digits {
+        n = base.checked_mul(n)?.checked_add(digit(*octet))?;
     }
     Some(n)
 }
 
-/// A number, whose digits are those up to `rest`.
+/// A number of that base, whose digits are those of `digits` up to `rest`.
 #[tactic(auto, unfolding(crate::specs::Scan::number, crate::specs::Scan::after_number))]
-fn number<'a>(text: &'a [u8], rest: &'a [u8]) -> Result<(Option<Kind>, &'a [u8]), Stop<'a>>
-    ensures { scan.seen result ≡ scan.number text.now rest.now }
+fn number<'a>(base: u64, text: &'a [u8], digits: &[u8], rest: &'a [u8]) -> Lexeme<'a>
+    requires { 0 < base }
+    ensures { scan.seen result ≡ scan.number base text.now digits.now rest.now }
 {
-    let Some(n) = value(10, text_of(text, rest)) else {
+    let Some(n) = value(base, text_of(digits, rest)) else {
         return Err(Stop {
             kind: FaultKind::Large,
             at: text,
@@ -126,13 +232,104 @@ fn number<'a>(text: &'a [u8], rest: &'a [u8]) -> Result<(Option<Kind>, &'a [u8])
     }
 }
 
+/// A number in base 2, `digits` being what comes after its prefix.
+#[tactic(auto, unfolding(crate::specs::Scan::prefixed))]
+fn binary<'a>(text: &'a [u8], digits: &'a [u8]) -> Lexeme<'a>
+    ensures { scan.seen result ≡ scan.prefixed spec.is_bit 2 text.now digits.now }
+{
+    match digits {
+        [first, rest @ ..] if is_bit(*first) => number(2, text, digits, after_bits(rest)),
+        _ => Err(stray(digits)),
+    }
+}
+
+/// A number in base 16, `digits` being what comes after its prefix.
+#[tactic(auto, unfolding(crate::specs::Scan::prefixed))]
+fn hexadecimal<'a>(text: &'a [u8], digits: &'a [u8]) -> Lexeme<'a>
+    ensures { scan.seen result ≡ scan.prefixed spec.is_hex 16 text.now digits.now }
+{
+    match digits {
+        [first, rest @ ..] if is_hex(*first) => number(16, text, digits, after_hex(rest)),
+        _ => Err(stray(digits)),
+    }
+}
+
+/// What begins with a digit.
+#[tactic(auto, unfolding(crate::specs::Scan::numeral))]
+fn numeral<'a>(text: &'a [u8], first: u8, rest: &'a [u8]) -> Lexeme<'a>
+    requires { text.now ≡ first ∷ rest.now }
+    ensures { scan.seen result ≡ scan.numeral first rest.now }
+{
+    if first == b'0' && is_next(b'b', rest) {
+        binary(text, after_one(rest))
+    } else if first == b'0' && is_next(b'x', rest) {
+        hexadecimal(text, after_one(rest))
+    } else {
+        number(10, text, text, after_digits(rest))
+    }
+}
+
+/// The word of an operand that is so written.
+#[tactic(auto, unfolding(crate::specs::Scan::operand))]
+fn operand(word: &[u8]) -> Option<Mark>
+    ensures { result ≡ scan.operand word.now }
+{
+    if word == b"THIS".as_slice() {
+        Some(Mark::This)
+    } else if word == b"UVALUE".as_slice() {
+        Some(Mark::Uvalue)
+    } else if word == b"ULENGTH".as_slice() {
+        Some(Mark::Ulength)
+    } else if word == b"CVALUE".as_slice() {
+        Some(Mark::Cvalue)
+    } else if word == b"CLENGTH".as_slice() {
+        Some(Mark::Clength)
+    } else if word == b"true".as_slice() {
+        Some(Mark::True)
+    } else if word == b"false".as_slice() {
+        Some(Mark::False)
+    } else {
+        None
+    }
+}
+
+/// The reserved word that is so written.
+#[tactic(auto, unfolding(crate::specs::Scan::reserved))]
+fn reserved(word: &[u8]) -> Option<Mark>
+    ensures { result ≡ scan.reserved word.now }
+{
+    if word == b"UNCOMPRESSED".as_slice() {
+        Some(Mark::Uncompressed)
+    } else if word == b"CONTROL".as_slice() {
+        Some(Mark::Control)
+    } else if word == b"INITIAL".as_slice() {
+        Some(Mark::Initial)
+    } else if word == b"DEFAULT".as_slice() {
+        Some(Mark::Default)
+    } else if word == b"COMPRESSED".as_slice() {
+        Some(Mark::Compressed)
+    } else if word == b"ENFORCE".as_slice() {
+        Some(Mark::Enforce)
+    } else if word == b"VARIABLE".as_slice() {
+        Some(Mark::Variable)
+    } else {
+        operand(word)
+    }
+}
+
+/// A name or a reserved word.
+fn word(text: &[u8]) -> Kind
+    ensures { result ≡ scan.word_kind (scan.reserved text.now) }
+{
+    match reserved(text) {
+        Some(mark) => Kind::Mark(mark),
+        None => Kind::Name,
+    }
+}
+
 /// A bit text of these digits, which ends at `rest`.
 #[tactic(auto, unfolding(crate::specs::Scan::quoted))]
-fn quoted<'a>(
-    text: &'a [u8],
-    digits: &[u8],
-    rest: &'a [u8],
-) -> Result<(Option<Kind>, &'a [u8]), Stop<'a>>
+fn quoted<'a>(text: &'a [u8], digits: &[u8], rest: &'a [u8]) -> Lexeme<'a>
     ensures { scan.seen result ≡ scan.quoted text.now digits.now rest.now }
 {
     let large = Stop {
@@ -152,96 +349,141 @@ fn quoted<'a>(
 
 /// A bit text, `inside` being what comes after its first quote.
 #[tactic(auto, unfolding(crate::specs::Scan::bit_text, crate::specs::Scan::after_bits))]
-fn bit_text<'a>(text: &'a [u8], inside: &'a [u8]) -> Result<(Option<Kind>, &'a [u8]), Stop<'a>>
+fn bit_text<'a>(text: &'a [u8], inside: &'a [u8]) -> Lexeme<'a>
     ensures { scan.seen result ≡ scan.bit_text text.now inside.now }
 {
     let rest = after_bits(inside);
     let digits = text_of(inside, rest);
     match rest {
         [b'\'', after @ ..] => quoted(text, digits, after),
-        [_, after @ ..] => Err(Stop {
-            kind: FaultKind::Character,
-            at: rest,
-            to: after,
-        }),
-        [] => Err(Stop {
-            kind: FaultKind::Character,
-            at: rest,
-            to: rest,
-        }),
+        _ => Err(stray(rest)),
     }
 }
 
-/// What begins with `=`, `tail` being what comes after it.
-#[tactic(auto, unfolding(crate::specs::Scan::binds))]
-fn binds<'a>(text: &'a [u8], tail: &'a [u8]) -> Result<(Option<Kind>, &'a [u8]), Stop<'a>>
-    ensures { scan.seen result ≡ scan.binds text.now tail.now }
+/// What begins with `/`, `rest` being what comes after it.
+#[tactic(auto, unfolding(crate::specs::Scan::slash))]
+fn slash<'a>(text: &'a [u8], rest: &'a [u8]) -> Lexeme<'a>
+    requires { text.now ≡ 47 ∷ rest.now }
+    ensures { scan.seen result ≡ scan.slash rest.now }
 {
-    match tail {
-        [b':', b'=', rest @ ..] => Ok((Some(Kind::Mark(Mark::Binds)), rest)),
-        _ => Err(Stop {
-            kind: FaultKind::Character,
-            at: text,
-            to: tail,
-        }),
+    match rest {
+        [b'/', inside @ ..] => Ok((None, after_line(inside))),
+        [b'*', inside @ ..] => match after_comment(inside) {
+            Some(after) => Ok((None, after)),
+            None => Err(Stop {
+                kind: FaultKind::OpenComment,
+                at: text,
+                to: &[],
+            }),
+        },
+        _ => mark(Mark::Divide, rest),
+    }
+}
+
+/// What begins with `=`, `rest` being what comes after it.
+#[tactic(auto, unfolding(crate::specs::Scan::equals))]
+fn equals(rest: &[u8]) -> Lexeme<'_>
+    ensures { scan.seen result ≡ scan.equals rest.now }
+{
+    match rest {
+        [b'=', after @ ..] => mark(Mark::Equal, after),
+        [b':', after @ ..] if is_next(b'=', after) => mark(Mark::Binds, after_one(after)),
+        _ => mark(Mark::Is, rest),
+    }
+}
+
+/// What begins with a mark that `=` makes longer, `rest` being what comes after it.
+#[tactic(auto, unfolding(crate::specs::Scan::with_equals))]
+fn with_equals(long: Mark, short: Mark, rest: &[u8]) -> Lexeme<'_>
+    ensures { scan.seen result ≡ scan.with_equals long short rest.now }
+{
+    match rest {
+        [b'=', after @ ..] => mark(long, after),
+        _ => mark(short, rest),
+    }
+}
+
+/// What begins with half of a mark of two equal octets, `rest` being what comes after that.
+#[tactic(auto, unfolding(crate::specs::Scan::doubled))]
+fn doubled<'a>(found: Mark, half: u8, text: &'a [u8], rest: &'a [u8]) -> Lexeme<'a>
+    requires { text.now ≡ half ∷ rest.now }
+    ensures { scan.seen result ≡ scan.doubled found half rest.now }
+{
+    match rest {
+        [next, after @ ..] if *next == half => mark(found, after),
+        _ => Err(stray(text)),
+    }
+}
+
+/// The mark that this octet is, whatever follows.
+#[tactic(auto, unfolding(crate::specs::Scan::single))]
+fn single(c: u8) -> Option<Mark>
+    ensures { result ≡ scan.single c }
+{
+    match c {
+        b'{' => Some(Mark::OpenBrace),
+        b'}' => Some(Mark::CloseBrace),
+        b'(' => Some(Mark::Open),
+        b')' => Some(Mark::Close),
+        b'[' => Some(Mark::OpenSquare),
+        b']' => Some(Mark::CloseSquare),
+        b',' => Some(Mark::Comma),
+        b';' => Some(Mark::Semicolon),
+        b'.' => Some(Mark::Dot),
+        b'+' => Some(Mark::Plus),
+        b'-' => Some(Mark::Minus),
+        b'*' => Some(Mark::Times),
+        b'%' => Some(Mark::Remainder),
+        b'^' => Some(Mark::Power),
+        _ => None,
     }
 }
 
 /// What begins with another octet.
 #[tactic(auto, unfolding(crate::specs::Scan::other))]
-fn other<'a>(
-    text: &'a [u8],
-    first: u8,
-    rest: &'a [u8],
-) -> Result<(Option<Kind>, &'a [u8]), Stop<'a>>
+fn other<'a>(text: &'a [u8], first: u8, rest: &'a [u8]) -> Lexeme<'a>
     requires { text.now ≡ first ∷ rest.now }
     ensures { scan.seen result ≡ scan.other first rest.now }
 {
     match first {
         b'\'' => bit_text(text, rest),
-        b'=' => binds(text, rest),
-        b'{' => Ok((Some(Kind::Mark(Mark::OpenBrace)), rest)),
-        b'}' => Ok((Some(Kind::Mark(Mark::CloseBrace)), rest)),
-        b'(' => Ok((Some(Kind::Mark(Mark::Open)), rest)),
-        b')' => Ok((Some(Kind::Mark(Mark::Close)), rest)),
-        b'[' => Ok((Some(Kind::Mark(Mark::OpenSquare)), rest)),
-        b']' => Ok((Some(Kind::Mark(Mark::CloseSquare)), rest)),
-        b',' => Ok((Some(Kind::Mark(Mark::Comma)), rest)),
-        b';' => Ok((Some(Kind::Mark(Mark::Semicolon)), rest)),
-        _ => Err(Stop {
-            kind: FaultKind::Character,
-            at: text,
-            to: rest,
-        }),
+        b'=' => equals(rest),
+        b'/' => slash(text, rest),
+        b'!' => with_equals(Mark::NotEqual, Mark::Not, rest),
+        b'<' => with_equals(Mark::LessEqual, Mark::Less, rest),
+        b'>' => with_equals(Mark::GreaterEqual, Mark::Greater, rest),
+        b'&' => doubled(Mark::And, first, text, rest),
+        b'|' => doubled(Mark::Or, first, text, rest),
+        _ => match single(first) {
+            Some(found) => mark(found, rest),
+            None => Err(stray(text)),
+        },
     }
 }
 
 /// The token or the gap at the front, and what is left after it.
 #[tactic(auto, unfolding(crate::specs::Scan::lexeme))]
-fn lexeme(text: &[u8]) -> Result<(Option<Kind>, &[u8]), Stop<'_>>
+fn lexeme(text: &[u8]) -> Lexeme<'_>
     ensures { scan.seen result ≡ scan.lexeme text.now }
 {
     let [first, rest @ ..] = text else {
-        return Err(Stop {
-            kind: FaultKind::Character,
-            at: text,
-            to: text,
-        });
+        return Err(stray(text));
     };
     let first = *first;
     if is_space(first) {
         Ok((None, rest))
     } else if first.is_ascii_alphabetic() {
-        Ok((Some(Kind::Name), after_word(rest)))
+        let after = after_word(rest);
+        Ok((Some(word(text_of(text, after))), after))
     } else if first.is_ascii_digit() {
-        number(text, after_digits(rest))
+        numeral(text, first, rest)
     } else {
         other(text, first, rest)
     }
 }
 
 /// The token or the gap at the front, in the words of the definition.
-fn next(text: &[u8]) -> Result<(Option<Kind>, &[u8]), Stop<'_>>
+fn next(text: &[u8]) -> Lexeme<'_>
     requires { 0 < length text.now }
     ensures { MatchResult result
         (λ x. spec.IsLexeme x.0 text.now x.1.now × (length x.1.now < length text.now))

@@ -48,7 +48,7 @@ fn reads_a_method(rt: HostRuntime) -> Result<(), Fail> {
     let want = [
         (Kind::Name, "plain", 0),
         (Kind::Mark(Mark::OpenBrace), "{", 6),
-        (Kind::Name, "UNCOMPRESSED", 8),
+        (Kind::Mark(Mark::Uncompressed), "UNCOMPRESSED", 8),
         (Kind::Mark(Mark::OpenBrace), "{", 21),
         (Kind::Name, "a", 23),
         (Kind::Mark(Mark::OpenSquare), "[", 25),
@@ -56,7 +56,7 @@ fn reads_a_method(rt: HostRuntime) -> Result<(), Fail> {
         (Kind::Mark(Mark::CloseSquare), "]", 27),
         (Kind::Mark(Mark::Semicolon), ";", 28),
         (Kind::Mark(Mark::CloseBrace), "}", 30),
-        (Kind::Name, "COMPRESSED", 32),
+        (Kind::Mark(Mark::Compressed), "COMPRESSED", 32),
         (Kind::Mark(Mark::OpenBrace), "{", 43),
         (Kind::Name, "d", 45),
         (Kind::Mark(Mark::Binds), "=:=", 47),
@@ -93,8 +93,15 @@ fn reads_one_token(rt: HostRuntime) -> Result<(), Fail> {
     let ones = u64::MAX;
     for (text, kind) in [
         ("\t\r\n\x0ca_B9\n", Kind::Name),
+        ("uncompressed", Kind::Name),
+        ("THIS_", Kind::Name),
+        ("UVALUES", Kind::Name),
         ("0007", Kind::Number(7)),
         ("18446744073709551615", Kind::Number(ones)),
+        ("0b101", Kind::Number(5)),
+        ("0x1fAb", Kind::Number(8107)),
+        ("0xffffffffffffffff", Kind::Number(ones)),
+        ("0x0000000000000000000a", Kind::Number(10)),
         ("''", Kind::BitText { count: 0, value: 0 }),
         ("'0110'", Kind::BitText { count: 4, value: 6 }),
         (
@@ -104,7 +111,9 @@ fn reads_one_token(rt: HostRuntime) -> Result<(), Fail> {
                 value: ones,
             },
         ),
-        (",", Kind::Mark(Mark::Comma)),
+        ("/* =:= \u{20ac} // */ , // 'ü", Kind::Mark(Mark::Comma)),
+        ("/***/;", Kind::Mark(Mark::Semicolon)),
+        ("//\r =\n.", Kind::Mark(Mark::Dot)),
     ] {
         let found = first(rt.alloc(), text.as_bytes())?;
         assert!(rt; found == (Some(kind), 1), "{text}");
@@ -113,10 +122,17 @@ fn reads_one_token(rt: HostRuntime) -> Result<(), Fail> {
     for (text, count) in [
         ("", 0),
         (" \n", 0),
+        ("// a", 0),
         ("ab cd", 2),
         ("a=:=b", 3),
         ("x'1'y", 3),
         ("1,2", 3),
+        ("===:==!=!", 5),
+        ("<==>=>", 4),
+        ("||&&", 2),
+        ("a/b/ *c", 6),
+        ("1/**/2", 2),
+        ("0x1.0b1", 3),
     ] {
         let found = first(rt.alloc(), text.as_bytes())?;
         assert_eq!(rt; found.1, count, "{text}");
@@ -125,23 +141,80 @@ fn reads_one_token(rt: HostRuntime) -> Result<(), Fail> {
 }
 
 #[test]
+fn reads_marks_and_words(rt: HostRuntime) -> Result<(), Fail> {
+    for (text, mark) in [
+        ("{", Mark::OpenBrace),
+        ("}", Mark::CloseBrace),
+        ("(", Mark::Open),
+        (")", Mark::Close),
+        ("[", Mark::OpenSquare),
+        ("]", Mark::CloseSquare),
+        (",", Mark::Comma),
+        (";", Mark::Semicolon),
+        ("=:=", Mark::Binds),
+        ("=", Mark::Is),
+        (".", Mark::Dot),
+        ("||", Mark::Or),
+        ("&&", Mark::And),
+        ("==", Mark::Equal),
+        ("!=", Mark::NotEqual),
+        ("<", Mark::Less),
+        (">", Mark::Greater),
+        ("<=", Mark::LessEqual),
+        (">=", Mark::GreaterEqual),
+        ("+", Mark::Plus),
+        ("-", Mark::Minus),
+        ("*", Mark::Times),
+        ("/", Mark::Divide),
+        ("%", Mark::Remainder),
+        ("^", Mark::Power),
+        ("!", Mark::Not),
+        ("UNCOMPRESSED", Mark::Uncompressed),
+        ("CONTROL", Mark::Control),
+        ("INITIAL", Mark::Initial),
+        ("DEFAULT", Mark::Default),
+        ("COMPRESSED", Mark::Compressed),
+        ("ENFORCE", Mark::Enforce),
+        ("THIS", Mark::This),
+        ("VARIABLE", Mark::Variable),
+        ("UVALUE", Mark::Uvalue),
+        ("ULENGTH", Mark::Ulength),
+        ("CVALUE", Mark::Cvalue),
+        ("CLENGTH", Mark::Clength),
+        ("true", Mark::True),
+        ("false", Mark::False),
+    ] {
+        let found = first(rt.alloc(), text.as_bytes())?;
+        assert!(rt; found == (Some(Kind::Mark(mark)), 1), "{text}");
+    }
+    Ok(())
+}
+
+#[test]
 fn refuses_characters(rt: HostRuntime) -> Result<(), Fail> {
     for (text, from, to) in [
         ("a ? b", 2, 3),
-        ("a = b", 2, 3),
-        ("a =: b", 2, 3),
-        ("a =", 2, 3),
+        ("a =: b", 3, 4),
         ("a := b", 2, 3),
+        ("a & b", 2, 3),
+        ("a |", 2, 3),
+        ("&|", 0, 1),
         ("_a", 0, 1),
         ("12x", 2, 3),
         ("12_", 2, 3),
-        ("0x10", 1, 2),
         ("18446744073709551615x", 20, 21),
+        ("0B1", 1, 2),
+        ("0b", 2, 2),
+        ("0b2", 2, 3),
+        ("0b12", 3, 4),
+        ("0x g", 2, 3),
+        ("0x1g", 3, 4),
         ("7é", 1, 2),
         ("é", 0, 1),
         ("'102'", 3, 4),
         ("a '1", 4, 4),
         ("'", 1, 1),
+        ("a /* b */ \u{20ac}", 10, 11),
         // 65 digits, and no quote after them
         (
             "'00000000000000000000000000000000000000000000000000000000000000000",
@@ -166,11 +239,37 @@ fn refuses_characters(rt: HostRuntime) -> Result<(), Fail> {
 }
 
 #[test]
+fn refuses_open_comments(rt: HostRuntime) -> Result<(), Fail> {
+    for (text, from, to) in [
+        ("a { /* ", 4, 7),
+        ("/*/", 0, 3),
+        ("/**", 0, 3),
+        ("/* /* */ /*é", 9, 13),
+    ] {
+        assert_fault(
+            &rt,
+            fault(rt.alloc(), text.as_bytes()),
+            FaultKind::OpenComment,
+            from,
+            to,
+        );
+    }
+    Ok(())
+}
+
+#[test]
 fn refuses_large_numbers(rt: HostRuntime) -> Result<(), Fail> {
     for (text, from, to) in [
         ("18446744073709551616", 0, 20),
         ("a 99999999999999999999999;", 2, 25),
         (" 18446744073709551616x", 1, 21),
+        ("0x10000000000000000", 0, 19),
+        ("0x10000000000000000g", 0, 19),
+        (
+            "0b10000000000000000000000000000000000000000000000000000000000000000",
+            0,
+            67,
+        ),
         (
             "'00000000000000000000000000000000000000000000000000000000000000000'",
             0,
@@ -243,10 +342,15 @@ fn counts_lines_and_columns(rt: HostRuntime) -> Result<(), Fail> {
 fn names_faults(rt: HostRuntime) -> Result<(), Fail> {
     for (kind, code, text) in [
         (FaultKind::Character, "E01", "character is not allowed here"),
+        (FaultKind::OpenComment, "E02", "comment is not closed"),
         (FaultKind::Large, "E03", "number or bit text is too large"),
         (FaultKind::TooLong, "E04", "text is above 1 MiB"),
         (FaultKind::NotUtf8, "E05", "text is not UTF-8"),
         (FaultKind::Unexpected, "E10", "unexpected token"),
+        (FaultKind::Nesting, "E11", "nesting is above 64"),
+        (FaultKind::EmptyBracket, "E12", "bracket is empty"),
+        (FaultKind::RepeatedSection, "E13", "section is repeated"),
+        (FaultKind::MixedRemainder, "E14", "% needs brackets here"),
         (FaultKind::TooManyParts, "E15", "too many parts"),
         (
             FaultKind::NoTop,

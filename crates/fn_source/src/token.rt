@@ -5,18 +5,89 @@ ghost use Rattle.fn_source.specs.Kinds as spec;
 
 use crate::span::Span;
 
-/// A mark of the notation: `{ } ( ) [ ] , ; =:=`.
+/// A mark or a reserved word of the notation.
 #[derive(Clone, Copy, Debug, PartialEq, Eq)]
 pub enum Mark {
+    /// `{`
     OpenBrace,
+    /// `}`
     CloseBrace,
+    /// `(`
     Open,
+    /// `)`
     Close,
+    /// `[`
     OpenSquare,
+    /// `]`
     CloseSquare,
+    /// `,`
     Comma,
+    /// `;`
     Semicolon,
+    /// `=:=`
     Binds,
+    /// `=`
+    Is,
+    /// `.`
+    Dot,
+    /// `||`
+    Or,
+    /// `&&`
+    And,
+    /// `==`
+    Equal,
+    /// `!=`
+    NotEqual,
+    /// `<`
+    Less,
+    /// `>`
+    Greater,
+    /// `<=`
+    LessEqual,
+    /// `>=`
+    GreaterEqual,
+    /// `+`
+    Plus,
+    /// `-`
+    Minus,
+    /// `*`
+    Times,
+    /// `/`
+    Divide,
+    /// `%`
+    Remainder,
+    /// `^`
+    Power,
+    /// `!`
+    Not,
+    /// `UNCOMPRESSED`
+    Uncompressed,
+    /// `CONTROL`
+    Control,
+    /// `INITIAL`
+    Initial,
+    /// `DEFAULT`
+    Default,
+    /// `COMPRESSED`
+    Compressed,
+    /// `ENFORCE`
+    Enforce,
+    /// `THIS`
+    This,
+    /// `VARIABLE`
+    Variable,
+    /// `UVALUE`
+    Uvalue,
+    /// `ULENGTH`
+    Ulength,
+    /// `CVALUE`
+    Cvalue,
+    /// `CLENGTH`
+    Clength,
+    /// `true`
+    True,
+    /// `false`
+    False,
 }
 
 /// What a token is. A bit text has so many digits, which spell the value, the first digit highest.

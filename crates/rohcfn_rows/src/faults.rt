@@ -1,6 +1,7 @@
 //! Each fault of the profile and of the bundle, with its place, worked by hand.
 
-use crate::running::{PLAIN, bundle, check};
+use crate::running::{bundle, check};
+use crate::samples::PLAIN;
 use std::test::Fail;
 
 #[test]
@@ -32,7 +33,16 @@ fn profile_faults(rt: HostRuntime) -> Result<(), Fail> {
             "p '00000000000000000000000000000000000000000000000000000000000000000'\n",
             "profile:1:3: E03 number or bit text is too large\n",
         ),
-        ("no text", "", "profile:1:1: E10 unexpected token\n"),
+        (
+            "no text",
+            "",
+            "profile:1:1: E27 no such top method without parameters\n",
+        ),
+        (
+            "an open comment",
+            "a { /* \n",
+            "profile:1:5: E02 comment is not closed\n",
+        ),
         (
             "the end of the text",
             "plain {\n",
@@ -40,13 +50,8 @@ fn profile_faults(rt: HostRuntime) -> Result<(), Fail> {
         ),
         (
             "a mark for another",
-            "plain (\n",
+            "plain [\n",
             "profile:1:7: E10 unexpected token\n",
-        ),
-        (
-            "another section",
-            "plain { CONTROL { } }\n",
-            "profile:1:9: E10 unexpected token\n",
         ),
         (
             "a reserved name",
@@ -54,14 +59,29 @@ fn profile_faults(rt: HostRuntime) -> Result<(), Fail> {
             "profile:1:1: E10 unexpected token\n",
         ),
         (
-            "another encoding",
-            "p { UNCOMPRESSED { a [4]; } COMPRESSED { a =:= static [0]; } }\n",
-            "profile:1:48: E10 unexpected token\n",
+            "something after the method",
+            "p { UNCOMPRESSED { } COMPRESSED { } } ; ;\n",
+            "profile:1:41: E10 unexpected token\n",
         ),
         (
-            "something after the method",
-            "p { UNCOMPRESSED { } COMPRESSED { } } ;\n",
-            "profile:1:39: E10 unexpected token\n",
+            "an empty bracket",
+            "p { UNCOMPRESSED { a [ ]; } COMPRESSED { } }\n",
+            "profile:1:22: E12 bracket is empty\n",
+        ),
+        (
+            "a repeated section",
+            "p { CONTROL { }\n CONTROL { } }\n",
+            "profile:2:2: E13 section is repeated\n",
+        ),
+        (
+            "% beside another operator",
+            "p\n{\n  UNCOMPRESSED { x [64]; ENFORCE(x.UVALUE % 4 + 1 == 2); }\n  COMPRESSED { x =:= irregular(64) [64]; }\n}\n",
+            "profile:3:43: E14 % needs brackets here\n",
+        ),
+        (
+            "parameters",
+            "plain(n) { UNCOMPRESSED { } COMPRESSED { } }\n",
+            "profile:1:1: E27 no such top method without parameters\n",
         ),
         (
             "another name",
@@ -110,12 +130,65 @@ fn outside_the_fragment(rt: HostRuntime) -> Result<(), Fail> {
         ("an irregular local field", "", "d =:= irregular(2) [2];"),
         ("one name twice", "a [4]; a [4];", "a =:= irregular(4) [4];"),
         ("one local name twice", "", "d =:= '1' [1]; d =:= '1' [1];"),
+        ("another encoding", "a [4];", "a =:= static [0];"),
+        (
+            "a bracket of two lengths",
+            "a [4];",
+            "a =:= irregular(4) [4, 5];",
+        ),
+        ("a sum as a length", "a [4];", "a =:= irregular(4) [2 + 2];"),
+        (
+            "a variable length",
+            "a [VARIABLE];",
+            "a =:= irregular(4) [4];",
+        ),
+        ("no bracket", "a [4];", "a =:= irregular(4);"),
+        (
+            "a condition",
+            "a [4]; ENFORCE(true);",
+            "a =:= irregular(4) [4];",
+        ),
     ];
     for (name, header, listed) in rows {
         let profile = format!(in alloc;
             "plain {{ UNCOMPRESSED {{ {header} }} COMPRESSED {{ {listed} }} }}\n"
         )?;
         let input = bundle(alloc, "pack --top plain", profile.as_str(), "items", "0:\n")?;
+        check(&rt, alloc, name, input.as_bytes(), 1, "prove: P3 Limit\n");
+    }
+    Ok(())
+}
+
+// Whole profiles with that top method, each with a part that the fragment doesn't have.
+#[test]
+fn other_profiles(rt: HostRuntime) -> Result<(), Fail> {
+    let alloc = rt.alloc();
+    let rows = [
+        ("no section", "plain { }\n"),
+        ("another section", "plain { CONTROL { } }\n"),
+        (
+            "a section more",
+            "plain { UNCOMPRESSED { } CONTROL { } COMPRESSED { } }\n",
+        ),
+        (
+            "a named format",
+            "plain { UNCOMPRESSED { } COMPRESSED f { } }\n",
+        ),
+        (
+            "the format first",
+            "plain { COMPRESSED { } UNCOMPRESSED { } }\n",
+        ),
+        (
+            "a constant",
+            "K = 1; plain { UNCOMPRESSED { } COMPRESSED { } }\n",
+        ),
+        (
+            "another method",
+            "a { UNCOMPRESSED { } COMPRESSED { } } plain { UNCOMPRESSED { } COMPRESSED { } }\n",
+        ),
+    ];
+    for (name, profile) in rows {
+        let input = bundle(alloc, "pack --top plain", profile, "items", "0:\n")?;
         check(&rt, alloc, name, input.as_bytes(), 1, "prove: P3 Limit\n");
     }
     Ok(())

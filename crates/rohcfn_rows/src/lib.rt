@@ -9,3 +9,7 @@ mod limits;
 mod rows;
 #[cfg(test)]
 mod running;
+#[cfg(test)]
+mod samples;
+#[cfg(test)]
+mod trees;

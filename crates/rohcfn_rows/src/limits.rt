@@ -1,6 +1,7 @@
 //! The limits, at and above them.
 
-use crate::running::{PLAIN, bundle, check};
+use crate::running::{bundle, check};
+use crate::samples::PLAIN;
 use std::alloc::Global;
 use std::test::Fail;
 
@@ -50,6 +51,24 @@ fn repeated(alloc: Global, text: &str, count: usize) -> Result<String, Fail> {
     Ok(long)
 }
 
+// The 65th bracket stands in column 69: `K = ` comes before the first.
+#[test]
+fn nesting(rt: HostRuntime) -> Result<(), Fail> {
+    let alloc = rt.alloc();
+    let open = repeated(alloc, "(", 65)?;
+    let profile = format!(in alloc; "K = {open}\n")?;
+    let input = bundle(alloc, "pack --top tick", profile.as_str(), "items", "0:\n")?;
+    check(
+        &rt,
+        alloc,
+        "65 brackets",
+        input.as_bytes(),
+        1,
+        "profile:1:69: E11 nesting is above 64\n",
+    );
+    Ok(())
+}
+
 #[test]
 fn long_headers(rt: HostRuntime) -> Result<(), Fail> {
     let alloc = rt.alloc();
@@ -89,7 +108,7 @@ fn long_inputs(rt: HostRuntime) -> Result<(), Fail> {
         "1 MiB of profile",
         input.as_bytes(),
         1,
-        "profile:2:1: E10 unexpected token\n",
+        "profile:1:1: E27 no such top method without parameters\n",
     );
     let profile = format!(in alloc; " {spaces}\n")?;
     let input = bundle(alloc, "pack --top plain", profile.as_str(), "items", "")?;

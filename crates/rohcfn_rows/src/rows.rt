@@ -1,6 +1,7 @@
 //! The worked rows: what goes in and what comes out, worked by hand.
 
-use crate::running::{PLAIN, bundle, check};
+use crate::running::{bundle, check};
+use crate::samples::PLAIN;
 use std::test::Fail;
 
 const PACK: &str = "pack --top plain";

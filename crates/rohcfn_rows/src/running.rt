@@ -5,10 +5,6 @@ use std::alloc::Global;
 use std::process::Abort;
 use std::test::Fail;
 
-/// Two fields of 4 and 12 bits, which follow the bits 10.
-pub const PLAIN: &str =
-    "plain\n{\n  UNCOMPRESSED { a [4]; b [12]; }\n  COMPRESSED {\n    d =:= '10' [2];\n    a =:= irregular(4) [4];\n    b =:= irregular(12) [12];\n  }\n}\n";
-
 /// A bundle of words, a profile and a part of lines.
 pub fn bundle(
     alloc: Global,

@@ -1,15 +1,7 @@
-pub mod BundleHeld
-pub mod BundleLines
-pub mod BundleParts
-pub mod BundleSpelled
-pub mod Fill
 pub mod InputLines
-pub mod Listing
 pub mod ProgramBytes
 pub mod ProgramNames
 pub mod ProgramReplies
-pub mod Reading
 pub mod Replying
-pub mod Walk
 pub mod WordsLemmas
 pub mod WordsRead

@@ -9,12 +9,12 @@ use Rattle.fn_model.specs.NormalForm.{NormalForm}
 use Rattle.rohcfn_tool.specs.declared.status.Answer.{Answer}
 use Rattle.rohcfn_tool.specs.declared.status.Status.{Status}
 use Rattle.rohcfn_tool.specs.declared.status.Status.TheVariants as status
-use Rattle.rohcfn_tool.specs.declared.bundle.Parts.{Parts}
+use Rattle.rohcfn_bundle.specs.declared.bundle.Parts.{Parts}
 use Rattle.rohcfn_tool.specs.declared.words.Command.{Command}
 use Rattle.rohcfn_tool.specs.declared.words.Order.{Order}
 use Rattle.rohcfn_tool.specs.declared.replies.Printed.{Printed}
 use Rattle.rohcfn_tool.specs.declared.replies.Printed.TheVariants as printed
-use Rattle.rohcfn_tool.specs.Meaning.{StandsFor}
+use Rattle.fn_fragment.specs.Meaning.{StandsFor}
 use Rattle.rohcfn_tool.specs.Printed.{IsLine, IsFault, IsPrinted, HasTexts, Prints, done, line, fault, AnsweredBy, answered, AnswersBy, IsRefusal, Answered, Answers, no_input, both, input_of, input_name}
 
 -- one line that refuses

@@ -1,9 +1,4 @@
-pub mod Bundle
-pub mod Faults
-pub mod Grammar
-pub mod Meaning
 pub mod Printed
 pub mod Program
 pub mod Status
-pub mod Tokens
 pub mod Words

@@ -11,23 +11,24 @@ use Rattle.fn_model.specs.declared.filling.Filling.{Filling}
 use Rattle.fn_model.specs.NormalForm.{NormalForm}
 use Rattle.fn_model.specs.Fillings.{header, packed}
 use Rattle.fn_model.specs.Fits.{Fits, InFronts}
-use Rattle.rohcfn_tool.specs.declared.bundle.Parts.{Parts}
-use Rattle.rohcfn_tool.specs.declared.reader.UnpackFault.{UnpackFault}
-use Rattle.rohcfn_tool.specs.declared.reader.UnpackFault.TheVariants.{Truncated, Refused, OutOfMemory}
+use Rattle.rohcfn_bundle.specs.declared.bundle.Parts.{Parts}
+use Rattle.fn_engine.specs.declared.reader.UnpackFault.{UnpackFault}
+use Rattle.fn_engine.specs.declared.reader.UnpackFault.TheVariants.{Truncated, Refused, OutOfMemory}
 use Rattle.rohcfn_tool.specs.declared.status.Answer.{Answer}
 use Rattle.rohcfn_tool.specs.declared.status.Status.{Status}
 use Rattle.rohcfn_tool.specs.declared.status.Status.TheVariants as status
 use Rattle.rohcfn_tool.specs.declared.words.Command.{Command}
 use Rattle.rohcfn_tool.specs.declared.words.Command.TheVariants.{Pack, Unpack}
 use Rattle.rohcfn_tool.specs.declared.words.Order.{Order}
-use Rattle.rohcfn_tool.specs.declared.writer.PackFault.{PackFault}
-use Rattle.rohcfn_tool.specs.declared.writer.PackFault.TheVariants as writer
+use Rattle.fn_engine.specs.declared.writer.PackFault.{PackFault}
+use Rattle.fn_engine.specs.declared.writer.PackFault.TheVariants as writer
 use Rattle.rohcfn_tool.specs.declared.inputs.BadLine.{BadLine}
 use Rattle.rohcfn_tool.specs.declared.inputs.BadLine.TheVariants as bad
 use Rattle.rohcfn_tool.specs.declared.replies.Printed.{Printed}
 use Rattle.rohcfn_tool.specs.declared.replies.Printed.TheVariants as printed
-use Rattle.rohcfn_tool.specs.Faults.{Blames, BlamesItem}
-use Rattle.rohcfn_tool.specs.Meaning.{StandsFor}
+use Rattle.fn_engine.specs.Faults.{Blames, BlamesItem}
+use Rattle.fn_fragment.specs.Meaning.{StandsFor}
+use Rattle.fn_fragment.specs.Refusals as refusals
 
 -- ---- the lines that go in
 
@@ -105,19 +106,19 @@ bad_line_words Pack = codes ": I1 bad item"
 bad_line_words Unpack = codes ": I2 bad packet"
 
 -- a fault at its line and column, with its code
-pub record IsProfileFault (octets text : List ℕ) : Type 0 where
-  pub fault : Fault
+pub record IsProfileFault (octets : List ℕ) (fault : Fault) (text : List ℕ) : Type 0 where
   pub words : List ℕ
   pub spelled : text ≡ codes "profile:" ++ decimal (line_of octets fault.at.from) ++ codes ":" ++ decimal (column_of octets fault.at.from) ++ codes ": " ++ code_of fault.kind ++ codes " " ++ words
 
 -- What is answered to a command, by the octets of a profile and of items or packets.
 pub data AnsweredBy (command : Command) (top profile input : List ℕ) : Status → List ℕ → Type 0 where
   -- the profile is at fault
-  at_fault : (text : List ℕ) → IsProfileFault profile text → AnsweredBy command top profile input status.Refused (text ++ 10 ∷ [])
+  at_fault : (fault : Fault) (text : List ℕ) → refusals.IsFault profile top fault → IsProfileFault profile fault text → AnsweredBy command top profile input status.Refused (text ++ 10 ∷ [])
   -- the profile is outside the fragment
-  outside : AnsweredBy command top profile input status.Refused (codes "prove: P3 Limit" ++ 10 ∷ [])
-  -- a line can't be read
-  bad_line : (n : ℕ) → IsBadLine input n → AnsweredBy command top profile input status.Refused (input_name command ++ codes ":" ++ decimal n ++ bad_line_words command ++ 10 ∷ [])
+  outside : refusals.IsOutside profile top → AnsweredBy command top profile input status.Refused (codes "prove: P3 Limit" ++ 10 ∷ [])
+  -- the profile is read, and a line can't be
+  bad_line : (p : NormalForm) (n : ℕ) → StandsFor profile top p → IsBadLine input n
+      → AnsweredBy command top profile input status.Refused (input_name command ++ codes ":" ++ decimal n ++ bad_line_words command ++ 10 ∷ [])
   -- a line for each item or packet, by the profile that the octets stand for
   answered : {s : Status} {output : List ℕ} (p : NormalForm) (inputs : List (List Bool)) → StandsFor profile top p → HasTexts input inputs
       → Prints command top p 1 inputs s output → AnsweredBy command top profile input s output

@@ -5,10 +5,10 @@ ghost use Rattle.std.specs.Str.Lines.{lines};
 ghost use Rattle.std.specs.Io.KnownBytes.{Appends, Consumes, IsAtEnd};
 ghost use Rattle.rohcfn_tool.specs.Program.{IsInput, IsShortInput, large_line, RefusesBy, Replies, RepliesBy, RunGives, bad_part_line, most_octets, shown_name, words_in};
 
-use crate::bundle::{BadPart, Parts, split};
 use crate::replies::answer;
 use crate::status::{Answer, Status};
 use crate::words::{WordsError, read_order};
+use rohcfn_bundle::{BadPart, Parts, split};
 use std::alloc::{AllocError, Global};
 use std::io::{Read, Write};
 

@@ -1,18 +1,18 @@
 //! What is printed for an order and the parts of the input.
 
 ghost use Rattle.std.specs.Prelude.{◌≡◌, ◌∷◌, ◌++◌, [], ℕ, List, IfOk, OnOk, codes, decimal, string_bytes};
+ghost use Rattle.fn_fragment.specs.Refusals.{Refuses};
 ghost use Rattle.rohcfn_tool.specs.Printed.{IsPrinted, IsProfileFault, IsRefusal, Prints, Answers, AnswersBy, input_name, bad_line_words};
 
-use crate::bundle::Parts;
 use crate::inputs::{BadLine, read_inputs};
-use crate::normal::{ProfileError, read_profile};
-use crate::reader::{Read, UnpackFault, unpack};
 use crate::status::{Answer, Status};
 use crate::words::{Command, Order};
-use crate::writer::{PackFault, Written, pack};
 use fn_bits::{Bits, Cursor};
+use fn_engine::{PackFault, Read, UnpackFault, Written, pack, unpack};
+use fn_fragment::{ProfileError, read_profile};
 use fn_model::Profile;
 use fn_source::{Fault, line_column};
+use rohcfn_bundle::Parts;
 use std::alloc::{AllocError, Global};
 
 /// A line of the output.
@@ -57,12 +57,7 @@ fn answer_lines(
 {
     let normal = match read_profile(alloc, profile, top) {
         Ok(normal) => normal,
-        Err(ProfileError::Fault(fault)) => {
-            let line = profile_line(alloc, profile, fault)?;
-            return refusal(alloc, line.as_str());
-        }
-        Err(ProfileError::Limit) => return refusal(alloc, "prove: P3 Limit"),
-        Err(ProfileError::OutOfMemory) => return Err(AllocError),
+        Err(error) => return profile_refusal(alloc, profile, error),
     };
     match read_inputs(alloc, input) {
         Ok(inputs) => print_all(alloc, command, top, &normal, inputs.as_slice()),
@@ -71,6 +66,20 @@ fn answer_lines(
             refusal(alloc, line.as_str())
         }
         Err(BadLine::OutOfMemory) => Err(AllocError),
+    }
+}
+
+/// The line of a profile that is refused.
+fn profile_refusal(alloc: Global, octets: &[u8], error: ProfileError) -> Result<Answer, AllocError>
+    ensures { (command : Command) (top input : List ℕ) → Refuses octets.now top error → IfOk result (AnswersBy command top octets.now input) }
+{
+    match error {
+        ProfileError::Fault(fault) => {
+            let line = profile_line(alloc, octets, fault)?;
+            refusal(alloc, line.as_str())
+        }
+        ProfileError::Limit => refusal(alloc, "prove: P3 Limit"),
+        ProfileError::OutOfMemory => Err(AllocError),
     }
 }
 
@@ -88,7 +97,7 @@ fn refusal(alloc: Global, line: &str) -> Result<Answer, AllocError>
 
 /// A fault of the profile, at its line and column.
 fn profile_line(alloc: Global, octets: &[u8], fault: Fault) -> Result<String, AllocError>
-    ensures { IfOk result (λ text. IsProfileFault octets.now (string_bytes text)) }
+    ensures { IfOk result (λ text. IsProfileFault octets.now fault (string_bytes text)) }
 {
     let place = line_column(octets, fault.at.from);
     let (line, column) = (place.line, place.column);

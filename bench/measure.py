@@ -1,0 +1,47 @@
+"""One run of the built program: its time and its peak memory."""
+import os
+import resource
+import subprocess
+import sys
+import time
+
+ROOT = os.path.dirname(os.path.dirname(os.path.abspath(__file__)))
+PROGRAM = os.path.join(ROOT, "crates", "rohcfn", "out", "rohcfn")
+ROUNDS = 15
+MIB = 1024 * 1024
+
+
+def run(data):
+    """Time and peak memory of one run, in a child of its own."""
+    read, write = os.pipe()
+    child = os.fork()
+    if child == 0:
+        start = time.perf_counter()
+        done = subprocess.run([PROGRAM], input=data, stdout=subprocess.PIPE)
+        took = time.perf_counter() - start
+        peak = resource.getrusage(resource.RUSAGE_CHILDREN).ru_maxrss * 1024
+        out = "%d %r %d\n" % (done.returncode, took, peak)
+        with os.fdopen(write, "wb") as pipe:
+            pipe.write(out.encode())
+            pipe.write(done.stdout)
+        os._exit(0)
+    os.close(write)
+    with os.fdopen(read, "rb") as pipe:
+        status, took, peak = pipe.readline().split()
+        output = pipe.read()
+    os.waitpid(child, 0)
+    return int(status), float(took), int(peak), output
+
+
+def best_of(data, status, output):
+    """The least time and the greatest peak of some runs, each of which must end and print as said."""
+    if not os.access(PROGRAM, os.X_OK):
+        sys.exit("build the program first: bin/rohcfn pack --top plain < examples/plain.bundle")
+    best, most = None, 0
+    for _ in range(ROUNDS):
+        found, took, peak, printed = run(data)
+        if found != status or printed != output:
+            sys.exit("wrong output or status %d" % found)
+        best = took if best is None else min(best, took)
+        most = max(most, peak)
+    return best, most

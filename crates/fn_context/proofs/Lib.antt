@@ -1,0 +1,4 @@
+pub mod Overrides
+pub mod Lines
+pub mod Paths
+pub mod Readings

@@ -1,0 +1,26 @@
+-- A context: the bits that fields had last, by their paths, in order.
+use Rattle.std.specs.Prelude.{ℕ, Bool, List, [], ◌∷◌, Option, fold, if◌then◌else◌}
+use Rattle.std.specs.List.{IsDistinct}
+use Rattle.std.specs.Map.{lookup, keys_of}
+use Rattle.std.specs.Str.{bytes_eq}
+
+-- paths, each as its octets, with their bits
+abbrev pub Entries : Type 0
+Entries = List (List ℕ × List Bool)
+
+-- the bits at a path
+abbrev pub bits_at : Entries → List ℕ → Option (List Bool)
+bits_at es path = lookup (bytes_eq path) es
+
+-- no path stands twice
+abbrev pub AreDistinct : Entries → Type 0
+AreDistinct es = IsDistinct bytes_eq (keys_of es)
+
+-- The entries with bits at a path: a path that is there keeps its place, and a new one goes last.
+abbrev pub with_entry : Entries → List ℕ → List Bool → Entries
+with_entry [] path bits = (path, bits) ∷ []
+with_entry (e ∷ es) path bits = if bytes_eq path e.0 then (e.0, bits) ∷ es else e ∷ with_entry es path bits
+
+-- the entries with each of others in turn
+abbrev pub overridden : Entries → Entries → Entries
+overridden es others = fold (λ done e. with_entry done e.0 e.1) es others

@@ -1,0 +1,87 @@
+ghost use Rattle.std.specs.Prelude.{◌≡◌, [], length, map, IfOk, OnOk, OnErr, string_bytes};
+ghost use Rattle.std.specs.Option.{option_copied};
+ghost use Rattle.fn_context.specs.Entries.{AreDistinct, bits_at, overridden, with_entry};
+
+use fn_bits::Bits;
+use indexmap::IndexMap;
+use std::alloc::{AllocError, Global};
+use std::marker::Model;
+
+/// Bits by path, in order.
+#[derive(Drop)]
+pub struct Context {
+    pub(crate) kept: IndexMap<String, Bits>,
+}
+
+// Clauses see the list of the entries: each path as its octets, and its bits.
+impl Model for Context {
+    ghost use Rattle.std.specs.Prelude.{map, string_bytes};
+    ghost use Rattle.std.specs.String.{string_eq};
+    ghost use Rattle.indexmap.specs.IndexMap.{IsUnique};
+    ghost use Rattle.fn_context.specs.Entries.{Entries};
+
+    ghost Value = { Entries };
+
+    ghost view = { λ c. map (λ e. (string_bytes e.0, e.1)) c.kept.entries };
+
+    ghost invariant = { λ c. IsUnique string_eq c.kept };
+}
+
+impl Context {
+    /// No entries.
+    pub fn new(alloc: Global) -> Context
+        ensures { result ≡ [] }
+    {
+        Context {
+            kept: IndexMap::new(alloc),
+        }
+    }
+
+    /// How many entries there are.
+    pub fn len(&self) -> usize
+        ensures value { result ≡ length self.now }
+        ensures distinct { AreDistinct self.now }
+    {
+        self.kept.len()
+    }
+
+    /// The bits at a path.
+    pub fn get(&self, path: &str) -> Option<&Bits>
+        ensures { option_copied result ≡ bits_at self.now path.now }
+    {
+        self.kept.get(path)
+    }
+
+    /// Puts bits at each path in turn: a path that is there keeps its place, a new one goes last, and of two entries for one
+    /// path the later counts. Where memory runs out the context is as before.
+    pub fn replace(&mut self, entries: Vec<(String, Bits)>) -> Result<(), AllocError>
+        ensures ok { OnOk result (self.new ≡ overridden self.old (map (λ e. (string_bytes e.0, e.1)) entries.items)) }
+        ensures err { OnErr result (self.new ≡ self.old) }
+    {
+        self.kept.reserve(entries.len())?;
+        for (path, bits) in entries {
+            self.kept.insert(path, bits)?;
+        }
+        Ok(())
+    }
+
+    /// Puts bits at one path, as `replace` does.
+    pub(crate) fn put(&mut self, path: String, found: Bits) -> Result<(), AllocError>
+        ensures ok { OnOk result (self.new ≡ with_entry self.old (string_bytes path) found) }
+        ensures err { OnErr result (self.new ≡ self.old) }
+    {
+        self.kept.insert(path, found)?;
+        Ok(())
+    }
+
+    /// The same entries again.
+    pub fn copy(&self, alloc: Global) -> Result<Context, AllocError>
+        ensures { IfOk result (λ c. c ≡ self.now) }
+    {
+        let mut kept = IndexMap::with_capacity(alloc, self.len())?;
+        for (path, bits) in &self.kept {
+            kept.insert(String::from_str(alloc, path.as_str())?, bits.copy(alloc)?)?;
+        }
+        Ok(Context { kept })
+    }
+}

@@ -1,0 +1,12 @@
+pub mod Agreement
+pub mod ByRules
+pub mod EndPoints
+pub mod Few
+pub mod Fitting
+pub mod Floors
+pub mod Lie
+pub mod Limits
+pub mod Parts
+pub mod Powers
+pub mod Products
+pub mod Sound

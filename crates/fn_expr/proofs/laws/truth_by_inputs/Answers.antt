@@ -1,0 +1,5 @@
+use Rattle.fn_expr.proofs.Agreement as lemmas
+use Rattle.fn_expr.proofs.laws.truth_by_inputs.Goals as goal
+
+pub returns : goal.returns
+returns c = lemmas.same_truth

@@ -1,0 +1,21 @@
+//! Expressions of the notation: their values over unbounded whole numbers, and the ranges of those values.
+#![tactic(auto)]
+
+pub use expr::{Attribute, Comparison, Cond, Expr, Measure, Operator, Side, Subject};
+pub use fault::{RangeFault, RangeFaultKind};
+pub use inputs::{Input, condition_input_at, input_at};
+pub use interval::Interval;
+pub use known::{Known, Numbers, SideNumbers};
+pub use ranges::{Intervals, Ranges, SideIntervals, condition_fault, range};
+pub use values::{decide, value};
+
+pub mod expr;
+pub mod fault;
+pub mod inputs;
+pub mod interval;
+pub mod known;
+pub mod laws;
+pub mod ranges;
+#[cfg(test)]
+mod tests;
+pub mod values;

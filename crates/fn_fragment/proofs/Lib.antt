@@ -1,0 +1,4 @@
+pub mod Walks
+pub mod Listing
+pub mod Lacking
+pub mod Refusing

@@ -1,0 +1,5 @@
+use Rattle.fn_lib.proofs.Solutions.{one_up, one_down}
+use Rattle.fn_lib.proofs.laws.one_solution.Goals as goal
+
+pub returns : goal.returns
+returns c = record { up = one_up; down = one_down }

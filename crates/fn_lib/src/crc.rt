@@ -1,0 +1,158 @@
+//! The method that sends a checksum, and its register.
+ghost use Rattle.std.specs.Prelude.{◌≡◌, ℕ, ◌+◌, ◌%◌, ◌^◌, ◌<◌, ◌≤◌, ◌↔◌, Bool, List, Option, length, reverse, take, drop, fold, IsTrue, IfOk, IfSome, IfNone};
+ghost use Rattle.fn_bits.specs.Number.{num};
+ghost use Rattle.fn_lib.specs.Crc.{crc_step, crc_register};
+ghost use Rattle.fn_lib.specs.Methods.{Lib, IsOnly, CrcHolds, crc};
+
+use crate::lsb::low_part;
+use fn_bits::Bits;
+use std::alloc::{AllocError, Global};
+
+/// The uncompressed side under `crc(bits, polynomial, initial, covered, length)`: no bits, `None` where the compressed side
+/// is not the checksum or there is none, as `crc_down` says.
+pub fn crc_up(
+    alloc: Global,
+    bits: i128,
+    polynomial: i128,
+    initial: i128,
+    covered: &Bits,
+    length: i128,
+    c: &Bits,
+) -> Option<Bits>
+    ensures { (r : Option (List Bool)) → IsOnly (λ u. Lib (crc bits polynomial initial covered.now length) r u c.now) result }
+{
+    let Some(sum) = register_of(bits, polynomial, initial, covered, length) else {
+        return None;
+    };
+    let Some(value) = c.value() else {
+        return None;
+    };
+    if c.len() == sum.bits && value == sum.register {
+        Some(Bits::new(alloc))
+    } else {
+        None
+    }
+}
+
+/// The compressed side under `crc(bits, polynomial, initial, covered, length)`: as many bits as said, which spell the register
+/// after the covered bits. It is `None` where the uncompressed side is not empty, `bits` is not from 1 to 64, the polynomial
+/// or the initial register is negative or does not fit in so many bits, or the covered bits are not whole octets or not
+/// `length` bits.
+pub fn crc_down(
+    alloc: Global,
+    bits: i128,
+    polynomial: i128,
+    initial: i128,
+    covered: &Bits,
+    length: i128,
+    u: &Bits,
+) -> Result<Option<Bits>, AllocError>
+    ensures { IfOk result (λ o. (r : Option (List Bool)) → IsOnly (λ c. Lib (crc bits polynomial initial covered.now length) r u.now c) o) }
+{
+    if !u.is_empty() {
+        return Ok(None);
+    }
+    let Some(sum) = register_of(bits, polynomial, initial, covered, length) else {
+        return Ok(None);
+    };
+    Bits::from_value(alloc, sum.bits, sum.register)
+}
+
+/// The register of so many bits after the covered bits, octet by octet, each octet's lowest bit first: for each bit it is
+/// shifted right by one, and the polynomial is put over it where its lowest bit differed. Nothing is put over it at the end.
+pub fn crc_of(bits: usize, polynomial: u64, initial: u64, covered: &Bits) -> u64
+    requires some_bits { 1 ≤ bits }
+    requires short { bits ≤ 64 }
+    requires polynomial_fits { polynomial < 2 ^ bits }
+    requires initial_fits { initial < 2 ^ bits }
+    requires whole_octets { length covered.now % 8 ≡ 0 }
+    ensures value { result ≡ crc_register polynomial initial covered.now }
+    ensures fits { result < 2 ^ bits }
+{
+    let mut register = initial;
+    for octet in 0..covered.len() / 8 {
+        register = after_octet(polynomial, register, covered, 8 * octet);
+    }
+    register
+}
+
+/// The register after the octet that begins at a place, its lowest bit first.
+fn after_octet(polynomial: u64, before: u64, covered: &Bits, start: usize) -> u64
+    requires limit { length covered.now < 2 ^ 31 }
+    requires within { start + 8 ≤ length covered.now }
+    ensures { result ≡ fold (crc_step polynomial) before (reverse (take 8 (drop start covered.now))) }
+{
+    let mut register = before;
+    for k in 0..8 {
+        let bit = covered.get(start + 7 - k).unwrap_or(false);
+        register = after_bit(polynomial, register, bit);
+    }
+    register
+}
+
+/// The register after one more bit.
+fn after_bit(polynomial: u64, register: u64, bit: bool) -> u64
+    ensures { result ≡ crc_step polynomial register bit }
+{
+    if register % 2 == u64::from(bit) {
+        register / 2
+    } else {
+        (register / 2) ^ polynomial
+    }
+}
+
+/// A register and how many bits it has.
+#[derive(Debug, Drop)]
+struct Checksum {
+    bits: usize,
+    register: u64,
+}
+
+/// The register after the covered bits, or `None` where an argument is out of range.
+fn register_of(
+    bits: i128,
+    polynomial: i128,
+    initial: i128,
+    covered: &Bits,
+    size: i128,
+) -> Option<Checksum>
+    ensures fits { IfSome result (λ s. (s.bits ≤ 64) × (s.register < 2 ^ s.bits)) }
+    ensures found { IfSome result (λ s. (c : List Bool) → CrcHolds bits polynomial initial covered.now size c ↔ ((length c ≡ s.bits) × (num c ≡ s.register))) }
+    ensures none { IfNone result ((c : List Bool) → CrcHolds bits polynomial initial covered.now size c → ⊥) }
+{
+    let Ok(count) = usize::try_from(bits) else {
+        return None;
+    };
+    let Ok(poly) = u64::try_from(polynomial) else {
+        return None;
+    };
+    let Ok(init) = u64::try_from(initial) else {
+        return None;
+    };
+    if covered.len() % 8 != 0 {
+        return None;
+    }
+    if covered.len() as i128 != size {
+        return None;
+    }
+    if count == 0 {
+        return None;
+    }
+    if !has_room(count, poly) {
+        return None;
+    }
+    if !has_room(count, init) {
+        return None;
+    }
+    Some(Checksum {
+        bits: count,
+        register: crc_of(count, poly, init, covered),
+    })
+}
+
+/// Whether a number fits in so many bits, which are at most 64.
+fn has_room(bits: usize, value: u64) -> bool
+    ensures { IsTrue result ↔ ((bits ≤ 64) × (value < 2 ^ bits)) }
+{
+    bits <= 64 && low_part(bits, value) == value
+}

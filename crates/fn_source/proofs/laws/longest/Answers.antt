@@ -1,0 +1,5 @@
+use Rattle.fn_source.proofs.Longest as lemmas
+use Rattle.fn_source.proofs.laws.longest.Goals as goal
+
+pub returns : goal.returns
+returns c = lemmas.longest

@@ -1,0 +1,16 @@
+pub mod After
+pub mod Agree
+pub mod AgreeFile
+pub mod Counted
+pub mod Exprs
+pub mod Few
+pub mod Files
+pub mod Local
+pub mod Many
+pub mod Marks
+pub mod MarksFile
+pub mod SoundExpr
+pub mod SoundFile
+pub mod Viable
+pub mod WholeExpr
+pub mod WholeFile

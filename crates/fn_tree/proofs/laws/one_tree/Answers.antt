@@ -1,0 +1,5 @@
+use Rattle.fn_tree.proofs.Viable.{one_tree}
+use Rattle.fn_tree.proofs.laws.one_tree.Goals as goal
+
+pub returns : goal.returns
+returns c = one_tree

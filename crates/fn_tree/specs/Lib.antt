@@ -1,0 +1,11 @@
+pub mod Counts
+pub mod Cursor
+pub mod Expr
+pub mod File
+pub mod Grammar
+pub mod Limits
+pub mod Operators
+pub mod Reading
+pub mod Refused
+pub mod Rules
+pub mod Spans

@@ -1,0 +1,63 @@
+//! A whole text.
+
+ghost use Rattle.std.specs.Prelude.{◌≡◌, ◌⊎◌, List, length, IfOk, IfErr, MatchResult, Ok, Err};
+ghost use Rattle.fn_source.specs.declared.token.Token.{Token};
+ghost use Rattle.fn_tree.specs.declared.refusal.Refusal.{Refusal};
+ghost use Rattle.fn_tree.specs.declared.tree.File.{File};
+ghost use Rattle.fn_tree.specs.File as read;
+ghost use Rattle.fn_tree.specs.Grammar.{Parsed};
+ghost use Rattle.fn_tree.specs.Refused as refused;
+ghost use Rattle.fn_tree.specs.Rules.{all};
+
+use crate::file::parts;
+use crate::refusal::{ParseError, Place, Refusal};
+use crate::tokens::Tokens;
+use crate::tree::File;
+use fn_source::{Fault, Source, SourceError, Span, Token};
+use std::alloc::Global;
+
+/// The fault of a refusal, in the words of a text of so many octets.
+fn fault_of(len: usize, refusal: Refusal) -> Fault
+    ensures { result ≡ refused.fault_of len refusal }
+{
+    let at = match refusal.at {
+        Place::At(at) => at,
+        Place::End => Span { from: len, to: len },
+    };
+    Fault {
+        kind: refusal.kind,
+        at,
+        first: None,
+        second: None,
+    }
+}
+
+/// The tree of a profile's tokens, or the fault at the first token that can't go on.
+///
+/// E10 stands at that token, or with no octet at the end of the text; so do E11, E13 and E15, but that a constant or a
+/// method too many is refused at its name. E12 stands at the `[`, E14 at the first `%` of its sum.
+pub fn parse(alloc: Global, source: &Source<'_>, tokens: &[Token]) -> Result<File, SourceError>
+    // What is read is the tree of the tokens, and they keep every rule.
+    ensures found { IfOk result (λ file. Parsed tokens.now file) }
+    // Tokens with a tree are read as that one, and refused only for want of memory.
+    ensures only { (file : File) → Parsed tokens.now file → MatchResult result (λ f. f ≡ file) (λ e. e ≡ SourceError.OutOfMemory) }
+    // No text that keeps the fault's rule begins with the tokens up to and with the one that is refused; at the end, the
+    // tokens are no text.
+    ensures refused { IfErr result (refused.Refuses (length source.now) tokens.now) }
+    // Which fault it is: that of the reading function.
+    ensures exact { MatchResult result
+        (λ f. (rest : List Token) × (read.parts all tokens.now ≡ Ok (f.parts, rest)))
+        (λ e. (refusal : Refusal) → read.parts all tokens.now ≡ Err refusal
+        → (e ≡ SourceError.Fault (refused.fault_of (length source.now) refusal)) ⊎ (e ≡ SourceError.OutOfMemory)) }
+{
+    let mut rest = Tokens::new(tokens);
+    match parts(alloc, &mut rest) {
+        Ok(parts) => Ok(File { parts }),
+        Err(error) => match error {
+            ParseError::Memory => Err(SourceError::OutOfMemory),
+            ParseError::Refused(refusal) => {
+                Err(SourceError::Fault(fault_of(source.len(), refusal)))
+            }
+        },
+    }
+}

@@ -1,0 +1,123 @@
+//! The tokens that are still to be read.
+
+ghost use Rattle.std.specs.Prelude.{◌≡◌, List};
+ghost use Rattle.fn_tree.specs.Reading as spec;
+ghost use Rattle.fn_tree.specs.Reading.{Reads};
+ghost use Rattle.fn_source.specs.declared.fault.FaultKind.TheVariants as kinds;
+
+use crate::refusal::{ParseError, Place, Refusal};
+use fn_source::{FaultKind, Kind, Mark, Span, Token, is_mark};
+use std::marker::Model;
+
+/// The tokens from the next one on.
+#[derive(Drop)]
+pub struct Tokens<'a> {
+    rest: &'a [Token],
+}
+
+impl<'a> Model for Tokens<'a> {
+    ghost use Rattle.std.specs.Prelude.{List};
+    ghost use Rattle.std.specs.Coded.{coded_list};
+    ghost use Rattle.fn_source.specs.declared.token.Token.{Token};
+    ghost use Rattle.fn_tree.specs.Cursor.{token_code};
+
+    ghost Value = { List Token };
+
+    ghost coded = { coded_list token_code };
+
+    ghost view = { λ t. t.rest.now };
+}
+
+impl<'a> Tokens<'a> {
+    pub fn new(rest: &'a [Token]) -> Tokens<'a>
+        ensures { result ≡ rest.now }
+    {
+        Tokens { rest }
+    }
+
+    /// The kind of the next token.
+    pub fn peek(&self) -> Option<Kind>
+        ensures { result ≡ spec.kind_at self.now }
+    {
+        match self.rest {
+            [] => None,
+            [first, ..] => Some(first.kind),
+        }
+    }
+
+    fn place(&self) -> Place
+        ensures { result ≡ spec.place self.now }
+    {
+        match self.rest {
+            [] => Place::End,
+            [first, ..] => Place::At(first.span),
+        }
+    }
+
+    /// A fault at the next token.
+    pub fn stops(&self, kind: FaultKind) -> ParseError
+        ensures { result ≡ ParseError.Refused (spec.refusal_of kind (spec.place self.now)) }
+    {
+        ParseError::Refused(Refusal {
+            kind,
+            at: self.place(),
+        })
+    }
+
+    /// Why no rule reads the next token.
+    pub fn refusal(&self) -> ParseError
+        ensures { result ≡ ParseError.Refused (spec.refusal_of kinds.Unexpected (spec.place self.now)) }
+    {
+        self.stops(FaultKind::Unexpected)
+    }
+
+    /// Takes the next token, whatever it is.
+    pub fn take(&mut self) -> Result<Span, ParseError>
+        ensures { Reads (spec.take self.old) result self.new }
+    {
+        match self.rest {
+            [] => Err(self.refusal()),
+            [first, rest @ ..] => {
+                let span = first.span;
+                self.rest = rest;
+                Ok(span)
+            }
+        }
+    }
+
+    pub fn has_more(&self) -> bool
+        ensures { result ≡ spec.is_there (spec.kind_at self.now) }
+    {
+        !self.rest.is_empty()
+    }
+
+    pub fn sees(&self, mark: Mark) -> bool
+        ensures { result ≡ spec.is_next mark (spec.kind_at self.now) }
+    {
+        match self.rest {
+            [] => false,
+            [first, ..] => is_mark(first.kind, mark),
+        }
+    }
+
+    /// Takes this mark.
+    pub fn expect(&mut self, mark: Mark) -> Result<Span, ParseError>
+        ensures { Reads (spec.expect mark self.old) result self.new }
+    {
+        if self.sees(mark) {
+            self.take()
+        } else {
+            Err(self.refusal())
+        }
+    }
+}
+
+/// A fault at an earlier place.
+pub fn stops_at(kind: FaultKind, at: Span) -> ParseError
+    ensures { result ≡ ParseError.Refused (spec.refusal_of kind (Place.At at)) }
+{
+    ParseError::Refused(Refusal {
+        kind,
+        at: Place::At(at),
+    })
+}

@@ -1,0 +1,4 @@
+pub mod BundleHeld
+pub mod BundleLines
+pub mod BundleParts
+pub mod BundleSpelled

@@ -1,5 +1,0 @@
-use Rattle.rohcfn_tool.proofs.Listing.{Listed}
-use Rattle.rohcfn_tool.proofs.normal.profile.Given as goal
-
-abbrev pub invariant-loop-binding : goal.invariant-loop-binding
-invariant-loop-binding l = Listed l.source l.method l.binding-index l.fields l.listing
