@@ -1,8 +1,6 @@
 #!/usr/bin/env python3
 """Growth of `pack` and `unpack` over the lines of the plain profile, on the built program."""
-import sys
-
-from measure import MIB, best_of
+from measure import grows, report
 
 PROFILE = """plain
 {
@@ -39,24 +37,16 @@ def expected(command, count):
     return "".join("16:%04x took 18\n" % header(i) for i in range(count)).encode()
 
 
+def cases(command):
+    for count in SIZES:
+        data = bundle(command, count)
+        yield count, data, 0, expected(command, count), len(data)
+
+
 def main():
-    good = True
     print("| command | lines | input octets | ms | ns a line | peak MiB | octets beyond 32 MiB an octet |")
     print("|---|---|---|---|---|---|---|")
-    for command in ("pack", "unpack"):
-        per_line = {}
-        for count in SIZES:
-            data = bundle(command, count)
-            best, most = best_of(data, 0, expected(command, count))
-            per_line[count] = best / count
-            beyond = max(0, most - 32 * MIB) / len(data)
-            good = good and beyond <= 64
-            print("| %s | %d | %d | %.1f | %.0f | %.1f | %.1f |" % (command, count, len(data), best * 1e3, per_line[count] * 1e9, most / MIB, beyond))
-        ratio = per_line[SIZES[-1]] / per_line[SIZES[-3]]
-        good = good and ratio <= 1.25
-        print("| %s | | | | a line at the largest, over a quarter of it: %.2f | | |" % (command, ratio))
-    print("growth: 1 passed, 0 failed" if good else "growth: 0 passed, 1 failed")
-    sys.exit(0 if good else 1)
+    report("growth", all([grows(command, cases(command), 64) for command in ("pack", "unpack")]))
 
 
 main()

@@ -45,3 +45,24 @@ def best_of(data, status, output):
         best = took if best is None else min(best, took)
         most = max(most, peak)
     return best, most
+
+
+def grows(name, cases, most_beyond):
+    """A row for each case (its count, its input, the status and output that are due, and the octets that its memory goes by), and
+    whether one at the largest takes at most 1.25 times one at a quarter of it, and the memory beyond 32 MiB stays in bounds."""
+    good = True
+    per_unit = []
+    for count, data, status, output, units in cases:
+        best, most = best_of(data, status, output)
+        per_unit.append(best / count)
+        beyond = max(0, most - 32 * MIB) / units
+        good = good and beyond <= most_beyond
+        print("| %s | %d | %d | %.1f | %.1f | %.1f | %.1f |" % (name, count, len(data), best * 1e3, per_unit[-1] * 1e9, most / MIB, beyond))
+    ratio = per_unit[-1] / per_unit[-3]
+    print("| %s | | | | one at the largest, over one at a quarter of it: %.2f | | |" % (name, ratio))
+    return good and ratio <= 1.25
+
+
+def report(title, good):
+    print("%s: 1 passed, 0 failed" % title if good else "%s: 0 passed, 1 failed" % title)
+    sys.exit(0 if good else 1)

@@ -2,9 +2,7 @@
 """Growth of lexing and parsing over the octets of a profile's text, on the built program.
 
 Each text is read whole and has no method of the top's name, so the program answers E27."""
-import sys
-
-from measure import MIB, best_of
+from measure import MIB, grows, report
 
 SIZES = [MIB // 16, MIB // 8, MIB // 4, MIB // 2, MIB]
 ANSWER = b"profile:1:1: E27 no such top method without parameters\n"
@@ -33,25 +31,17 @@ def comments(size):
     return "/* " + "\u20ac*" * ((size - 8) // 4) + " */\n"
 
 
+def cases(make):
+    for size in SIZES:
+        text = make(size).encode()[:size]
+        data = b"=== words\npack --top none\n=== profile\n" + text + b"=== items\n"
+        yield len(text), data, 1, ANSWER, len(text)
+
+
 def main():
-    good = True
-    print("| text | octets | ms | ns an octet | peak MiB | octets beyond 32 MiB an octet |")
-    print("|---|---|---|---|---|---|")
-    for name, make in (("methods", methods), ("expressions", expressions), ("comments", comments)):
-        per_octet = {}
-        for size in SIZES:
-            text = make(size).encode()[:size]
-            data = b"=== words\npack --top none\n=== profile\n" + text + b"=== items\n"
-            best, most = best_of(data, 1, ANSWER)
-            per_octet[size] = best / len(text)
-            beyond = max(0, most - 32 * MIB) / len(text)
-            good = good and beyond <= 100
-            print("| %s | %d | %.1f | %.1f | %.1f | %.1f |" % (name, len(text), best * 1e3, per_octet[size] * 1e9, most / MIB, beyond))
-        ratio = per_octet[SIZES[-1]] / per_octet[SIZES[-3]]
-        good = good and ratio <= 1.25
-        print("| %s | | | an octet at the largest, over a quarter of it: %.2f | | |" % (name, ratio))
-    print("texts: 1 passed, 0 failed" if good else "texts: 0 passed, 1 failed")
-    sys.exit(0 if good else 1)
+    print("| text | octets | input octets | ms | ns an octet | peak MiB | octets beyond 32 MiB an octet |")
+    print("|---|---|---|---|---|---|---|")
+    report("texts", all([grows(make.__name__, cases(make), 100) for make in (methods, expressions, comments)]))
 
 
 main()
