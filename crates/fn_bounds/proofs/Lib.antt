@@ -1,0 +1,9 @@
+pub mod Places
+pub mod Narrowing
+pub mod Totals
+pub mod Tables
+pub mod Folding
+pub mod Calling
+pub mod Earliest
+pub mod Faultless
+pub mod Ruling

@@ -1,0 +1,5 @@
+use Rattle.fn_bounds.proofs.Ruling.{by-rules}
+use Rattle.fn_bounds.proofs.laws.bounds_by_rules.Goals as goal
+
+pub returns : goal.returns
+returns c = by-rules

@@ -1,0 +1,5 @@
+use Rattle.fn_bounds.proofs.Faultless.{faultless}
+use Rattle.fn_bounds.proofs.laws.faultless_is_sound.Goals as goal
+
+pub returns : goal.returns
+returns c = faultless

@@ -1,0 +1,155 @@
+-- The faults of the expressions of a format.
+pub use Rattle.fn_profile.specs.Judging.{earliest}
+use Rattle.std.specs.Prelude.{ℕ, ◌+◌, ◌-◌, ◌^◌, min, nat_lt, Bool, false, List, length, map, slice_get, is_none, Option, Some, None, if◌then◌else◌}
+use Rattle.std.specs.Option.{option_map, unwrap_or}
+use Rattle.std.specs.List.{list_any}
+use Rattle.std.specs.Result.{result_err}
+use Rattle.fn_source.specs.declared.span.Span.{Span}
+use Rattle.fn_expr.specs.declared.expr.Attribute.{Attribute}
+use Rattle.fn_expr.specs.declared.expr.Subject.{Subject}
+use Rattle.fn_expr.specs.declared.expr.Subject.TheVariants as subject
+use Rattle.fn_expr.specs.declared.expr.Side.{Side}
+use Rattle.fn_expr.specs.declared.expr.Side.TheVariants.{Uncompressed, Compressed}
+use Rattle.fn_expr.specs.declared.expr.Measure.TheVariants.{Value, Length}
+use Rattle.fn_expr.specs.declared.expr.Measure.{Measure}
+use Rattle.fn_expr.specs.declared.expr.Expr.{Expr}
+use Rattle.fn_expr.specs.declared.expr.Expr.TheVariants as expr
+use Rattle.fn_expr.specs.declared.expr.Expr.TheVariants.{Number, Parameter, Binary'}
+use Rattle.fn_expr.specs.declared.expr.Cond.{Cond}
+use Rattle.fn_expr.specs.declared.expr.Cond.TheVariants.{Constant, Compare, Not', And', Or'}
+use Rattle.fn_expr.specs.declared.fault.RangeFault.{RangeFault}
+use Rattle.fn_expr.specs.declared.fault.RangeFaultKind.{RangeFaultKind}
+use Rattle.fn_expr.specs.declared.fault.RangeFaultKind.TheVariants as range_kinds
+use Rattle.fn_expr.specs.declared.ranges.Ranges.{Ranges}
+use Rattle.fn_expr.specs.Ranged.{ranged, fault_in}
+use Rattle.fn_expr.specs.Bounds.{bounding_of}
+use Rattle.fn_profile.specs.declared.profile.Bounds.{Bounds}
+use Rattle.fn_profile.specs.declared.profile.Sizes.{Sizes}
+use Rattle.fn_profile.specs.declared.profile.FormatSizes.{FormatSizes}
+use Rattle.fn_profile.specs.declared.profile.Library.{Library}
+use Rattle.fn_profile.specs.declared.profile.Library.TheVariants as library
+use Rattle.fn_profile.specs.declared.profile.Encoding.{Encoding}
+use Rattle.fn_profile.specs.declared.profile.Encoding.TheVariants as encoding
+use Rattle.fn_profile.specs.declared.profile.Constraint.{Constraint}
+use Rattle.fn_profile.specs.declared.profile.Constraint.TheVariants.{Bracket, Enforce}
+use Rattle.fn_profile.specs.declared.profile.Field.{Field}
+use Rattle.fn_profile.specs.declared.profile.Format.{Format}
+use Rattle.fn_profile.specs.declared.fault.ProfileFault.{ProfileFault}
+use Rattle.fn_profile.specs.declared.fault.ProfileFaultKind.{ProfileFaultKind}
+use Rattle.fn_profile.specs.declared.fault.ProfileFaultKind.TheVariants as kinds
+use Rattle.fn_profile.specs.Faults.{unnamed}
+use Rattle.fn_profile.specs.Judging.{earlier}
+use Rattle.fn_expr.specs.declared.interval.Interval.{Interval}
+use Rattle.fn_profile.specs.declared.profile.MethodSizes.{MethodSizes}
+use Rattle.fn_profile.specs.declared.profile.Method.{Method}
+use Rattle.fn_bounds.specs.Formats.{sizes_at}
+use Rattle.fn_bounds.specs.Ranging.{format_ranges}
+use Rattle.fn_bounds.specs.Parameters.{gathered}
+use Rattle.fn_bounds.specs.Passes.{folded}
+
+-- ---- values that may be wider than 64 bits
+
+abbrev pub side_bounds : Side → Sizes → Bounds
+side_bounds Uncompressed s = s.uncompressed
+side_bounds Compressed s = s.compressed
+
+abbrev pub subject_sizes : FormatSizes → Subject → Sizes
+subject_sizes s (subject.Field i) = sizes_at s.fields i
+subject_sizes s subject.This = s.whole
+
+-- a value is asked of bits that may be more than 64
+abbrev pub is_wide_by : Measure → Bounds → Bool
+is_wide_by Value b = nat_lt 64 b.most
+is_wide_by Length b = false
+
+abbrev pub is_wide : FormatSizes → Attribute → Bool
+is_wide s t = is_wide_by t.measure (side_bounds t.side (subject_sizes s t.subject))
+
+-- how long the word is that an attribute begins with: the field's name, or THIS
+abbrev pub word_length : List Field → Subject → ℕ
+word_length fields (subject.Field i) = unwrap_or (option_map (λ d. length d.declared.name) (slice_get fields i)) 0
+word_length fields subject.This = 4
+
+-- the first octets of a part of the text
+abbrev pub front : Span → ℕ → Span
+front at n = record { from = at.from; to = min (at.from + n) (2 ^ 64 - 1) }
+
+abbrev pub wide_value : List Field → Span → Subject → ProfileFault
+wide_value fields at s = record { kind = kinds.WideValue; at = at; first = Some (front at (word_length fields s)); second = None }
+
+abbrev pub wide_in : Format → FormatSizes → Expr → Option ProfileFault
+wide_in format s (Number at n) = None
+wide_in format s (Parameter at i) = None
+wide_in format s (expr.Attribute at t) = if is_wide s t then Some (wide_value format.fields at t.subject) else None
+wide_in format s (Binary' at op p x q y) = earlier (wide_in format s x) (wide_in format s y)
+
+abbrev pub wide_in_condition : Format → FormatSizes → Cond → Option ProfileFault
+wide_in_condition format s (Constant at b) = None
+wide_in_condition format s (Compare at op x y) = earlier (wide_in format s x) (wide_in format s y)
+wide_in_condition format s (Not' at p x) = wide_in_condition format s x
+wide_in_condition format s (And' at p x q y) = earlier (wide_in_condition format s x) (wide_in_condition format s y)
+wide_in_condition format s (Or' at p x q y) = earlier (wide_in_condition format s x) (wide_in_condition format s y)
+
+-- ---- parts without a range
+
+abbrev pub range_kind : RangeFaultKind → ProfileFaultKind
+range_kind range_kinds.AboveLimit = kinds.AboveLimit
+range_kind range_kinds.Power = kinds.Power
+
+abbrev pub of_range : RangeFault → ProfileFault
+of_range f = unnamed (range_kind f.kind) f.at
+
+-- ---- both, in an expression, in an encoding, in a constraint, in a format
+
+abbrev pub expr_fault : Format → FormatSizes → Ranges → Expr → Option ProfileFault
+expr_fault format s r e = earlier (wide_in format s e) (option_map of_range (result_err (ranged (bounding_of r) e)))
+
+abbrev pub condition_fault : Format → FormatSizes → Ranges → Cond → Option ProfileFault
+condition_fault format s r c = earlier (wide_in_condition format s c) (option_map of_range (fault_in (bounding_of r) c))
+
+-- crc's data are no expression
+abbrev pub library_fault : (Expr → Option ProfileFault) → Library → Option ProfileFault
+library_fault judge (library.UncompressedValue len v) = earlier (judge len) (judge v)
+library_fault judge (library.CompressedValue len v) = earlier (judge len) (judge v)
+library_fault judge (library.Irregular len) = judge len
+library_fault judge library.Static = None
+library_fault judge (library.Lsb k offset) = earlier (judge k) (judge offset)
+library_fault judge (library.Crc crc) = earlier (earlier (judge crc.bits) (judge crc.polynomial)) (earlier (judge crc.initial) (judge crc.length))
+
+abbrev pub encoding_fault : (Expr → Option ProfileFault) → Encoding → Option ProfileFault
+encoding_fault judge encoding.Bare = None
+encoding_fault judge (encoding.Library l) = library_fault judge l
+encoding_fault judge (encoding.Call k arguments) = earliest judge arguments
+
+abbrev pub constraint_fault : Format → FormatSizes → Ranges → Constraint → Option ProfileFault
+constraint_fault format s r (Bracket field side lengths place) = earliest (expr_fault format s r) lengths
+constraint_fault format s r (Enforce condition place) = condition_fault format s r condition
+
+abbrev pub format_fault : Format → FormatSizes → Ranges → Option ProfileFault
+format_fault format s r =
+    earlier (earliest (λ d. encoding_fault (expr_fault format s r) d.encoding) format.fields) (earliest (constraint_fault format s r) format.constraints)
+
+-- ---- in a method, and in all methods of the table
+
+-- under the ranges that the bounds and the parameters give; none without bounds
+abbrev pub sized_fault : List Interval → Format → Option FormatSizes → Option ProfileFault
+sized_fault parameters format None = None
+sized_fault parameters format (Some s) = format_fault format s (format_ranges s parameters)
+
+abbrev pub method_fault : Method → Option MethodSizes → Option ProfileFault
+method_fault m None = None
+method_fault m (Some s) = folded (λ n o format. earlier o (sized_fault s.parameters format (slice_get s.formats n))) 0 None m.formats
+
+abbrev pub methods_fault : List Method → List MethodSizes → Option ProfileFault
+methods_fault methods table = folded (λ i o m. earlier o (method_fault m (slice_get table i))) 0 None methods
+
+-- a parameter has no range: the method isn't called, or an argument has none
+abbrev pub lacks : List Method → List MethodSizes → ℕ → Method → Bool
+lacks methods table k m = list_any is_none (gathered methods table k (map (λ p. None) m.parameters))
+
+-- the fault of a method whose parameters all have ranges
+abbrev pub known_fault : List Method → List MethodSizes → ℕ → Method → Option ProfileFault
+known_fault methods table i m = if lacks methods table i m then None else method_fault m (slice_get table i)
+
+abbrev pub known_faults : List Method → List MethodSizes → Option ProfileFault
+known_faults methods table = folded (λ i o m. earlier o (known_fault methods table i m)) 0 None methods

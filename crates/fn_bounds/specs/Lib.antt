@@ -1,0 +1,11 @@
+pub mod Constants
+pub mod Fields
+pub mod Passes
+pub mod Formats
+pub mod Methods
+pub mod Ranging
+pub mod Faults
+pub mod Parameters
+pub mod Outcome
+pub mod Laws
+pub mod HasBounds

@@ -1,0 +1,14 @@
+//! What holds of profiles with bounds.
+
+ghost use Rattle.fn_bounds.specs.HasBounds as rules;
+ghost use Rattle.fn_bounds.specs.Laws as laws;
+
+/// Where a format has no fault, each of its expressions has a range and asks for no value of more than 64 bits.
+pub fn faultless_is_sound()
+    ensures { laws.FaultlessIsSound }
+{}
+
+/// Each bound of a field is one that a rule gives.
+pub fn bounds_by_rules()
+    ensures { rules.BoundsByRules }
+{}

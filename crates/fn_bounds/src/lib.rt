@@ -1,0 +1,15 @@
+//! Bounds on the lengths of fields, formats and methods, and the ranges of parameters.
+#![tactic(auto)]
+
+pub use constants::constant_of;
+pub use methods::sizes;
+pub use ranging::format_ranges;
+
+pub mod constants;
+mod fields;
+mod formats;
+mod judging;
+pub mod laws;
+pub mod methods;
+mod parameters;
+pub mod ranging;

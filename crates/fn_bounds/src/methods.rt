@@ -1,0 +1,227 @@
+//! The bounds of methods.
+
+ghost use Rattle.std.specs.Prelude.{◌≡◌, ℕ, ◌<◌, length, map, slice_set, IfOk, IfErr};
+ghost use Rattle.fn_profile.specs.Judging.{Judged};
+ghost use Rattle.fn_bounds.specs.Formats as formats;
+ghost use Rattle.fn_bounds.specs.Methods as spec;
+ghost use Rattle.fn_bounds.specs.Outcome as outcome;
+ghost use Rattle.fn_bounds.specs.Parameters.{RangedFrom};
+
+use crate::fields::NO_BITS;
+use crate::formats::format_sizes;
+use crate::judging::{known_faults, methods_fault};
+use crate::parameters::{parameter_ranges, set_parameters};
+use fn_profile::{
+    Bounds, FormatSizes, Method, MethodSizes, ProfileFault, ProfileFaultKind, ResolveError, Sizes,
+    earlier,
+};
+use sqlite_items::{Items, at};
+use std::alloc::{AllocError, Global};
+
+/// The greatest length of a header.
+const HEADER_LIMIT: u128 = 4096;
+
+/// The greatest length of a method's packed bits that a bound may give.
+const PACKED_LIMIT: u128 = 0x4_0000;
+
+fn hull(bounds: Bounds, other: Bounds) -> Bounds
+    ensures { result ≡ spec.hull bounds other }
+{
+    Bounds {
+        least: bounds.least.min(other.least),
+        most: bounds.most.max(other.most),
+    }
+}
+
+fn sides_hull(sizes: Sizes, other: Sizes) -> Sizes
+    ensures { result ≡ spec.sides_hull sizes other }
+{
+    Sizes {
+        uncompressed: hull(sizes.uncompressed, other.uncompressed),
+        compressed: hull(sizes.compressed, other.compressed),
+    }
+}
+
+fn formats_hull(formats: &[FormatSizes]) -> Sizes
+    ensures { result ≡ spec.formats_hull formats.now }
+{
+    let [first, rest @ ..] = formats else {
+        return Sizes {
+            uncompressed: NO_BITS,
+            compressed: NO_BITS,
+        };
+    };
+    let mut whole = first.whole;
+    for format in rest {
+        whole = sides_hull(whole, format.whole);
+    }
+    whole
+}
+
+fn formats_sizes(
+    alloc: Global,
+    table: &[MethodSizes],
+    method: &Method,
+) -> Result<Items<FormatSizes>, ResolveError>
+    ensures ok { IfOk result (λ fs. fs ≡ map (formats.format_sizes table.now) method.now.formats) }
+    ensures err { IfErr result (spec.OverIn table.now method.now) }
+{
+    let mut sizes = Items::new(alloc);
+    for format in method.formats.as_slice() {
+        let made = format_sizes(alloc, table, format)?;
+        let Some(size) = made else {
+            return Err(ResolveError::Fault(ProfileFault::about(
+                ProfileFaultKind::TooLarge,
+                method.place,
+            )));
+        };
+        sizes.push(size)?;
+    }
+    Ok(sizes)
+}
+
+fn method_sizes(
+    alloc: Global,
+    table: &[MethodSizes],
+    method: &Method,
+) -> Result<MethodSizes, ResolveError>
+    ensures ok { IfOk result (spec.HasSizes table.now method.now) }
+    ensures err { IfErr result (spec.OverIn table.now method.now) }
+{
+    let formats = formats_sizes(alloc, table, method)?;
+    let whole = formats_hull(formats.as_slice());
+    Ok(MethodSizes {
+        formats,
+        whole,
+        parameters: Items::new(alloc),
+    })
+}
+
+fn no_sizes(alloc: Global, count: usize) -> Result<Vec<MethodSizes>, AllocError>
+    ensures { IfOk result (λ t. length t.items ≡ count) }
+{
+    let mut table = Vec::new(alloc);
+    for _ in 0..count {
+        table.push(MethodSizes {
+            formats: Items::new(alloc),
+            whole: Sizes {
+                uncompressed: NO_BITS,
+                compressed: NO_BITS,
+            },
+            parameters: Items::new(alloc),
+        })?;
+    }
+    Ok(table)
+}
+
+fn set_sizes(table: &mut Vec<MethodSizes>, index: usize, sizes: MethodSizes)
+    requires { index < length table.old.items }
+    ensures { table.new.items ≡ slice_set table.old.items index sizes }
+{
+    table[index] = sizes;
+}
+
+fn filled(
+    alloc: Global,
+    methods: &[Method],
+    order: &[usize],
+) -> Result<Vec<MethodSizes>, ResolveError>
+    requires { spec.IsOrder methods.now order.now }
+    ensures ok { IfOk result (λ t. spec.SizedBefore methods.now order.now (length order.now) t.items) }
+    ensures err { IfErr result (outcome.Blames methods.now order.now) }
+{
+    let mut table = no_sizes(alloc, methods.len())?;
+    for index in order {
+        let Some(method) = at(methods, *index) else {
+            continue;
+        };
+        let sizes = method_sizes(alloc, table.as_slice(), method)?;
+        set_sizes(&mut table, *index, sizes);
+    }
+    Ok(table)
+}
+
+fn with_ranges(
+    alloc: Global,
+    methods: &[Method],
+    order: &[usize],
+    sized: Vec<MethodSizes>,
+) -> Result<Vec<MethodSizes>, AllocError>
+    requires order { spec.IsOrder methods.now order.now }
+    requires sized { spec.SizedBefore methods.now order.now (length order.now) sized.items }
+    ensures sized { IfOk result (λ t. spec.SizedBefore methods.now order.now (length order.now) t.items) }
+    ensures ranged { IfOk result (λ t. RangedFrom methods.now order.now 0 t.items) }
+{
+    let mut table = sized;
+    let mut left = order.len();
+    while left > 0 {
+        left -= 1;
+        let index = order[left];
+        let Some(method) = at(methods, index) else {
+            continue;
+        };
+        let parameters = parameter_ranges(alloc, methods, table.as_slice(), index, method)?;
+        set_parameters(&mut table, index, parameters);
+    }
+    Ok(table)
+}
+
+fn is_within(sizes: Sizes) -> bool
+    ensures { result ≡ spec.is_within sizes }
+{
+    sizes.uncompressed.most <= HEADER_LIMIT && sizes.compressed.most <= PACKED_LIMIT
+}
+
+fn too_wide(methods: &[Method], table: &[MethodSizes], index: usize) -> Option<ProfileFault>
+    ensures { Judged (spec.IsWithinAt methods.now table.now index) (spec.IsWide methods.now table.now) result }
+{
+    let method = at(methods, index)?;
+    let sizes = at(table, index)?;
+    if is_within(sizes.whole) {
+        None
+    } else {
+        Some(ProfileFault::about(ProfileFaultKind::TooLarge, method.place))
+    }
+}
+
+fn widest(methods: &[Method], table: &[MethodSizes]) -> Option<ProfileFault>
+    ensures { Judged ((k : ℕ) → k < length methods.now → spec.IsWithinAt methods.now table.now k) (spec.IsWide methods.now table.now) result }
+{
+    let mut found = None;
+    for index in 0..methods.len() {
+        found = earlier(found, too_wide(methods, table, index));
+    }
+    found
+}
+
+fn earliest(
+    alloc: Global,
+    methods: &[Method],
+    table: &[MethodSizes],
+) -> Result<Option<ProfileFault>, AllocError>
+    ensures { IfOk result (Judged (outcome.IsFine methods.now table.now) (outcome.IsFaulty methods.now table.now)) }
+{
+    let known = known_faults(alloc, methods, table)?;
+    let all = methods_fault(alloc, methods, table)?;
+    Ok(earlier(widest(methods, table), known).or(all))
+}
+
+/// The bounds of the methods and the ranges of their parameters. Each method comes after those that it calls in the order.
+/// A fault is `TooLarge` of a method whose header may have more than 4,096 bits or whose packed bits may be more than `2^18`,
+/// or that of an expression: `WideValue`, `AboveLimit` or `Power`.
+pub fn sizes(
+    alloc: Global,
+    methods: &[Method],
+    order: &[usize],
+) -> Result<Items<MethodSizes>, ResolveError>
+    requires { spec.IsOrder methods.now order.now }
+    ensures ok { IfOk result (outcome.AreSizes methods.now) }
+    ensures err { IfErr result (outcome.Blames methods.now order.now) }
+{
+    let sized = filled(alloc, methods, order)?;
+    let table = with_ranges(alloc, methods, order, sized)?;
+    match earliest(alloc, methods, table.as_slice())? {
+        Some(fault) => Err(ResolveError::Fault(fault)),
+        None => Ok(Items::from_vec(table)),
+    }
+}

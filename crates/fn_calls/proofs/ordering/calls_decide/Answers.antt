@@ -1,0 +1,5 @@
+use Rattle.fn_calls.proofs.Backward.{decide}
+use Rattle.fn_calls.proofs.ordering.calls_decide.Goals as goal
+
+pub returns : goal.returns
+returns c = decide

@@ -1,0 +1,5 @@
+pub mod Calls
+pub mod Order
+pub mod Measures
+pub mod Sorting
+pub mod Numbering

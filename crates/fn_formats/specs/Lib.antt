@@ -1,0 +1,5 @@
+pub mod Constraints
+pub mod Drafts
+pub mod Encodings
+pub mod Fields
+pub mod Formats

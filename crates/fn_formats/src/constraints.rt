@@ -1,0 +1,183 @@
+//! The constraints of a format.
+
+ghost use Rattle.std.specs.Prelude.{◌≡◌, ◌++◌, ◌∷◌, map, None, List, IfOk, OnOk};
+ghost use Rattle.fn_sections.specs.Causes.{earliest};
+ghost use Rattle.fn_formats.specs.Constraints as spec;
+
+use crate::encodings::fault_of;
+use fn_expr::Side;
+use fn_profile::{Constraint, ProfileFault, earlier};
+use fn_sections::mention::is_in;
+use fn_sections::{Group, Mention};
+use fn_statements::section_constraints;
+use fn_terms::Scope;
+use fn_tree::{Item, Section};
+use sqlite_items::Items;
+use std::alloc::{AllocError, Global};
+use std::slice::from_ref;
+
+/// The constraints of a format by their numbers, and the earliest fault in its statements. With a fault some are missing.
+#[derive(Debug, Drop)]
+pub struct Constraints {
+    pub found: Items<Constraint>,
+    pub fault: Option<ProfileFault>,
+}
+
+/// The constraints of a format's statements: those of UNCOMPRESSED, of CONTROL, of DEFAULT as far as they encode its fields, and its own.
+/// For each field the statement that encodes it is chosen.
+pub fn format_constraints(
+    alloc: Global,
+    scope: &Scope<'_, '_>,
+    sections: &[Section],
+    chosen: &[Option<Mention>],
+    own: &[Item],
+) -> Result<Constraints, AllocError>
+    ensures fault { IfOk result (λ c. c.fault ≡ earliest (spec.statement_fault scope.now) (spec.statements scope.now chosen.now sections.now own.now)) }
+    ensures found { IfOk result (λ c. c.fault ≡ None → spec.AreNumbered scope.now (spec.statements scope.now chosen.now sections.now own.now) c.found) }
+{
+    let mut all = Constraints {
+        found: Items::new(alloc),
+        fault: None,
+    };
+    add_group(
+        alloc,
+        scope,
+        Side::Uncompressed,
+        Group::Header,
+        sections,
+        &mut all,
+    )?;
+    add_group(
+        alloc,
+        scope,
+        Side::Uncompressed,
+        Group::Control,
+        sections,
+        &mut all,
+    )?;
+    add_defaults(alloc, scope, chosen, sections, &mut all)?;
+    add_items(alloc, scope, Side::Compressed, own, &mut all)?;
+    Ok(all)
+}
+
+fn add_statement(
+    alloc: Global,
+    scope: &Scope<'_, '_>,
+    side: Side,
+    item: &Item,
+    all: &mut Constraints,
+) -> Result<(), AllocError>
+    ensures { OnOk result ((rest whole : List spec.Statement) → spec.Leads scope.now (spec.on side item.now ∷ rest) whole all.old.found all.old.fault → spec.Leads scope.now rest whole all.new.found all.new.fault) }
+{
+    match section_constraints(alloc, scope, side, from_ref(item)) {
+        Ok(found) => all.found.append(found)?,
+        Err(error) => all.fault = earlier(all.fault, Some(fault_of(error)?)),
+    }
+    Ok(())
+}
+
+fn add_items(
+    alloc: Global,
+    scope: &Scope<'_, '_>,
+    side: Side,
+    items: &[Item],
+    all: &mut Constraints,
+) -> Result<(), AllocError>
+    ensures { OnOk result ((rest whole : List spec.Statement) → spec.Leads scope.now (map (spec.on side) items.now ++ rest) whole all.old.found all.old.fault → spec.Leads scope.now rest whole all.new.found all.new.fault) }
+{
+    for item in items {
+        add_statement(alloc, scope, side, item, all)?;
+    }
+    Ok(())
+}
+
+fn add_group(
+    alloc: Global,
+    scope: &Scope<'_, '_>,
+    side: Side,
+    group: Group,
+    sections: &[Section],
+    all: &mut Constraints,
+) -> Result<(), AllocError>
+    ensures { OnOk result ((rest whole : List spec.Statement) → spec.Leads scope.now (spec.of_group side group sections.now ++ rest) whole all.old.found all.old.fault → spec.Leads scope.now rest whole all.new.found all.new.fault) }
+{
+    for section in sections {
+        if is_in(group, section.kind) {
+            add_items(alloc, scope, side, section.items.as_slice(), all)?;
+        }
+    }
+    Ok(())
+}
+
+/// The fields' chosen statements in DEFAULT.
+fn add_defaults(
+    alloc: Global,
+    scope: &Scope<'_, '_>,
+    chosen: &[Option<Mention>],
+    sections: &[Section],
+    all: &mut Constraints,
+) -> Result<(), AllocError>
+    ensures { OnOk result ((rest whole : List spec.Statement) → spec.Leads scope.now (spec.defaults_from scope.now chosen.now 0 sections.now ++ rest) whole all.old.found all.old.fault → spec.Leads scope.now rest whole all.new.found all.new.fault) }
+{
+    for (place, section) in sections.iter().enumerate() {
+        if is_in(Group::Default, section.kind) {
+            add_used(alloc, scope, chosen, place, section.items.as_slice(), all)?;
+        }
+    }
+    Ok(())
+}
+
+fn add_used(
+    alloc: Global,
+    scope: &Scope<'_, '_>,
+    chosen: &[Option<Mention>],
+    section: usize,
+    items: &[Item],
+    all: &mut Constraints,
+) -> Result<(), AllocError>
+    ensures { OnOk result ((rest whole : List spec.Statement) → spec.Leads scope.now (spec.used_from scope.now chosen.now section 0 items.now ++ rest) whole all.old.found all.old.fault → spec.Leads scope.now rest whole all.new.found all.new.fault) }
+{
+    for (place, item) in items.iter().enumerate() {
+        if is_used(scope, chosen, section, place, item) {
+            add_statement(alloc, scope, Side::Compressed, item, all)?;
+        }
+    }
+    Ok(())
+}
+
+/// Whether a statement of DEFAULT is the chosen one of its field.
+fn is_used(
+    scope: &Scope<'_, '_>,
+    chosen: &[Option<Mention>],
+    section: usize,
+    place: usize,
+    item: &Item,
+) -> bool
+    ensures { result ≡ spec.is_used scope.now chosen.now section place item.now }
+{
+    match item {
+        Item::Bound(bound) => is_at(section, place, choice_of(chosen, scope.field(bound.name))),
+        _ => false,
+    }
+}
+
+fn choice_of(chosen: &[Option<Mention>], field: Option<usize>) -> Option<Mention>
+    ensures { result ≡ spec.choice_of chosen.now field }
+{
+    match field {
+        Some(index) => match chosen.get(index) {
+            Some(choice) => *choice,
+            None => None,
+        },
+        None => None,
+    }
+}
+
+fn is_at(section: usize, place: usize, choice: Option<Mention>) -> bool
+    ensures { result ≡ spec.is_at section place choice }
+{
+    match choice {
+        Some(mention) => mention.section == section && mention.item == place,
+        None => false,
+    }
+}

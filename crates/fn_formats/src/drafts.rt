@@ -1,0 +1,106 @@
+//! The parts of a format.
+
+ghost use Rattle.std.specs.Prelude.{◌≡◌, IfOk};
+ghost use Rattle.fn_sections.specs.Tables.{IsTable};
+ghost use Rattle.fn_formats.specs.Drafts as spec;
+
+use crate::constraints::format_constraints;
+use crate::encodings::field_encodings;
+use fn_profile::{Constraint, Encoding, ProfileFault, Words, earlier};
+use fn_sections::{Mention, Table, encoded, encodings, in_order, listing, of_section};
+use fn_statements::Methods;
+use fn_terms::Scope;
+use fn_tree::Section;
+use sqlite_items::Items;
+use std::alloc::{AllocError, Global};
+
+/// What all formats of a method have in common. The values are those of the constants in their order.
+#[derive(Drop)]
+pub struct Setting<'a, 't> {
+    pub text: &'t [u8],
+    pub constants: &'a Words<'t>,
+    pub values: &'a [i128],
+    pub parameters: &'a Words<'t>,
+    pub methods: &'a Methods<'a>,
+    pub sections: &'a [Section],
+    /// The encoded fields of UNCOMPRESSED and CONTROL.
+    pub base: &'a Table<'t>,
+    /// The encoded fields of DEFAULT.
+    pub default: &'a Table<'t>,
+}
+
+/// The parts of a format, and the earliest fault in them: fields in field order, their encodings, which of them the format lists, and its constraints. With a fault some are missing.
+#[derive(Drop)]
+pub struct Draft<'t> {
+    pub fields: Table<'t>,
+    pub listing: Items<usize>,
+    pub encodings: Items<Encoding>,
+    pub constraints: Items<Constraint>,
+    pub fault: Option<ProfileFault>,
+}
+
+/// The parts of the format of a COMPRESSED section, which is the method's section of this number.
+pub fn draft_format<'t>(
+    alloc: Global,
+    setting: &Setting<'_, 't>,
+    number: usize,
+    section: &Section,
+) -> Result<Draft<'t>, AllocError>
+    ensures { IsTable setting.now.text.now (spec.base setting.now) setting.now.base.now → IsTable setting.now.text.now (spec.default setting.now) setting.now.default.now → IfOk result (spec.IsDraft setting.now number section.now) }
+{
+    let text = setting.text;
+    let own = of_section(alloc, text, number, section)?;
+    let fields = in_order(alloc, text, setting.sections, own.as_slice())?;
+    let listing = listing(alloc, text, &fields, own.as_slice())?;
+    let chosen = choices(alloc, setting, own.as_slice(), fields.firsts.as_slice())?;
+    let scope = Scope::new(
+        text,
+        setting.constants,
+        setting.values,
+        setting.parameters,
+        &fields.words,
+    );
+    let encodings = field_encodings(
+        alloc,
+        &scope,
+        setting.methods,
+        setting.sections,
+        chosen.as_slice(),
+    )?;
+    let constraints = format_constraints(
+        alloc,
+        &scope,
+        setting.sections,
+        chosen.as_slice(),
+        section.items.as_slice(),
+    )?;
+    let fault = earlier(encodings.fault, constraints.fault);
+    Ok(Draft {
+        fields,
+        listing,
+        encodings: encodings.found,
+        constraints: constraints.found,
+        fault,
+    })
+}
+
+/// For each field the statement that encodes it. The section's own mentions are given.
+fn choices<'t>(
+    alloc: Global,
+    setting: &Setting<'_, 't>,
+    own: &[Mention],
+    fields: &[Mention],
+) -> Result<Items<Option<Mention>>, AllocError>
+    ensures { IsTable setting.now.text.now (spec.base setting.now) setting.now.base.now → IsTable setting.now.text.now (spec.default setting.now) setting.now.default.now → IfOk result (λ all. all ≡ spec.chosen_by setting.now own.now fields.now) }
+{
+    let own = encoded(alloc, own)?;
+    let own = Table::of(alloc, setting.text, own.as_slice())?;
+    encodings(
+        alloc,
+        setting.text,
+        setting.base,
+        &own,
+        setting.default,
+        fields,
+    )
+}

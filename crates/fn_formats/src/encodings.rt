@@ -1,0 +1,75 @@
+//! The encodings of a format's fields.
+
+ghost use Rattle.std.specs.Prelude.{◌≡◌, None, IfOk, IfErr};
+ghost use Rattle.std.specs.List.{AllZip};
+ghost use Rattle.fn_profile.specs.Faults as faults;
+ghost use Rattle.fn_terms.specs.Judged.{Refuses};
+ghost use Rattle.fn_sections.specs.Causes.{earliest};
+ghost use Rattle.fn_formats.specs.Encodings as spec;
+
+use fn_profile::{Encoding, ProfileFault, ResolveError, earlier};
+use fn_sections::{Mention, encoding_at};
+use fn_statements::{Methods, encoding};
+use fn_terms::Scope;
+use fn_tree::Section;
+use sqlite_items::Items;
+use std::alloc::{AllocError, Global};
+
+/// The encodings of a format's fields, in field order, and the earliest fault in them. With a fault some are missing.
+#[derive(Debug, Drop)]
+pub struct Encodings {
+    pub found: Items<Encoding>,
+    pub fault: Option<ProfileFault>,
+}
+
+/// The encodings of the fields whose encoding statements these are.
+pub fn field_encodings(
+    alloc: Global,
+    scope: &Scope<'_, '_>,
+    methods: &Methods<'_>,
+    sections: &[Section],
+    chosen: &[Option<Mention>],
+) -> Result<Encodings, AllocError>
+    ensures fault { IfOk result (λ e. e.fault ≡ earliest (spec.field_fault scope.now methods.now sections.now) chosen.now) }
+    ensures found { IfOk result (λ e. e.fault ≡ None → AllZip (spec.FieldMeans scope.now methods.now sections.now) chosen.now e.found) }
+{
+    let mut found = Items::new(alloc);
+    let mut fault = None;
+    for choice in chosen {
+        match field_encoding(alloc, scope, methods, sections, choice) {
+            Ok(encoding) => found.push(encoding)?,
+            Err(error) => fault = earlier(fault, Some(fault_of(error)?)),
+        }
+    }
+    Ok(Encodings { found, fault })
+}
+
+/// The fault of an error, unless it is want of memory.
+pub(crate) fn fault_of(error: ResolveError) -> Result<ProfileFault, AllocError>
+    ensures { IfOk result (λ f. error ≡ ResolveError.Fault f) }
+{
+    match error {
+        ResolveError::Fault(fault) => Ok(fault),
+        ResolveError::OutOfMemory => Err(AllocError),
+    }
+}
+
+fn field_encoding(
+    alloc: Global,
+    scope: &Scope<'_, '_>,
+    methods: &Methods<'_>,
+    sections: &[Section],
+    choice: &Option<Mention>,
+) -> Result<Encoding, ResolveError>
+    ensures means { IfOk result (spec.FieldMeans scope.now methods.now sections.now choice.now) }
+    ensures right { IfOk result (λ _. spec.field_fault scope.now methods.now sections.now choice.now ≡ None) }
+    ensures refused { IfErr result (Refuses (spec.field_fault scope.now methods.now sections.now choice.now)) }
+{
+    let Some(mention) = choice else {
+        return Ok(Encoding::Bare);
+    };
+    match encoding_at(sections, *mention) {
+        Some(given) => encoding(alloc, scope, methods, given),
+        None => Ok(Encoding::Bare),
+    }
+}

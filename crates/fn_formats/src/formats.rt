@@ -1,0 +1,77 @@
+//! The format that a section gives.
+
+ghost use Rattle.std.specs.Prelude.{◌≡◌, IfOk};
+ghost use Rattle.std.specs.Option.{option_map};
+ghost use Rattle.fn_profile.specs.Words.{word as words};
+ghost use Rattle.fn_sections.specs.Tables.{IsTable};
+ghost use Rattle.fn_formats.specs.Drafts as drafts;
+ghost use Rattle.fn_formats.specs.Formats as spec;
+
+use crate::drafts::{Setting, draft_format};
+use crate::fields::{joined_fields, name_of};
+use fn_profile::{Format, Name, ProfileFault, word};
+use fn_source::Span;
+use fn_tree::{Section, SectionKind};
+use std::alloc::{AllocError, Global};
+
+/// A format, and the earliest fault in it. With a fault the format is not whole.
+#[derive(Debug, Drop)]
+pub struct Resolved {
+    pub format: Format,
+    pub fault: Option<ProfileFault>,
+}
+
+/// The format of a COMPRESSED section, which is the method's section of this number. No field has a value of INITIAL yet.
+pub fn section_format(
+    alloc: Global,
+    setting: &Setting<'_, '_>,
+    number: usize,
+    section: &Section,
+) -> Result<Resolved, AllocError>
+    ensures { IsTable setting.now.text.now (drafts.base setting.now) setting.now.base.now → IsTable setting.now.text.now (drafts.default setting.now) setting.now.default.now → IfOk result (spec.IsResolved setting.now number section.now) }
+{
+    let draft = draft_format(alloc, setting, number, section)?;
+    let name = format_name(alloc, setting.text, section.kind)?;
+    let encodings = draft.encodings;
+    let fields = joined_fields(
+        alloc,
+        setting.text,
+        setting.sections,
+        draft.fields.firsts.as_slice(),
+        encodings,
+    )?;
+    Ok(Resolved {
+        format: Format {
+            name,
+            fields,
+            listing: draft.listing,
+            constraints: draft.constraints,
+        },
+        fault: draft.fault,
+    })
+}
+
+fn format_name(alloc: Global, text: &[u8], kind: SectionKind) -> Result<Option<Name>, AllocError>
+    ensures { IfOk result (λ n. n ≡ spec.name text.now kind) }
+{
+    match kind {
+        SectionKind::Compressed(given) => optional_name(alloc, text, given),
+        _ => Ok(None),
+    }
+}
+
+fn optional_name(
+    alloc: Global,
+    text: &[u8],
+    given: Option<Span>,
+) -> Result<Option<Name>, AllocError>
+    ensures { IfOk result (λ n. n ≡ option_map (words text.now) given) }
+{
+    match given {
+        Some(span) => {
+            let name = name_of(alloc, word(text, span))?;
+            Ok(Some(name))
+        }
+        None => Ok(None),
+    }
+}

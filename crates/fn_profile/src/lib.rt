@@ -1,0 +1,17 @@
+//! Resolved profiles: what the notation makes of a profile's text.
+#![tactic(auto)]
+
+pub use fault::{ProfileFault, ProfileFaultKind, ResolveError};
+pub use judging::earlier;
+pub use name::Name;
+pub use profile::{
+    Bounds, Constraint, CrcArguments, Declared, Encoding, Field, Format, FormatSizes, Library,
+    Method, MethodSizes, Part, Sizes,
+};
+pub use words::{Words, same, word};
+
+pub mod fault;
+pub mod judging;
+pub mod name;
+pub mod profile;
+pub mod words;

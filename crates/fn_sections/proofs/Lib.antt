@@ -1,0 +1,6 @@
+pub mod Tabled
+pub mod Seconds
+pub mod Folding
+pub mod Naming
+pub mod Whole
+pub mod Pointing

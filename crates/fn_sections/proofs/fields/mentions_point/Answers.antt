@@ -1,0 +1,5 @@
+use Rattle.fn_sections.proofs.Pointing.{mentions_point}
+use Rattle.fn_sections.proofs.fields.mentions_point.Goals as goal
+
+pub returns : goal.returns
+returns c = mentions_point

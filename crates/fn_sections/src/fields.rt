@@ -1,0 +1,123 @@
+//! The fields of a format, in order, and what each is encoded by.
+
+ghost use Rattle.std.specs.Prelude.{◌≡◌, ◌++◌, IfOk, map, List};
+ghost use Rattle.std.specs.Option.{option_copied};
+ghost use Rattle.fn_sections.specs.Mentions.{first_of};
+ghost use Rattle.fn_sections.specs.Tables.{IsTable, find_in};
+ghost use Rattle.fn_sections.specs.Fields as spec;
+
+use crate::mention::{Group, Mention, mentions};
+use crate::names::joined;
+use crate::table::Table;
+use fn_profile::word;
+use fn_tree::{Encoding, Item, Section};
+use sqlite_items::Items;
+use std::alloc::{AllocError, Global};
+
+/// The fields of a format that gives these mentions: header fields, control fields, local ones.
+pub fn in_order<'a>(
+    alloc: Global,
+    text: &'a [u8],
+    sections: &[Section],
+    own: &[Mention],
+) -> Result<Table<'a>, AllocError>
+    ensures { IfOk result (IsTable text.now (spec.in_field_order text.now sections.now own.now)) }
+{
+    let header = mentions(alloc, text, sections, Group::Header)?;
+    let control = mentions(alloc, text, sections, Group::Control)?;
+    let base = joined(alloc, header.as_slice(), control.as_slice())?;
+    let all = joined(alloc, base.as_slice(), own)?;
+    Table::of(alloc, text, all.as_slice())
+}
+
+fn place(text: &[u8], fields: &Table<'_>, mention: Mention) -> usize
+    ensures { result ≡ spec.place text.now fields.now.words mention }
+{
+    match fields.words.position(word(text, mention.name)) {
+        Some(place) => place,
+        None => fields.words.len(),
+    }
+}
+
+/// For each mention of a format the place of its field.
+pub fn listing(
+    alloc: Global,
+    text: &[u8],
+    fields: &Table<'_>,
+    own: &[Mention],
+) -> Result<Items<usize>, AllocError>
+    ensures { IfOk result (λ places. places ≡ map (spec.place text.now fields.now.words) own.now) }
+{
+    let mut places = Items::new(alloc);
+    for mention in own {
+        places.push(place(text, fields, *mention))?;
+    }
+    Ok(places)
+}
+
+fn encoding(
+    text: &[u8],
+    base: &Table<'_>,
+    own: &Table<'_>,
+    default: &Table<'_>,
+    field: Mention,
+) -> Option<Mention>
+    ensures { result ≡ spec.encoding text.now (find_in base.now) (find_in own.now) (find_in default.now) field }
+{
+    let name = word(text, field.name);
+    base.find(name).or(own.find(name)).or(default.find(name))
+}
+
+fn find_all(
+    alloc: Global,
+    text: &[u8],
+    base: &Table<'_>,
+    own: &Table<'_>,
+    default: &Table<'_>,
+    fields: &[Mention],
+) -> Result<Items<Option<Mention>>, AllocError>
+    ensures { IfOk result (λ all. all ≡ map (spec.encoding text.now (find_in base.now) (find_in own.now) (find_in default.now)) fields.now) }
+{
+    let mut all = Items::new(alloc);
+    for field in fields {
+        all.push(encoding(text, base, own, default, *field))?;
+    }
+    Ok(all)
+}
+
+/// For each field of a format the mention that encodes it: in UNCOMPRESSED or CONTROL, else in the format, else in DEFAULT. The tables are those of the encoded mentions there.
+pub fn encodings(
+    alloc: Global,
+    text: &[u8],
+    base: &Table<'_>,
+    own: &Table<'_>,
+    default: &Table<'_>,
+    fields: &[Mention],
+) -> Result<Items<Option<Mention>>, AllocError>
+    ensures { (of_base of_own of_default : List Mention) → IsTable text.now of_base base.now → IsTable text.now of_own own.now → IsTable text.now of_default default.now → IfOk result (λ all. all ≡ map (spec.encoding text.now (first_of text.now of_base) (first_of text.now of_own) (first_of text.now of_default)) fields.now) }
+{
+    find_all(alloc, text, base, own, default, fields)
+}
+
+/// The encoding that a mention gives.
+pub fn encoding_at(sections: &[Section], mention: Mention) -> Option<&Encoding>
+    ensures { option_copied result ≡ spec.encoding_at sections.now mention }
+{
+    let section = sections.get(mention.section)?;
+    let item = section.items.get(mention.item)?;
+    encoding_of(item)
+}
+
+fn encoding_of(item: &Item) -> Option<&Encoding>
+    ensures { option_copied result ≡ spec.encoding_of item.now }
+{
+    match item {
+        Item::Bound(bound) => Some(&bound.encoding),
+        _ => None,
+    }
+}
+
+/// Each mention shows where its statement stands.
+pub fn mentions_point()
+    ensures { spec.MentionsPoint }
+{}

@@ -1,0 +1,234 @@
+//! The faults of a method's names.
+
+ghost use Rattle.std.specs.Prelude.{◌≡◌, ◌++◌, ℕ, List, IfOk, map};
+ghost use Rattle.std.specs.List.{filter_map};
+ghost use Rattle.fn_sections.specs.Tables.{IsTable};
+ghost use Rattle.fn_sections.specs.Causes.{Answers, IsSecond};
+ghost use Rattle.fn_sections.specs.Names as spec;
+
+use crate::lookups::{
+    all_defined_before, all_encoded_before, all_not_encoded, all_not_found, all_not_kept,
+};
+use crate::mention::{Group, Mention, all_listed, encoded, is_in, listed, mentions, of_section};
+use crate::repeats::second;
+use crate::sections::incomplete;
+use crate::table::Table;
+use fn_profile::{ProfileFault, earlier};
+use fn_source::Span;
+use fn_tree::{Method, Section, SectionKind};
+use sqlite_items::Items;
+use std::alloc::{AllocError, Global};
+
+/// The mentions in the groups of a method's sections, each list in text order.
+#[derive(Debug, Drop)]
+pub struct Lists {
+    pub base: Items<Mention>,
+    pub initial: Items<Mention>,
+    pub default: Items<Mention>,
+    pub formats: Items<Mention>,
+}
+
+/// The lists of these sections.
+pub fn split(alloc: Global, text: &[u8], sections: &[Section]) -> Result<Lists, AllocError>
+    ensures { IfOk result (λ lists. lists ≡ spec.lists_of text.now sections.now) }
+{
+    Ok(Lists {
+        base: mentions(alloc, text, sections, Group::Base)?,
+        initial: mentions(alloc, text, sections, Group::Initial)?,
+        default: mentions(alloc, text, sections, Group::Default)?,
+        formats: mentions(alloc, text, sections, Group::Formats)?,
+    })
+}
+
+/// A parameter that is a second one of its name, or has a constant's name.
+pub fn judge_parameters(
+    alloc: Global,
+    text: &[u8],
+    constants: &Table<'_>,
+    parameters: &[Span],
+) -> Result<Option<ProfileFault>, AllocError>
+    ensures { (names : List Mention) → IsTable text.now names constants.now → IfOk result (Answers (spec.ParameterCause text.now names parameters.now)) }
+{
+    let parameters = all_listed(alloc, parameters)?;
+    let repeated = second(alloc, text, parameters.as_slice())?;
+    let shared = all_defined_before(text, constants, parameters.as_slice());
+    Ok(earlier(repeated, shared))
+}
+
+fn format_name(section: &Section) -> Option<Mention>
+    ensures { result ≡ spec.format_name section.now }
+{
+    match section.kind {
+        SectionKind::Compressed(name) => match name {
+            Some(name) => Some(listed(name)),
+            None => None,
+        },
+        _ => None,
+    }
+}
+
+/// The names of a method's formats.
+pub fn format_names(alloc: Global, sections: &[Section]) -> Result<Items<Mention>, AllocError>
+    ensures { IfOk result (λ names. names ≡ filter_map spec.format_name sections.now) }
+{
+    let mut names = Items::new(alloc);
+    for section in sections {
+        if let Some(name) = format_name(section) {
+            names.push(name)?;
+        }
+    }
+    Ok(names)
+}
+
+/// A second encoding in a format or in DEFAULT of a field that has one for all formats.
+pub fn judge_encodings(
+    alloc: Global,
+    text: &[u8],
+    lists: &Lists,
+) -> Result<Option<ProfileFault>, AllocError>
+    ensures { IfOk result (Answers (spec.EncodingCause text.now lists.now)) }
+{
+    let base = encoded(alloc, lists.base.as_slice())?;
+    let formats = encoded(alloc, lists.formats.as_slice())?;
+    let defaults = encoded(alloc, lists.default.as_slice())?;
+    let table = Table::of(alloc, text, base.as_slice())?;
+    let in_formats = all_encoded_before(text, &table, formats.as_slice());
+    let in_defaults = all_encoded_before(text, &table, defaults.as_slice());
+    Ok(earlier(in_formats, in_defaults))
+}
+
+/// A name that must be a header or control field, or a listed one, and isn't.
+pub fn judge_known(
+    alloc: Global,
+    text: &[u8],
+    lists: &Lists,
+) -> Result<Option<ProfileFault>, AllocError>
+    ensures { IfOk result (Answers (spec.KnownCause text.now lists.now)) }
+{
+    let base = Table::of(alloc, text, lists.base.as_slice())?;
+    let formats = Table::of(alloc, text, lists.formats.as_slice())?;
+    let none = Table::new(alloc);
+    let initial = all_not_found(text, &base, &none, lists.initial.as_slice());
+    let defaults = all_not_found(text, &base, &formats, lists.default.as_slice());
+    Ok(earlier(initial, defaults))
+}
+
+/// A local field with `static` or `lsb`.
+pub fn judge_contexts(
+    alloc: Global,
+    text: &[u8],
+    lists: &Lists,
+) -> Result<Option<ProfileFault>, AllocError>
+    ensures { IfOk result (Answers (spec.ContextCause text.now lists.now)) }
+{
+    let base = Table::of(alloc, text, lists.base.as_slice())?;
+    let formats = all_not_kept(text, &base, lists.formats.as_slice());
+    let defaults = all_not_kept(text, &base, lists.default.as_slice());
+    Ok(earlier(formats, defaults))
+}
+
+/// The first mentions, then the second.
+pub fn joined(
+    alloc: Global,
+    first: &[Mention],
+    second: &[Mention],
+) -> Result<Items<Mention>, AllocError>
+    ensures { IfOk result (λ all. all ≡ first.now ++ second.now) }
+{
+    let mut all = Items::from_slice(alloc, first)?;
+    all.append(Items::from_slice(alloc, second)?)?;
+    Ok(all)
+}
+
+/// A second statement on a name in a section for some formats or contexts, or a listed field that has no encoding.
+pub fn judge_section(
+    alloc: Global,
+    text: &[u8],
+    shared: &Table<'_>,
+    place: usize,
+    section: &Section,
+) -> Result<Option<ProfileFault>, AllocError>
+    ensures { (encodings : List Mention) → IsTable text.now encodings shared.now → IfOk result (Answers (spec.SectionCause text.now encodings place section.now)) }
+{
+    if is_in(Group::Base, section.kind) {
+        return Ok(None);
+    }
+    let own = of_section(alloc, text, place, section)?;
+    let repeated = second(alloc, text, own.as_slice())?;
+    if !is_in(Group::Formats, section.kind) {
+        return Ok(repeated);
+    }
+    let bound = encoded(alloc, own.as_slice())?;
+    let table = Table::of(alloc, text, bound.as_slice())?;
+    let bare = all_not_encoded(text, shared, &table, own.as_slice());
+    Ok(earlier(repeated, bare))
+}
+
+/// Such a fault of any section.
+pub fn judge_sections(
+    alloc: Global,
+    text: &[u8],
+    shared: &Table<'_>,
+    sections: &[Section],
+) -> Result<Option<ProfileFault>, AllocError>
+    ensures { (encodings : List Mention) → IsTable text.now encodings shared.now → IfOk result (Answers (spec.SectionsCause text.now encodings sections.now)) }
+{
+    let mut found = None;
+    for (place, section) in sections.iter().enumerate() {
+        let next = judge_section(alloc, text, shared, place, section)?;
+        found = earlier(found, next);
+    }
+    Ok(found)
+}
+
+/// What is wrong with a method's sections, parameters and the names of its formats, and a second statement on a name in UNCOMPRESSED and CONTROL.
+fn judge_heads(
+    alloc: Global,
+    text: &[u8],
+    constants: &Table<'_>,
+    method: &Method,
+) -> Result<Option<ProfileFault>, AllocError>
+    ensures { (names : List Mention) → IsTable text.now names constants.now → IfOk result (Answers (spec.HeadCause text.now names method.now)) }
+{
+    let sections = method.sections.as_slice();
+    let parameters = judge_parameters(alloc, text, constants, method.parameters.as_slice())?;
+    let formats = format_names(alloc, sections)?;
+    let named = second(alloc, text, formats.as_slice())?;
+    let lack = incomplete(method);
+    Ok(earlier(lack, earlier(parameters, named)))
+}
+
+/// What is wrong with the statements on fields in a method's sections.
+fn judge_fields(
+    alloc: Global,
+    text: &[u8],
+    sections: &[Section],
+) -> Result<Option<ProfileFault>, AllocError>
+    ensures { IfOk result (Answers (spec.FieldCause text.now sections.now)) }
+{
+    let lists = split(alloc, text, sections)?;
+    let base = second(alloc, text, lists.base.as_slice())?;
+    let encodings = judge_encodings(alloc, text, &lists)?;
+    let known = judge_known(alloc, text, &lists)?;
+    let contexts = judge_contexts(alloc, text, &lists)?;
+    let all = joined(alloc, lists.base.as_slice(), lists.default.as_slice())?;
+    let bound = encoded(alloc, all.as_slice())?;
+    let shared = Table::of(alloc, text, bound.as_slice())?;
+    let own = judge_sections(alloc, text, &shared, sections)?;
+    let of_all = earlier(earlier(base, encodings), earlier(known, contexts));
+    Ok(earlier(of_all, own))
+}
+
+/// The first fault of a method's names and sections. The table is that of the constants' names.
+pub fn judge(
+    alloc: Global,
+    text: &[u8],
+    constants: &Table<'_>,
+    method: &Method,
+) -> Result<Option<ProfileFault>, AllocError>
+    ensures { (names : List Mention) → IsTable text.now names constants.now → IfOk result (Answers (spec.NameCause text.now names method.now)) }
+{
+    let head = judge_heads(alloc, text, constants, method)?;
+    let fields = judge_fields(alloc, text, method.sections.as_slice())?;
+    Ok(earlier(head, fields))
+}

@@ -1,0 +1,66 @@
+//! The texts of faults.
+
+ghost use Rattle.std.specs.Prelude.{◌≡◌, IfOk, string_bytes};
+ghost use Rattle.fn_show.specs.Texts as spec;
+
+use fn_profile::{ProfileFault, ProfileFaultKind, word};
+use fn_source::Span;
+use std::alloc::{AllocError, Global};
+
+/// The words of a fault's kind with the names that it shows, which are parts of the text. A missing name is empty.
+pub fn fault_text(alloc: Global, octets: &[u8], fault: &ProfileFault) -> Result<String, AllocError>
+    ensures { IfOk result (λ text. string_bytes text ≡ spec.fault_words octets.now fault.now) }
+{
+    let first = name_text(alloc, octets, fault.first)?;
+    let second = name_text(alloc, octets, fault.second)?;
+    words(alloc, fault.kind, first.as_str(), second.as_str())
+}
+
+fn name_text(alloc: Global, octets: &[u8], name: Option<Span>) -> Result<String, AllocError>
+    ensures { IfOk result (λ text. string_bytes text ≡ spec.named octets.now name) }
+{
+    match name {
+        Some(span) => String::from_utf8_lossy(alloc, word(octets, span)),
+        None => Ok(String::new(alloc)),
+    }
+}
+
+#[tactic(auto, using(crate::proofs::Walks::texts_joined))]
+fn words(
+    alloc: Global,
+    kind: ProfileFaultKind,
+    first: &str,
+    second: &str,
+) -> Result<String, AllocError>
+    ensures { IfOk result (λ text. string_bytes text ≡ spec.words_of kind first.now second.now) }
+{
+    match kind {
+        ProfileFaultKind::UnknownName => format!(in alloc; "name {first} is not known"),
+        ProfileFaultKind::DefinedTwice => format!(in alloc; "name {first} is defined twice"),
+        ProfileFaultKind::ArgumentCount => format!(in alloc;
+            "wrong number of arguments for {first}"
+        ),
+        ProfileFaultKind::Recursion => {
+            format!(in alloc; "{first} calls {second}, which reaches {first}")
+        }
+        ProfileFaultKind::SecondEncoding => format!(in alloc;
+            "field {first} has a second encoding"
+        ),
+        ProfileFaultKind::NoContext => format!(in alloc; "field {first} has no context"),
+        ProfileFaultKind::NoEncoding => format!(in alloc; "field {first} has no encoding"),
+        ProfileFaultKind::WideValue => {
+            format!(in alloc; "value of {first} is wider than 64 bits")
+        }
+        ProfileFaultKind::Sections => {
+            format!(in alloc; "method {first} lacks one UNCOMPRESSED or named formats")
+        }
+        ProfileFaultKind::NoTop => String::from_str(alloc, "no such top method without parameters"),
+        ProfileFaultKind::AboveLimit => String::from_str(alloc, "value may pass 2^120"),
+        ProfileFaultKind::WrongKind => String::from_str(alloc, "expression is of the wrong kind"),
+        ProfileFaultKind::Power => {
+            String::from_str(alloc, "power has a negative base or an exponent above 127")
+        }
+        ProfileFaultKind::NoValue => String::from_str(alloc, "constant has no value here"),
+        ProfileFaultKind::TooLarge => String::from_str(alloc, "profile is too large"),
+    }
+}

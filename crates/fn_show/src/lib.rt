@@ -1,0 +1,10 @@
+//! What is printed of a resolved profile, and the texts of its faults.
+#![tactic(auto)]
+
+pub use fault_texts::fault_text;
+pub use listing::show;
+pub use places::Places;
+
+pub mod fault_texts;
+pub mod listing;
+pub mod places;

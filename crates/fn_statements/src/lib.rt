@@ -1,0 +1,13 @@
+//! What the statements of a method mean: their encodings, brackets and ENFORCE conjuncts.
+#![tactic(auto)]
+
+pub use callee::{Callee, Methods};
+pub use constraints::section_constraints;
+pub use initial::initial_bits;
+pub use resolving::encoding;
+
+pub mod arguments;
+pub mod callee;
+pub mod constraints;
+pub mod initial;
+pub mod resolving;

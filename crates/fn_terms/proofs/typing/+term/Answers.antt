@@ -1,0 +1,44 @@
+use Rattle.std.proofs.Common.{sym}
+use Rattle.fn_terms.specs.Means.{number, negative, truth, denial, arithmetic, comparison, conjunction, disjunction}
+use Rattle.fn_terms.proofs.Parts.{in_brackets}
+use Rattle.fn_terms.proofs.typing.+term.Goals as goal
+
+pub returns-in-Number-clause-means : goal.returns-in-Number-clause-means
+returns-in-Number-clause-means t c = rw (c.in-Number.is, c.positive.ensures) number
+
+pub returns-in-Negative-clause-means : goal.returns-in-Negative-clause-means
+returns-in-Negative-clause-means t c = rw (c.in-Negative.is, c.negative.ensures) negative
+
+pub returns-in-Truth-clause-means : goal.returns-in-Truth-clause-means
+returns-in-Truth-clause-means t c = rw c.in-Truth.is truth
+
+pub returns-in-Group-clause-means : goal.returns-in-Group-clause-means
+returns-in-Group-clause-means t c = rw c.in-Group.is (in_brackets _ _ _ c.term.result (rw c.get.ensures at c.term.ensures.means))
+
+pub returns-in_ok-new-in-Not-clause-means : goal.returns-in_ok-new-in-Not-clause-means
+returns-in_ok-new-in-Not-clause-means t c =
+    rw c.in-Not.is (denial (rw (c.get-in-Not.ensures, c.in_ok-inner-in-Not.ensures, sym c.in_ok-new-in-Not.ensures.ok) at c.in_ok-term-in-Not.ensures.means))
+
+pub returns-in_ok-right-in-Comparison-clause-means : goal.returns-in_ok-right-in-Comparison-clause-means
+returns-in_ok-right-in-Comparison-clause-means t c =
+    rw c.in-Binary.is (comparison (sym c.in-Comparison.ensures)
+    (rw (c.get-in-Comparison.ensures, c.in_ok-left-in-Comparison.ensures) at c.in_ok-term-in-Comparison.ensures.means)
+    (rw (c.get-in-Comparison-2.ensures, c.in_ok-right-in-Comparison.ensures) at c.in_ok-term-in-Comparison-2.ensures.means))
+
+pub returns-in_ok-right-in-Arithmetic-clause-means : goal.returns-in_ok-right-in-Arithmetic-clause-means
+returns-in_ok-right-in-Arithmetic-clause-means t c =
+    rw c.in-Binary.is (arithmetic (sym c.in-Arithmetic.ensures)
+    (rw (c.get-in-Arithmetic.ensures, c.in_ok-number-in-Arithmetic.ensures, sym c.in_ok-left-in-Arithmetic.ensures.ok) at c.in_ok-term-in-Arithmetic.ensures.means)
+    (rw (c.get-in-Arithmetic-2.ensures, c.in_ok-number-in-Arithmetic-2.ensures, sym c.in_ok-right-in-Arithmetic.ensures.ok) at c.in_ok-term-in-Arithmetic-2.ensures.means))
+
+pub returns-in_ok-right-in-And-clause-means : goal.returns-in_ok-right-in-And-clause-means
+returns-in_ok-right-in-And-clause-means t c =
+    rw c.in-Binary.is (conjunction (sym c.in-And.ensures)
+    (rw (c.get-in-And.ensures, c.in_ok-condition-in-And.ensures, sym c.in_ok-left-in-And.ensures.ok) at c.in_ok-term-in-And.ensures.means)
+    (rw (c.get-in-And-2.ensures, c.in_ok-condition-in-And-2.ensures, sym c.in_ok-right-in-And.ensures.ok) at c.in_ok-term-in-And-2.ensures.means))
+
+pub returns-in_ok-right-in-Or-clause-means : goal.returns-in_ok-right-in-Or-clause-means
+returns-in_ok-right-in-Or-clause-means t c =
+    rw c.in-Binary.is (disjunction (sym c.in-Or.ensures)
+    (rw (c.get-in-Or.ensures, c.in_ok-condition-in-Or.ensures, sym c.in_ok-left-in-Or.ensures.ok) at c.in_ok-term-in-Or.ensures.means)
+    (rw (c.get-in-Or-2.ensures, c.in_ok-condition-in-Or-2.ensures, sym c.in_ok-right-in-Or.ensures.ok) at c.in_ok-term-in-Or-2.ensures.means))

@@ -1,0 +1,108 @@
+-- Which fault an expression has: the first one, inner parts first and left to right. A part with a fault inside isn't judged itself.
+use Rattle.std.specs.Prelude.{◌≡◌, ⊤, Bool, true, false, List, [], ◌∷◌, Option, Some, None}
+use Rattle.std.specs.Option.{option_or}
+use Rattle.fn_source.specs.declared.span.Span.{Span}
+use Rattle.fn_tree.specs.declared.tree.Expr.{Expr as Tree}
+use Rattle.fn_tree.specs.declared.tree.Expr.{fold-Expr}
+use Rattle.fn_tree.specs.declared.tree.Expr.TheOpen.{Expr-F}
+use Rattle.fn_tree.specs.declared.tree.Owner.{Owner}
+use Rattle.fn_tree.specs.declared.tree.Owner.TheVariants as owners
+use Rattle.fn_expr.specs.declared.expr.Expr.{Expr}
+use Rattle.fn_expr.specs.declared.expr.Expr.TheVariants as expr
+use Rattle.fn_expr.specs.declared.expr.Expr.TheVariants.{Parameter, Binary'}
+use Rattle.fn_expr.specs.declared.expr.Cond.{Cond}
+use Rattle.fn_expr.specs.declared.expr.Cond.TheVariants.{Constant, Compare, Not', And', Or'}
+use Rattle.fn_profile.specs.declared.fault.ProfileFault.{ProfileFault}
+use Rattle.fn_profile.specs.declared.fault.ProfileFaultKind.TheVariants as f
+use Rattle.fn_profile.specs.declared.fault.ResolveError.{ResolveError}
+use Rattle.fn_profile.specs.declared.fault.ResolveError.TheVariants as errors
+use Rattle.fn_profile.specs.Faults.{about, unnamed}
+use Rattle.fn_terms.specs.declared.term.Kind.{Kind}
+use Rattle.fn_terms.specs.declared.term.Kind.TheVariants.{Number, Truth}
+use Rattle.fn_terms.specs.declared.term.Term.{Term}
+use Rattle.fn_terms.specs.declared.term.Term.TheVariants as terms
+use Rattle.fn_terms.specs.Names.{Names, plain, subject_of}
+use Rattle.fn_terms.specs.Operators.{meaning_of, operand_kind, outcome_kind}
+
+-- what an expression is of, its place without round brackets around it, and the first fault inside it
+pub record Judgement : Type 0 where
+  pub kind : Kind
+  pub place : Span
+  pub fault : Option ProfileFault
+
+abbrev pub wrong_kind : Span → ProfileFault
+wrong_kind at = unnamed f.WrongKind at
+
+-- the fault at a place where the kinds differ
+abbrev pub differing : Kind → Kind → Span → Option ProfileFault
+differing Number Number at = None
+differing Truth Truth at = None
+differing Number Truth at = Some (wrong_kind at)
+differing Truth Number at = Some (wrong_kind at)
+
+-- the fault where an expression of this kind is wanted: one inside it, or else that it is of the other kind
+abbrev pub wanted : Kind → Judgement → Option ProfileFault
+wanted kind j = option_or j.fault (differing kind j.kind j.place)
+
+-- a name that stands for nothing is not known
+abbrev pub unless_known : {A : Type 0} → Span → Option A → Option ProfileFault
+unless_known name (Some x) = None
+unless_known name None = Some (about f.UnknownName name)
+
+abbrev pub owner_fault : Names → Owner → Option ProfileFault
+owner_fault s owners.This = None
+owner_fault s (owners.Field name) = unless_known name (subject_of s (owners.Field name))
+
+-- where no attributes may stand, one is of the wrong kind
+abbrev pub if_allowed : Bool → Span → Option ProfileFault → Option ProfileFault
+if_allowed true at fault = fault
+if_allowed false at fault = Some (wrong_kind at)
+
+abbrev pub judge : Names → Expr-F Judgement → Judgement
+judge s (Expr-F.Number at n) = record { kind = Number; place = at; fault = None }
+judge s (Expr-F.Negative at n) = record { kind = Number; place = at; fault = None }
+judge s (Expr-F.Truth at b) = record { kind = Truth; place = at; fault = None }
+judge s (Expr-F.Name at) = record { kind = Number; place = at; fault = unless_known at (plain s at) }
+judge s (Expr-F.Attribute at owner which) =
+    record { kind = Number; place = at; fault = if_allowed s.has_attributes at (owner_fault s owner) }
+judge s (Expr-F.Group at x) = x
+judge s (Expr-F.Not at x) = record { kind = Truth; place = at; fault = wanted Truth x }
+judge s (Expr-F.Binary at operator sign x y) =
+    let takes = operand_kind (meaning_of operator) in
+    record { kind = outcome_kind (meaning_of operator); place = at; fault = option_or (wanted takes x) (wanted takes y) }
+
+abbrev pub judged : Names → Tree → Judgement
+judged s = fold-Expr Judgement (judge s)
+
+-- the fault of an expression where one of this kind is wanted
+abbrev pub fault_of : Kind → Names → Tree → Option ProfileFault
+fault_of kind s x = wanted kind (judged s x)
+
+-- the first fault that is there, of several parts
+abbrev pub first_of : {A : Type 0} → (A → Option ProfileFault) → List A → Option ProfileFault
+first_of fault [] = None
+first_of fault (x ∷ xs) = option_or (fault x) (first_of fault xs)
+
+-- an answer's fault is this one; want of memory says nothing
+abbrev pub Refuses : Option ProfileFault → ResolveError → Type 0
+Refuses fault (errors.Fault f) = fault ≡ Some f
+Refuses fault errors.OutOfMemory = ⊤
+
+-- ---- the judgement of a typed expression
+
+abbrev pub place_of : Expr → Span
+place_of (expr.Number at n) = at
+place_of (Parameter at i) = at
+place_of (expr.Attribute at t) = at
+place_of (Binary' at op p x q y) = at
+
+abbrev pub condition_place : Cond → Span
+condition_place (Constant at b) = at
+condition_place (Compare at op x y) = at
+condition_place (Not' at p x) = at
+condition_place (And' at p x q y) = at
+condition_place (Or' at p x q y) = at
+
+abbrev pub found : Term → Judgement
+found (terms.Number e) = record { kind = Number; place = place_of e; fault = None }
+found (terms.Truth c) = record { kind = Truth; place = condition_place c; fault = None }

@@ -1,0 +1,7 @@
+pub mod Names
+pub mod Operators
+pub mod Judged
+pub mod Means
+pub mod Conjuncts
+pub mod CrcData
+pub mod Constants

@@ -1,0 +1,55 @@
+//! The conjuncts of an ENFORCE.
+
+ghost use Rattle.std.specs.Prelude.{◌≡◌, false, None, IfOk, IfErr};
+ghost use Rattle.fn_terms.specs.Judged.{fault_of, Refuses};
+ghost use Rattle.fn_terms.specs.Conjuncts as spec;
+
+use crate::scope::Scope;
+use crate::term::Kind;
+use crate::typing::condition;
+use fn_profile::{Constraint, ResolveError};
+use fn_tree::tree;
+use sqlite_items::Items;
+use std::alloc::Global;
+
+/// The conjuncts of a condition: the operands of the `&&` at its top, in their order. What is in round brackets is one.
+pub fn conjuncts(
+    alloc: Global,
+    scope: &Scope<'_, '_>,
+    part: &tree::Expr,
+) -> Result<Items<Constraint>, ResolveError>
+    ensures means { IfOk result (λ cs. spec.AreConjuncts scope.now part.now cs) }
+    ensures right { IfOk result (λ _. fault_of Kind.Truth scope.now part.now ≡ None) }
+    ensures refused { IfErr result (Refuses (fault_of Kind.Truth scope.now part.now)) }
+{
+    match part {
+        tree::Expr::Binary(_, operator, _, left, right) => match operator {
+            tree::Operator::And => {
+                let mut found = conjuncts(alloc, scope, left.get())?;
+                found.append(conjuncts(alloc, scope, right.get())?)?;
+                Ok(found)
+            }
+            _ => one(alloc, scope, part),
+        },
+        _ => one(alloc, scope, part),
+    }
+}
+
+/// A condition as the one conjunct.
+fn one(
+    alloc: Global,
+    scope: &Scope<'_, '_>,
+    part: &tree::Expr,
+) -> Result<Items<Constraint>, ResolveError>
+    requires { spec.is_conjunction part.now ≡ false }
+    ensures means { IfOk result (λ cs. spec.AreConjuncts scope.now part.now cs) }
+    ensures right { IfOk result (λ _. fault_of Kind.Truth scope.now part.now ≡ None) }
+    ensures refused { IfErr result (Refuses (fault_of Kind.Truth scope.now part.now)) }
+{
+    let mut found = Items::new(alloc);
+    found.push(Constraint::Enforce {
+        condition: condition(alloc, scope, part)?,
+        place: part.span(),
+    })?;
+    Ok(found)
+}

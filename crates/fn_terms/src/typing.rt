@@ -1,0 +1,154 @@
+//! From the tree's expressions to typed ones.
+
+ghost use Rattle.std.specs.Prelude.{◌≡◌, pos, neg_ℤ, IfOk, IfErr};
+ghost use Rattle.std.specs.List.{AllZip};
+ghost use Rattle.fn_terms.specs.Judged as spec;
+ghost use Rattle.fn_terms.specs.Means.{Means};
+ghost use Rattle.fn_tree.specs.declared.tree.Expr.TheVariants as t;
+
+use crate::scope::{Scope, measure, side};
+use crate::term::{Kind, Meaning, Term, meaning_of, wrong_kind};
+use fn_expr::{Attribute, Cond, Expr, Operator};
+use fn_profile::{ProfileFault, ProfileFaultKind, ResolveError};
+use fn_source::Span;
+use fn_tree::tree;
+use sqlite_items::Items;
+use std::alloc::{AllocError, Global};
+
+/// The meaning of an expression, whichever its kind.
+pub(crate) fn term(
+    alloc: Global,
+    scope: &Scope<'_, '_>,
+    part: &tree::Expr,
+) -> Result<Term, ResolveError>
+    ensures means { IfOk result (λ m. Means scope.now part.now m) }
+    ensures right { IfOk result (λ m. spec.judged scope.now part.now ≡ spec.found m) }
+    ensures refused { IfErr result (spec.Refuses (spec.judged scope.now part.now).fault) }
+{
+    match part {
+        tree::Expr::Number(at, n) => Ok(Term::Number(positive(*at, *n))),
+        tree::Expr::Negative(at, n) => Ok(Term::Number(negative(*at, *n))),
+        tree::Expr::Truth(at, holds) => Ok(Term::Truth(Cond::Constant(*at, *holds))),
+        tree::Expr::Name(at) => Ok(Term::Number(name(scope, *at)?)),
+        tree::Expr::Attribute(at, owner, which) => {
+            Ok(Term::Number(attribute(scope, *at, *owner, *which)?))
+        }
+        tree::Expr::Group(_, inner) => term(alloc, scope, inner.get()),
+        tree::Expr::Not(at, inner) => {
+            let inner = term(alloc, scope, inner.get())?.condition()?;
+            Ok(Term::Truth(Cond::Not(*at, Box::new(alloc, inner)?)))
+        }
+        tree::Expr::Binary(at, operator, _, left, right) => match meaning_of(*operator) {
+            Meaning::Arithmetic(operator) => {
+                let left = Box::new(alloc, term(alloc, scope, left.get())?.number()?)?;
+                let right = Box::new(alloc, term(alloc, scope, right.get())?.number()?)?;
+                Ok(Term::Number(Expr::Binary(*at, operator, left, right)))
+            }
+            Meaning::Comparison(comparison) => {
+                let left = term(alloc, scope, left.get())?.number()?;
+                let right = term(alloc, scope, right.get())?.number()?;
+                Ok(Term::Truth(Cond::Compare(*at, comparison, left, right)))
+            }
+            Meaning::And => {
+                let left = Box::new(alloc, term(alloc, scope, left.get())?.condition()?)?;
+                let right = Box::new(alloc, term(alloc, scope, right.get())?.condition()?)?;
+                Ok(Term::Truth(Cond::And(*at, left, right)))
+            }
+            Meaning::Or => {
+                let left = Box::new(alloc, term(alloc, scope, left.get())?.condition()?)?;
+                let right = Box::new(alloc, term(alloc, scope, right.get())?.condition()?)?;
+                Ok(Term::Truth(Cond::Or(*at, left, right)))
+            }
+        },
+    }
+}
+
+fn positive(at: Span, n: u64) -> Expr
+    ensures { result ≡ Expr.Number at (pos n) }
+{
+    Expr::Number(at, n as i128)
+}
+
+fn negative(at: Span, n: u64) -> Expr
+    ensures { result ≡ Expr.Number at (neg_ℤ (pos n)) }
+{
+    Expr::Number(at, -(n as i128))
+}
+
+/// What a plain name stands for.
+fn name(scope: &Scope<'_, '_>, at: Span) -> Result<Expr, ProfileFault>
+    ensures means { IfOk result (λ e. Means scope.now (t.Name at) (Term.Number e)) }
+    ensures right { IfOk result (λ e. spec.judged scope.now (t.Name at) ≡ spec.found (Term.Number e)) }
+    ensures refused { IfErr result (λ f. (spec.judged scope.now (t.Name at)).fault ≡ Some f) }
+{
+    match scope.plain(at) {
+        Some(expr) => Ok(expr),
+        None => Err(ProfileFault::about(ProfileFaultKind::UnknownName, at)),
+    }
+}
+
+/// What an attribute stands for.
+fn attribute(
+    scope: &Scope<'_, '_>,
+    at: Span,
+    owner: tree::Owner,
+    which: tree::Attribute,
+) -> Result<Expr, ProfileFault>
+    ensures means { IfOk result (λ e. Means scope.now (t.Attribute at owner which) (Term.Number e)) }
+    ensures right { IfOk result (λ e. spec.judged scope.now (t.Attribute at owner which) ≡ spec.found (Term.Number e)) }
+    ensures refused { IfErr result (λ f. (spec.judged scope.now (t.Attribute at owner which)).fault ≡ Some f) }
+{
+    if !scope.has_attributes() {
+        return Err(wrong_kind(at));
+    }
+    let subject = scope.subject(owner)?;
+    Ok(Expr::Attribute(
+        at,
+        Attribute {
+            subject,
+            side: side(which),
+            measure: measure(which),
+        },
+    ))
+}
+
+/// The meaning of an expression where a whole number is wanted.
+pub fn number(alloc: Global, scope: &Scope<'_, '_>, part: &tree::Expr) -> Result<Expr, ResolveError>
+    ensures means { IfOk result (λ e. Means scope.now part.now (Term.Number e)) }
+    ensures right { IfOk result (λ _. spec.fault_of Kind.Number scope.now part.now ≡ None) }
+    ensures refused { IfErr result (spec.Refuses (spec.fault_of Kind.Number scope.now part.now)) }
+{
+    let found = term(alloc, scope, part)?;
+    Ok(found.number()?)
+}
+
+/// The meaning of an expression where a truth is wanted.
+pub fn condition(
+    alloc: Global,
+    scope: &Scope<'_, '_>,
+    part: &tree::Expr,
+) -> Result<Cond, ResolveError>
+    ensures means { IfOk result (λ c. Means scope.now part.now (Term.Truth c)) }
+    ensures right { IfOk result (λ _. spec.fault_of Kind.Truth scope.now part.now ≡ None) }
+    ensures refused { IfErr result (spec.Refuses (spec.fault_of Kind.Truth scope.now part.now)) }
+{
+    let found = term(alloc, scope, part)?;
+    Ok(found.condition()?)
+}
+
+/// The meanings of expressions where whole numbers are wanted, in their order.
+pub fn numbers(
+    alloc: Global,
+    scope: &Scope<'_, '_>,
+    parts: &[tree::Expr],
+) -> Result<Items<Expr>, ResolveError>
+    ensures means { IfOk result (λ es. AllZip (λ part e. Means scope.now part (Term.Number e)) parts.now es) }
+    ensures right { IfOk result (λ _. spec.first_of (spec.fault_of Kind.Number scope.now) parts.now ≡ None) }
+    ensures refused { IfErr result (spec.Refuses (spec.first_of (spec.fault_of Kind.Number scope.now) parts.now)) }
+{
+    let mut found = Items::new(alloc);
+    for part in parts {
+        found.push(number(alloc, scope, part)?)?;
+    }
+    Ok(found)
+}
