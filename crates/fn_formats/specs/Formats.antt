@@ -28,7 +28,7 @@ pub record IsFormat (x : Setting) (number : ℕ) (section : Section) (f : Format
   -- the encodings of its fields
   pub encodings : List Encoding
   pub encoded : AllZip (FieldMeans (scope x number section) x.methods.now x.sections.now) (chosen x number section) encodings
-  pub fields_are : f.fields ≡ joined x.text.now x.sections.now (fields x number section) encodings
+  pub fields_are : f.fields ≡ joined x (fields x number section) encodings
   pub listing_is : f.listing ≡ map (place x.text.now (names_of x.text.now (fields x number section))) (own x number section)
   pub constraints_are : AreNumbered (scope x number section) (statements (scope x number section) (chosen x number section) x.sections.now section.items) f.constraints
 

@@ -6,6 +6,7 @@ ghost use Rattle.fn_formats.specs.Drafts as spec;
 
 use crate::constraints::format_constraints;
 use crate::encodings::field_encodings;
+use fn_bits::Bits;
 use fn_profile::{Constraint, Encoding, ProfileFault, Words, earlier};
 use fn_sections::{Mention, Table, encoded, encodings, in_order, listing, of_section};
 use fn_statements::Methods;
@@ -27,6 +28,11 @@ pub struct Setting<'a, 't> {
     pub base: &'a Table<'t>,
     /// The encoded fields of DEFAULT.
     pub default: &'a Table<'t>,
+    /// The names that INITIAL gives values, and these, side by side.
+    pub initial_names: &'a Words<'t>,
+    pub initial_values: &'a [Bits],
+    /// The names of the asked fields.
+    pub asked: &'a Words<'t>,
 }
 
 /// The parts of a format, and the earliest fault in them: fields in field order, their encodings, which of them the format lists, and its constraints. With a fault some are missing.

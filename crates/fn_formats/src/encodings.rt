@@ -45,7 +45,7 @@ pub fn field_encodings(
 }
 
 /// The fault of an error, unless it is want of memory.
-pub(crate) fn fault_of(error: ResolveError) -> Result<ProfileFault, AllocError>
+pub fn fault_of(error: ResolveError) -> Result<ProfileFault, AllocError>
     ensures { IfOk result (λ f. error ≡ ResolveError.Fault f) }
 {
     match error {

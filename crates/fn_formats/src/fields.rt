@@ -1,9 +1,11 @@
 //! The fields of a format.
 
-ghost use Rattle.std.specs.Prelude.{◌≡◌, IfOk, get_or, drop};
+ghost use Rattle.std.specs.Prelude.{◌≡◌, IfOk, get_or, drop, slice_get};
 ghost use Rattle.fn_formats.specs.Fields as spec;
 
-use fn_profile::{Declared, Encoding, Field, Name, Part, word};
+use crate::drafts::Setting;
+use fn_bits::Bits;
+use fn_profile::{Declared, Encoding, Field, Name, Part, Words, word};
 use fn_sections::Mention;
 use fn_tree::{Section, SectionKind};
 use sqlite_items::Items;
@@ -13,18 +15,17 @@ use std::str::from_utf8;
 /// The fields of a format with their encodings, in field order.
 pub fn joined_fields(
     alloc: Global,
-    text: &[u8],
-    sections: &[Section],
+    setting: &Setting<'_, '_>,
     mentions: &[Mention],
     encodings: Items<Encoding>,
 ) -> Result<Items<Field>, AllocError>
-    ensures { IfOk result (λ all. all ≡ spec.joined text.now sections.now mentions.now encodings) }
+    ensures { IfOk result (λ all. all ≡ spec.joined setting.now mentions.now encodings) }
 {
     let mut left = encodings;
     let mut all = Items::new(alloc);
     for mention in mentions {
         let encoding = take_first(&mut left);
-        all.push(field(alloc, text, sections, *mention, encoding)?)?;
+        all.push(field(alloc, setting, *mention, encoding)?)?;
     }
     Ok(all)
 }
@@ -41,24 +42,56 @@ fn take_first(left: &mut Items<Encoding>) -> Encoding
 
 fn field(
     alloc: Global,
-    text: &[u8],
-    sections: &[Section],
+    setting: &Setting<'_, '_>,
     mention: Mention,
     encoding: Encoding,
 ) -> Result<Field, AllocError>
-    ensures { IfOk result (λ f. f ≡ spec.field text.now sections.now mention encoding) }
+    ensures { IfOk result (λ f. f ≡ spec.field setting.now mention encoding) }
 {
-    let name = name_of(alloc, word(text, mention.name))?;
-    let part = part(sections, mention);
+    let name = word(setting.text, mention.name);
+    let initial = initial_of(alloc, setting.initial_names, setting.initial_values, name)?;
     Ok(Field {
         declared: Declared {
-            name,
-            part,
-            asked: false,
+            name: name_of(alloc, name)?,
+            part: part(setting.sections, mention),
+            asked: is_one_of(setting.asked, name),
         },
         encoding,
-        initial: None,
+        initial,
     })
+}
+
+/// The bits that INITIAL gives the name.
+fn initial_of(
+    alloc: Global,
+    names: &Words<'_>,
+    values: &[Bits],
+    name: &[u8],
+) -> Result<Option<Bits>, AllocError>
+    ensures { IfOk result (λ bits. bits ≡ spec.initial_of names.now values.now name.now) }
+{
+    match names.position(name) {
+        Some(place) => copied(alloc, values, place),
+        None => Ok(None),
+    }
+}
+
+fn copied(alloc: Global, values: &[Bits], place: usize) -> Result<Option<Bits>, AllocError>
+    ensures { IfOk result (λ bits. bits ≡ slice_get values.now place) }
+{
+    match values.get(place) {
+        Some(bits) => Ok(Some(bits.copy(alloc)?)),
+        None => Ok(None),
+    }
+}
+
+fn is_one_of(names: &Words<'_>, name: &[u8]) -> bool
+    ensures { result ≡ spec.is_one_of names.now name.now }
+{
+    match names.position(name) {
+        Some(_) => true,
+        None => false,
+    }
 }
 
 fn part(sections: &[Section], mention: Mention) -> Part
@@ -81,7 +114,7 @@ fn part_of(kind: SectionKind) -> Part
 }
 
 /// The name of these octets. A name of the notation is ASCII; octets that are no UTF-8 are answered as want of memory.
-pub(crate) fn name_of(alloc: Global, octets: &[u8]) -> Result<Name, AllocError>
+pub fn name_of(alloc: Global, octets: &[u8]) -> Result<Name, AllocError>
     ensures { IfOk result (λ n. n ≡ octets.now) }
 {
     match from_utf8(octets) {

@@ -21,7 +21,7 @@ pub struct Resolved {
     pub fault: Option<ProfileFault>,
 }
 
-/// The format of a COMPRESSED section, which is the method's section of this number. No field has a value of INITIAL yet.
+/// The format of a COMPRESSED section, which is the method's section of this number.
 pub fn section_format(
     alloc: Global,
     setting: &Setting<'_, '_>,
@@ -35,8 +35,7 @@ pub fn section_format(
     let encodings = draft.encodings;
     let fields = joined_fields(
         alloc,
-        setting.text,
-        setting.sections,
+        setting,
         draft.fields.firsts.as_slice(),
         encodings,
     )?;

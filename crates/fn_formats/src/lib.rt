@@ -3,8 +3,8 @@
 
 pub use constraints::{Constraints, format_constraints};
 pub use drafts::{Draft, Setting, draft_format};
-pub use encodings::{Encodings, field_encodings};
-pub use fields::joined_fields;
+pub use encodings::{Encodings, fault_of, field_encodings};
+pub use fields::{joined_fields, name_of};
 pub use formats::{Resolved, section_format};
 
 pub mod constraints;

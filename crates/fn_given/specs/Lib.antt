@@ -1,0 +1,4 @@
+pub mod Initials
+pub mod Enforced
+pub mod Asked
+pub mod Givens

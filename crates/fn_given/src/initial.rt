@@ -1,0 +1,110 @@
+//! The values of INITIAL.
+
+ghost use Rattle.std.specs.Prelude.{◌≡◌, ◌∷◌, [], IfOk, OnOk};
+ghost use Rattle.fn_given.specs.Initials as spec;
+
+use fn_bits::Bits;
+use fn_profile::{ProfileFault, ResolveError, Words, earlier, word};
+use fn_statements::initial_bits;
+use fn_terms::Scope;
+use fn_tree::{Bound, Item, Section, SectionKind};
+use sqlite_items::Items;
+use std::alloc::{AllocError, Global};
+
+/// The fields that statements of INITIAL name, each once, and their bits; and the earliest fault of the statements.
+#[derive(Drop)]
+pub struct Initials<'t> {
+    pub names: Words<'t>,
+    pub values: Items<Bits>,
+    pub fault: Option<ProfileFault>,
+}
+
+/// The values that the sections INITIAL give. Of a field's several statements the first counts.
+pub(crate) fn read_initials<'t>(
+    alloc: Global,
+    text: &'t [u8],
+    scope: &Scope<'_, '_>,
+    sections: &[Section],
+) -> Result<Initials<'t>, AllocError>
+    requires { scope.now.text ≡ text.now }
+    ensures { IfOk result (spec.AreRead scope.now (spec.bounds_in sections.now)) }
+{
+    let mut initials = Initials {
+        names: Words::new(alloc),
+        values: Items::new(alloc),
+        fault: None,
+    };
+    for section in sections {
+        if is_initial(section.kind) {
+            read_items(alloc, text, scope, section.items.as_slice(), &mut initials)?;
+        }
+    }
+    Ok(initials)
+}
+
+fn is_initial(kind: SectionKind) -> bool
+    ensures { result ≡ spec.is_initial kind }
+{
+    match kind {
+        SectionKind::Initial => true,
+        _ => false,
+    }
+}
+
+fn read_items<'t>(
+    alloc: Global,
+    text: &'t [u8],
+    scope: &Scope<'_, '_>,
+    items: &[Item],
+    initials: &mut Initials<'t>,
+) -> Result<(), AllocError>
+    requires { scope.now.text ≡ text.now }
+    ensures { OnOk result (spec.ReadOn scope.now (spec.bounds_of items.now) initials.old initials.new) }
+{
+    for item in items {
+        if let Item::Bound(bound) = item {
+            read_bound(alloc, text, scope, bound, &mut *initials)?;
+        }
+    }
+    Ok(())
+}
+
+fn read_bound<'t>(
+    alloc: Global,
+    text: &'t [u8],
+    scope: &Scope<'_, '_>,
+    bound: &Bound,
+    initials: &mut Initials<'t>,
+) -> Result<(), AllocError>
+    requires { scope.now.text ≡ text.now }
+    ensures { OnOk result (spec.ReadOn scope.now (bound.now ∷ []) initials.old initials.new) }
+{
+    match initial_bits(alloc, scope, bound) {
+        Ok(bits) => keep(word(text, bound.name), bits, initials),
+        Err(error) => {
+            let fault = fault_in(error)?;
+            initials.fault = earlier(initials.fault, Some(fault));
+            Ok(())
+        }
+    }
+}
+
+/// Keeps the bits of a field, unless it has some.
+fn keep<'t>(name: &'t [u8], bits: Bits, initials: &mut Initials<'t>) -> Result<(), AllocError>
+    ensures { OnOk result (initials.new ≡ spec.with_value initials.old name.now bits) }
+{
+    if initials.names.insert(name)? {
+        initials.values.push(bits)?;
+    }
+    Ok(())
+}
+
+/// The fault that an error tells.
+pub(crate) fn fault_in(error: ResolveError) -> Result<ProfileFault, AllocError>
+    ensures { IfOk result (λ f. error ≡ ResolveError.Fault f) }
+{
+    match error {
+        ResolveError::Fault(fault) => Ok(fault),
+        ResolveError::OutOfMemory => Err(AllocError),
+    }
+}

@@ -1,0 +1,13 @@
+use Rattle.std.proofs.Common.{◌+◌, refl, drop, arith}
+use Rattle.std.proofs.lemmas.Option.{slice_get_read}
+use Rattle.fn_methods.proofs.Leading.{next, ended}
+use Rattle.fn_methods.proofs.listing.listed_formats.Goals as goal
+
+pub loop-place-preserved : goal.loop-place-preserved
+loop-place-preserved c = λ base default.
+    let x = c.args.setting.now in
+    let here = slice_get_read x.sections.now _ c.loop-place.place c.section-item.result refl c.loop-place-test.true c.section-item.is in
+    c.in_ok-add_section.ensures base default here (drop (c.loop-place.place + 1) x.sections.now) (next x c.loop-place.place c.section-item.result c.loop-place.all here (c.loop-place.invariant base default))
+
+pub returns : goal.returns
+returns c = λ base default. ended c.args.setting.now c.loop-place.place c.loop-place.all (omega arith) (c.loop-place.invariant base default)

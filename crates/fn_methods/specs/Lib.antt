@@ -1,0 +1,4 @@
+pub mod Parameters
+pub mod Defaults
+pub mod Listing
+pub mod Methods

@@ -1,0 +1,54 @@
+//! The formats of a method.
+
+ghost use Rattle.std.specs.Prelude.{◌≡◌, ◌+◌, ◌∷◌, List, Some, IfOk, OnOk, slice_get};
+ghost use Rattle.fn_tree.specs.declared.tree.Section.{Section as GivenSection};
+ghost use Rattle.fn_profile.specs.Judging.{Judged};
+ghost use Rattle.fn_sections.specs.Tables.{IsTable};
+ghost use Rattle.fn_formats.specs.Drafts as drafts;
+ghost use Rattle.fn_methods.specs.Listing as spec;
+
+use fn_formats::{Setting, section_format};
+use fn_profile::{Format, ProfileFault, earlier};
+use fn_sections::Group;
+use fn_sections::mention::is_in;
+use fn_tree::Section;
+use sqlite_items::Items;
+use std::alloc::{AllocError, Global};
+
+/// The formats of a method in the order of the text, and the earliest fault in them. With a fault they are not whole.
+#[derive(Debug, Drop)]
+pub struct Formats {
+    pub found: Items<Format>,
+    pub fault: Option<ProfileFault>,
+}
+
+/// The formats of the method of this setting.
+pub fn listed_formats(alloc: Global, setting: &Setting<'_, '_>) -> Result<Formats, AllocError>
+    ensures { IsTable setting.now.text.now (drafts.base setting.now) setting.now.base.now → IsTable setting.now.text.now (drafts.default setting.now) setting.now.default.now → IfOk result (λ all. Judged (spec.AreFormats setting.now 0 setting.now.sections.now all.found) (spec.FormatCause setting.now) all.fault) }
+{
+    let mut all = Formats {
+        found: Items::new(alloc),
+        fault: None,
+    };
+    for (place, section) in setting.sections.iter().enumerate() {
+        add_section(alloc, setting, place, section, &mut all)?;
+    }
+    Ok(all)
+}
+
+fn add_section(
+    alloc: Global,
+    setting: &Setting<'_, '_>,
+    place: usize,
+    section: &Section,
+    all: &mut Formats,
+) -> Result<(), AllocError>
+    ensures { IsTable setting.now.text.now (drafts.base setting.now) setting.now.base.now → IsTable setting.now.text.now (drafts.default setting.now) setting.now.default.now → slice_get setting.now.sections.now place ≡ Some section.now → OnOk result ((rest : List GivenSection) → spec.Leads setting.now place (section.now ∷ rest) all.old → spec.Leads setting.now (place + 1) rest all.new) }
+{
+    if is_in(Group::Formats, section.kind) {
+        let resolved = section_format(alloc, setting, place, section)?;
+        all.found.push(resolved.format)?;
+        all.fault = earlier(all.fault, resolved.fault);
+    }
+    Ok(())
+}

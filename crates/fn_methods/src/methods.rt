@@ -1,0 +1,138 @@
+//! A method of a file in its normal form.
+
+ghost use Rattle.std.specs.Prelude.{◌≡◌, List, IfOk};
+ghost use Rattle.fn_profile.specs.Judging.{Judged};
+ghost use Rattle.fn_sections.specs.declared.mention.Mention.{Mention as ListedMention};
+ghost use Rattle.fn_sections.specs.Tables.{IsTable};
+ghost use Rattle.fn_sections.specs.Mentions.{encoded as encoded_mentions, mentions_in as mentions_of_group};
+ghost use Rattle.fn_methods.specs.Methods as spec;
+
+use crate::defaults::default_fault;
+use crate::listing::listed_formats;
+use crate::parameters::{parameter_names, parameter_table};
+use fn_formats::{Setting, name_of};
+use fn_given::{Givens, given};
+use fn_profile::{Format, Method, ProfileFault, Words, earlier, word};
+use fn_sections::{Group, Table, encoded, judge, mentions};
+use fn_statements::Methods;
+use fn_terms::Scope;
+use fn_tree::{Section, tree};
+use sqlite_items::Items;
+use std::alloc::{AllocError, Global};
+
+/// What all methods of a file have in common: its text, its constants with their values, and its methods' names and counts of parameters.
+#[derive(Drop)]
+pub struct FileSetting<'a, 't> {
+    pub text: &'t [u8],
+    pub constants: &'a Words<'t>,
+    pub values: &'a [i128],
+    pub methods: &'a Methods<'a>,
+    /// The table of the places where constants are named.
+    pub listed: &'a Table<'t>,
+}
+
+/// A method, and the earliest fault in it. With a fault the method is not whole.
+#[derive(Debug, Drop)]
+pub struct MethodDraft {
+    pub method: Method,
+    pub fault: Option<ProfileFault>,
+}
+
+/// The normal form of a method of the file. The top method alone has asked fields.
+pub fn resolved_method(
+    alloc: Global,
+    file: &FileSetting<'_, '_>,
+    method: &tree::Method,
+    is_top: bool,
+) -> Result<MethodDraft, AllocError>
+    ensures { (names : List ListedMention) → IsTable file.now.text.now names file.now.listed.now → IfOk result (λ d. Judged (spec.IsMethod file.now names method.now is_top d.method) (spec.MethodCause file.now names method.now) d.fault) }
+{
+    let named = judge(alloc, file.text, file.listed, method)?;
+    let body = method_body(alloc, file, method, is_top)?;
+    let name = name_of(alloc, word(file.text, method.name))?;
+    let parameters = parameter_names(alloc, file.text, method.parameters.as_slice())?;
+    Ok(MethodDraft {
+        method: Method {
+            name,
+            place: method.name,
+            parameters,
+            formats: body.formats,
+        },
+        fault: earlier(named, body.fault),
+    })
+}
+
+/// What a method's sections give, and the earliest fault in them but for their names.
+#[derive(Debug, Drop)]
+pub struct MethodBody {
+    pub formats: Items<Format>,
+    pub fault: Option<ProfileFault>,
+}
+
+fn method_body(
+    alloc: Global,
+    file: &FileSetting<'_, '_>,
+    method: &tree::Method,
+    is_top: bool,
+) -> Result<MethodBody, AllocError>
+    ensures { IfOk result (λ b. Judged (spec.IsBody file.now method.now is_top b.formats) (spec.BodyCause file.now method.now) b.fault) }
+{
+    let parameters = parameter_table(alloc, file.text, method.parameters.as_slice())?;
+    let none = Words::new(alloc);
+    let scope = Scope::new(file.text, file.constants, file.values, &parameters, &none);
+    let given = given(alloc, file.text, &scope, method.sections.as_slice(), is_top)?;
+    let body = body_with(alloc, file, method, &parameters, &given.givens)?;
+    Ok(MethodBody {
+        formats: body.formats,
+        fault: earlier(given.fault, body.fault),
+    })
+}
+
+/// The body of a method with these parameters and givens.
+fn body_with<'t>(
+    alloc: Global,
+    file: &FileSetting<'_, 't>,
+    method: &tree::Method,
+    parameters: &Words<'t>,
+    givens: &Givens<'t>,
+) -> Result<MethodBody, AllocError>
+    requires { parameters.now ≡ spec.distinct_words file.now.text.now method.now.parameters }
+    ensures { IfOk result (λ b. spec.HasFormats file.now method.now givens.now b.formats b.fault) }
+{
+    let sections = method.sections.as_slice();
+    let base = encoded_in(alloc, file.text, Group::Base, sections)?;
+    let default = encoded_in(alloc, file.text, Group::Default, sections)?;
+    let setting = Setting {
+        text: file.text,
+        constants: file.constants,
+        values: file.values,
+        parameters,
+        methods: file.methods,
+        sections,
+        base: &base,
+        default: &default,
+        initial_names: &givens.names,
+        initial_values: givens.values.as_slice(),
+        asked: &givens.asked,
+    };
+    let listed = listed_formats(alloc, &setting)?;
+    let defaults = default_fault(alloc, &setting)?;
+    Ok(MethodBody {
+        formats: listed.found,
+        fault: earlier(listed.fault, defaults),
+    })
+}
+
+/// The table of the encoded fields of a group of sections.
+fn encoded_in<'t>(
+    alloc: Global,
+    text: &'t [u8],
+    group: Group,
+    sections: &[Section],
+) -> Result<Table<'t>, AllocError>
+    ensures { IfOk result (IsTable text.now (encoded_mentions (mentions_of_group text.now group 0 sections.now))) }
+{
+    let all = mentions(alloc, text, sections, group)?;
+    let bound = encoded(alloc, all.as_slice())?;
+    Table::of(alloc, text, bound.as_slice())
+}

@@ -1,0 +1,41 @@
+//! The parameters of a method.
+
+ghost use Rattle.std.specs.Prelude.{◌≡◌, map, IfOk};
+ghost use Rattle.fn_profile.specs.Words.{word as words};
+ghost use Rattle.fn_methods.specs.Parameters as spec;
+
+use fn_formats::name_of;
+use fn_profile::{Name, Words, word};
+use fn_source::Span;
+use sqlite_items::Items;
+use std::alloc::{AllocError, Global};
+
+/// The table of the parameters' names.
+pub fn parameter_table<'t>(
+    alloc: Global,
+    text: &'t [u8],
+    parameters: &[Span],
+) -> Result<Words<'t>, AllocError>
+    ensures { IfOk result (λ names. names ≡ spec.distinct_words text.now parameters.now) }
+{
+    let mut names = Words::new(alloc);
+    for parameter in parameters {
+        names.insert(word(text, *parameter))?;
+    }
+    Ok(names)
+}
+
+/// The parameters' names in their order.
+pub fn parameter_names(
+    alloc: Global,
+    text: &[u8],
+    parameters: &[Span],
+) -> Result<Items<Name>, AllocError>
+    ensures { IfOk result (λ names. names ≡ map (words text.now) parameters.now) }
+{
+    let mut names = Items::new(alloc);
+    for parameter in parameters {
+        names.push(name_of(alloc, word(text, *parameter))?)?;
+    }
+    Ok(names)
+}
