@@ -1,6 +1,13 @@
 pub mod Chains
 pub mod Distinct
+pub mod Keeping
 pub mod Returns
 pub mod Seen
 pub mod Shallow
 pub mod Sites
+pub mod Stated
+pub mod Using
+pub mod Weighing
+pub mod Forms
+pub mod Bridging
+pub mod Passes

@@ -5,3 +5,8 @@ pub mod Parts
 pub mod Recursion
 pub mod Top
 pub mod Twice
+pub mod Uses
+pub mod Large
+pub mod Reached
+pub mod Methods
+pub mod Resolved

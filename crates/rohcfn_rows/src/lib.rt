@@ -12,4 +12,6 @@ mod running;
 #[cfg(test)]
 mod samples;
 #[cfg(test)]
+mod show;
+#[cfg(test)]
 mod trees;

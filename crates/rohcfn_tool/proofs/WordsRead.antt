@@ -1,16 +1,21 @@
 -- What words that are written out ask for.
 use Rattle.std.proofs.Common.{◌≡◌, [], ◌∷◌, None, Some, inl, refl, codes}
 use Rattle.clap.proofs.OnLiterals.{clap_on_literals}
-use Rattle.rohcfn_tool.specs.declared.words.Command.TheVariants.{Pack, Unpack}
+use Rattle.rohcfn_tool.specs.declared.words.Command.TheVariants.{Show, Run}
+use Rattle.rohcfn_tool.specs.declared.words.Direction.TheVariants.{Pack, Unpack}
 use Rattle.rohcfn_tool.specs.Words.{AskHelp, ReadsWords, asked_of, program}
 
-pub pack_read : asked_of (codes "pack" ∷ codes "--top" ∷ codes "plain" ∷ []) ≡ Some (record { command = Pack; top = codes "plain" })
+pub pack_read : asked_of (codes "pack" ∷ codes "--top" ∷ codes "plain" ∷ []) ≡ Some (record { command = Run Pack; top = codes "plain" })
 unfolding asked_of program clap_on_literals
 pack_read = refl
 
-pub unpack_read : asked_of (codes "unpack" ∷ codes "--top=plain" ∷ []) ≡ Some (record { command = Unpack; top = codes "plain" })
+pub unpack_read : asked_of (codes "unpack" ∷ codes "--top=plain" ∷ []) ≡ Some (record { command = Run Unpack; top = codes "plain" })
 unfolding asked_of program clap_on_literals
 unpack_read = refl
+
+pub show_read : asked_of (codes "show" ∷ codes "--top" ∷ codes "plain" ∷ []) ≡ Some (record { command = Show; top = codes "plain" })
+unfolding asked_of program clap_on_literals
+show_read = refl
 
 pub top_missing : asked_of (codes "pack" ∷ []) ≡ None
 unfolding asked_of program clap_on_literals
@@ -29,4 +34,4 @@ unfolding AskHelp program clap_on_literals
 help_wanted = inl refl
 
 pub words_are_read : ReadsWords
-words_are_read = record { pack = pack_read; unpack = unpack_read; no_top = top_missing; no_command = command_missing; other_flag = flag_unknown; help = help_wanted }
+words_are_read = record { pack = pack_read; unpack = unpack_read; show = show_read; no_top = top_missing; no_command = command_missing; other_flag = flag_unknown; help = help_wanted }

@@ -1,4 +1,4 @@
--- What is printed for a profile and items or packets.
+-- What is printed for a profile, and for a profile and items or packets.
 use Rattle.std.specs.Prelude.{◌≡◌, ℕ, ◌+◌, ◌≤◌, Bool, List, [], ◌∷◌, ◌++◌, length, codes, decimal, Option, Some, None, string_bytes}
 use Rattle.std.specs.Str.{IsUtf8}
 use Rattle.std.specs.Borrow.{Bor}
@@ -6,6 +6,12 @@ use Rattle.fn_bits.specs.Text.{IsText, ReadsAs}
 use Rattle.fn_bits.specs.Lines.{numbered_lines, broken_line}
 use Rattle.fn_source.specs.declared.fault.Fault.{Fault}
 use Rattle.fn_source.specs.Faults.{code_of}
+use Rattle.fn_profile.specs.declared.fault.ProfileFault.{ProfileFault}
+use Rattle.fn_profile.specs.Faults as profiles
+use Rattle.fn_names.specs.Resolved.{Resolved}
+use Rattle.fn_reading.specs.Readings.{HasCause, IsTextFault, Reads}
+use Rattle.fn_show.specs.Shown as listing
+use Rattle.fn_show.specs.Texts.{fault_words}
 use Rattle.fn_source.specs.Places.{line_of, column_of}
 use Rattle.fn_model.specs.declared.filling.Filling.{Filling}
 use Rattle.fn_model.specs.NormalForm.{NormalForm}
@@ -17,8 +23,9 @@ use Rattle.fn_engine.specs.declared.reader.UnpackFault.TheVariants.{Truncated, R
 use Rattle.rohcfn_tool.specs.declared.status.Answer.{Answer}
 use Rattle.rohcfn_tool.specs.declared.status.Status.{Status}
 use Rattle.rohcfn_tool.specs.declared.status.Status.TheVariants as status
-use Rattle.rohcfn_tool.specs.declared.words.Command.{Command}
-use Rattle.rohcfn_tool.specs.declared.words.Command.TheVariants.{Pack, Unpack}
+use Rattle.rohcfn_tool.specs.declared.words.Command.TheVariants.{Show, Run}
+use Rattle.rohcfn_tool.specs.declared.words.Direction.{Direction}
+use Rattle.rohcfn_tool.specs.declared.words.Direction.TheVariants.{Pack, Unpack}
 use Rattle.rohcfn_tool.specs.declared.words.Order.{Order}
 use Rattle.fn_engine.specs.declared.writer.PackFault.{PackFault}
 use Rattle.fn_engine.specs.declared.writer.PackFault.TheVariants as writer
@@ -62,7 +69,7 @@ BlamesLine bad.OutOfMemory octets = Unit {0}
 
 -- For an item, the packed bits of a filling that fits and has it. For a packet, the header of a filling that fits and whose
 -- packed bits are at its front, and how many bits that takes.
-abbrev pub IsLine : Command → NormalForm → List Bool → List ℕ → Type 0
+abbrev pub IsLine : Direction → NormalForm → List Bool → List ℕ → Type 0
 IsLine Pack p item text = (f : Filling) × Fits p f × (header f ≡ item) × IsText text (packed f)
 IsLine Unpack p packet text = (f : Filling) × InFronts p packet f × ((front : List ℕ) × IsText front (header f) × (text ≡ front ++ codes " took " ++ decimal (length (packed f))))
 
@@ -79,64 +86,94 @@ IsPacketFault Refused top n text = text ≡ codes "packet " ++ decimal n ++ code
 IsPacketFault OutOfMemory top n text = ⊥
 
 -- the line of a refusal, which is true of the item or the packet
-abbrev pub IsFault : Command → List ℕ → NormalForm → ℕ → List Bool → List ℕ → Type 0
+abbrev pub IsFault : Direction → List ℕ → NormalForm → ℕ → List Bool → List ℕ → Type 0
 IsFault Pack top p n item text = (e : PackFault) × BlamesItem e p item × IsItemFault e n text
 IsFault Unpack top p n packet text = (e : UnpackFault) × Blames e p packet × IsPacketFault e top n text
 
 -- What is printed for items or packets, counted from n: a line for each, up to the first that is refused.
-pub data Prints (command : Command) (top : List ℕ) (p : NormalForm) : ℕ → List (List Bool) → Status → List ℕ → Type 0 where
-  done : {n : ℕ} → Prints command top p n [] status.Done []
-  line : {n : ℕ} {x : List Bool} {xs : List (List Bool)} {s : Status} (text rest : List ℕ) → IsLine command p x text → Prints command top p (n + 1) xs s rest
-      → Prints command top p n (x ∷ xs) s (text ++ 10 ∷ rest)
-  fault : {n : ℕ} {x : List Bool} {xs : List (List Bool)} (text : List ℕ) → IsFault command top p n x text → Prints command top p n (x ∷ xs) status.Refused (text ++ 10 ∷ [])
+pub data Prints (direction : Direction) (top : List ℕ) (p : NormalForm) : ℕ → List (List Bool) → Status → List ℕ → Type 0 where
+  done : {n : ℕ} → Prints direction top p n [] status.Done []
+  line : {n : ℕ} {x : List Bool} {xs : List (List Bool)} {s : Status} (text rest : List ℕ) → IsLine direction p x text → Prints direction top p (n + 1) xs s rest
+      → Prints direction top p n (x ∷ xs) s (text ++ 10 ∷ rest)
+  fault : {n : ℕ} {x : List Bool} {xs : List (List Bool)} (text : List ℕ) → IsFault direction top p n x text → Prints direction top p n (x ∷ xs) status.Refused (text ++ 10 ∷ [])
 
 -- ---- the whole answer
 
--- the part that a command reads, with its name and with what a bad line of it is called
-abbrev pub input_of : Command → Parts → Option (Bor (List ℕ))
+-- the part that is read in a direction, with its name and with what a bad line of it is called
+abbrev pub input_of : Direction → Parts → Option (Bor (List ℕ))
 input_of Pack parts = parts.items
 input_of Unpack parts = parts.packets
 
-abbrev pub input_name : Command → List ℕ
+abbrev pub input_name : Direction → List ℕ
 input_name Pack = codes "items"
 input_name Unpack = codes "packets"
 
-abbrev pub bad_line_words : Command → List ℕ
+abbrev pub bad_line_words : Direction → List ℕ
 bad_line_words Pack = codes ": I1 bad item"
 bad_line_words Unpack = codes ": I2 bad packet"
+
+-- a line of the profile: where an octet of it stands, a code and words
+abbrev pub profile_line : List ℕ → ℕ → List ℕ → List ℕ → List ℕ
+profile_line octets offset code words = codes "profile:" ++ decimal (line_of octets offset) ++ codes ":" ++ decimal (column_of octets offset) ++ codes ": " ++ code ++ codes " " ++ words
 
 -- a fault at its line and column, with its code
 pub record IsProfileFault (octets : List ℕ) (fault : Fault) (text : List ℕ) : Type 0 where
   pub words : List ℕ
-  pub spelled : text ≡ codes "profile:" ++ decimal (line_of octets fault.at.from) ++ codes ":" ++ decimal (column_of octets fault.at.from) ++ codes ": " ++ code_of fault.kind ++ codes " " ++ words
+  pub spelled : text ≡ profile_line octets fault.at.from (code_of fault.kind) words
 
--- What is answered to a command, by the octets of a profile and of items or packets.
-pub data AnsweredBy (command : Command) (top profile input : List ℕ) : Status → List ℕ → Type 0 where
+-- a fault of the normal form at its line and column, with its code and its words
+abbrev pub cause_line : List ℕ → ProfileFault → List ℕ
+cause_line octets f = profile_line octets f.at.from (profiles.code_of f.kind) (fault_words octets f)
+
+-- What is answered to `show`, by the octets of a profile.
+pub data ShownBy (top octets : List ℕ) : Status → List ℕ → Type 0 where
+  -- the octets have no tree
+  text_fault : (fault : Fault) (text : List ℕ) → IsTextFault octets fault → IsProfileFault octets fault text → ShownBy top octets status.Refused (text ++ 10 ∷ [])
+  -- their tree has no normal form
+  profile_fault : (fault : ProfileFault) → HasCause octets top fault → ShownBy top octets status.Refused (cause_line octets fault ++ 10 ∷ [])
+  -- the methods, bounds and constraints of the normal form
+  listed : (p : Resolved) → Reads octets top p → ShownBy top octets status.Done (listing.shown octets p.methods p.sizes)
+
+-- What is answered in a direction, by the octets of a profile and of items or packets.
+pub data AnsweredBy (direction : Direction) (top profile input : List ℕ) : Status → List ℕ → Type 0 where
   -- the profile is at fault
-  at_fault : (fault : Fault) (text : List ℕ) → refusals.IsFault profile top fault → IsProfileFault profile fault text → AnsweredBy command top profile input status.Refused (text ++ 10 ∷ [])
+  at_fault : (fault : Fault) (text : List ℕ) → refusals.IsFault profile top fault → IsProfileFault profile fault text → AnsweredBy direction top profile input status.Refused (text ++ 10 ∷ [])
   -- the profile is outside the fragment
-  outside : refusals.IsOutside profile top → AnsweredBy command top profile input status.Refused (codes "prove: P3 Limit" ++ 10 ∷ [])
+  outside : refusals.IsOutside profile top → AnsweredBy direction top profile input status.Refused (codes "prove: P3 Limit" ++ 10 ∷ [])
   -- the profile is read, and a line can't be
   bad_line : (p : NormalForm) (n : ℕ) → StandsFor profile top p → IsBadLine input n
-      → AnsweredBy command top profile input status.Refused (input_name command ++ codes ":" ++ decimal n ++ bad_line_words command ++ 10 ∷ [])
+      → AnsweredBy direction top profile input status.Refused (input_name direction ++ codes ":" ++ decimal n ++ bad_line_words direction ++ 10 ∷ [])
   -- a line for each item or packet, by the profile that the octets stand for
   answered : {s : Status} {output : List ℕ} (p : NormalForm) (inputs : List (List Bool)) → StandsFor profile top p → HasTexts input inputs
-      → Prints command top p 1 inputs s output → AnsweredBy command top profile input s output
+      → Prints direction top p 1 inputs s output → AnsweredBy direction top profile input s output
+
+-- What is answered in a direction, by the octets of a profile and the parts.
+pub data AnsweredRun (direction : Direction) (top profile : List ℕ) (parts : Parts) : Status → List ℕ → Type 0 where
+  no_input : input_of direction parts ≡ None → AnsweredRun direction top profile parts status.Refused (codes "bundle: I4 bad part " ++ input_name direction ++ 10 ∷ [])
+  both : {s : Status} {output : List ℕ} (input : Bor (List ℕ)) → input_of direction parts ≡ Some input → AnsweredBy direction top profile input.now s output
+      → AnsweredRun direction top profile parts s output
 
 -- What is answered to an order with these parts.
 pub data Answered (order : Order) (parts : Parts) : Status → List ℕ → Type 0 where
   no_profile : parts.profile ≡ None → Answered order parts status.Refused (codes "bundle: I4 bad part profile" ++ 10 ∷ [])
-  no_input : input_of order.command parts ≡ None → Answered order parts status.Refused (codes "bundle: I4 bad part " ++ input_name order.command ++ 10 ∷ [])
-  both : {s : Status} {output : List ℕ} (profile input : Bor (List ℕ)) → parts.profile ≡ Some profile → input_of order.command parts ≡ Some input
-      → AnsweredBy order.command order.top.now profile.now input.now s output → Answered order parts s output
+  shown : {s : Status} {output : List ℕ} (profile : Bor (List ℕ)) → parts.profile ≡ Some profile → order.command ≡ Show
+      → ShownBy order.top.now profile.now s output → Answered order parts s output
+  ran : {s : Status} {output : List ℕ} (profile : Bor (List ℕ)) (direction : Direction) → parts.profile ≡ Some profile → order.command ≡ Run direction
+      → AnsweredRun direction order.top.now profile.now parts s output → Answered order parts s output
 
 -- ---- the steps
 
 abbrev pub Answers : Order → Parts → Answer → Type 0
 Answers order parts a = Answered order parts a.status (string_bytes a.output)
 
-abbrev pub AnswersBy : Command → List ℕ → List ℕ → List ℕ → Answer → Type 0
-AnswersBy command top profile input a = AnsweredBy command top profile input a.status (string_bytes a.output)
+abbrev pub AnswersRun : Direction → List ℕ → List ℕ → Parts → Answer → Type 0
+AnswersRun direction top profile parts a = AnsweredRun direction top profile parts a.status (string_bytes a.output)
+
+abbrev pub Shows : List ℕ → List ℕ → Answer → Type 0
+Shows top octets a = ShownBy top octets a.status (string_bytes a.output)
+
+abbrev pub AnswersBy : Direction → List ℕ → List ℕ → List ℕ → Answer → Type 0
+AnswersBy direction top profile input a = AnsweredBy direction top profile input a.status (string_bytes a.output)
 
 -- one line, which refuses
 pub record IsRefusal (text : List ℕ) (a : Answer) : Type 0 where
@@ -144,6 +181,6 @@ pub record IsRefusal (text : List ℕ) (a : Answer) : Type 0 where
   pub line_is : string_bytes a.output ≡ text ++ 10 ∷ []
 
 -- a line for an item or a packet, or the line of its refusal
-abbrev pub IsPrinted : Command → List ℕ → NormalForm → ℕ → List Bool → Printed → Type 0
-IsPrinted command top p n input (printed.Line text) = IsLine command p input (string_bytes text)
-IsPrinted command top p n input (printed.Fault text) = IsFault command top p n input (string_bytes text)
+abbrev pub IsPrinted : Direction → List ℕ → NormalForm → ℕ → List Bool → Printed → Type 0
+IsPrinted direction top p n input (printed.Line text) = IsLine direction p input (string_bytes text)
+IsPrinted direction top p n input (printed.Fault text) = IsFault direction top p n input (string_bytes text)

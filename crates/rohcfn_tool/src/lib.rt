@@ -4,5 +4,6 @@
 pub mod inputs;
 pub mod program;
 pub mod replies;
+pub mod showing;
 pub mod status;
 pub mod words;

@@ -2,11 +2,12 @@
 
 ghost use Rattle.std.specs.Prelude.{◌≡◌, ◌∷◌, ◌++◌, [], ℕ, List, IfOk, OnOk, codes, decimal, string_bytes};
 ghost use Rattle.fn_fragment.specs.Refusals.{Refuses};
-ghost use Rattle.rohcfn_tool.specs.Printed.{IsPrinted, IsProfileFault, IsRefusal, Prints, Answers, AnswersBy, input_name, bad_line_words};
+ghost use Rattle.rohcfn_tool.specs.Printed.{IsPrinted, IsProfileFault, IsRefusal, Prints, Answers, AnswersBy, AnswersRun, input_name, bad_line_words};
 
 use crate::inputs::{BadLine, read_inputs};
+use crate::showing::answer_listing;
 use crate::status::{Answer, Status};
-use crate::words::{Command, Order};
+use crate::words::{Command, Direction, Order};
 use fn_bits::{Bits, Cursor};
 use fn_engine::{PackFault, Read, UnpackFault, Written, pack, unpack};
 use fn_fragment::{ProfileError, read_profile};
@@ -24,9 +25,11 @@ pub enum Printed {
     Fault(String),
 }
 
-/// What is printed for an order: a line for each item or packet up to the first refusal, or the one line of another fault.
+/// What is printed for an order: the listing of a profile, a line for each item or packet up to the first refusal, or the
+/// one line of another fault.
 ///
-/// The order of faults: a missing part, the profile, a line of the items or packets, and then each item or packet.
+/// The order of faults: the missing part `profile`, another missing part, the profile, a line of the items or packets, and
+/// then each item or packet.
 pub fn answer(alloc: Global, order: &Order<'_>, parts: &Parts<'_>) -> Result<Answer, AllocError>
     ensures { IfOk result (Answers order.now parts.now) }
 {
@@ -34,35 +37,51 @@ pub fn answer(alloc: Global, order: &Order<'_>, parts: &Parts<'_>) -> Result<Ans
         return refusal(alloc, "bundle: I4 bad part profile");
     };
     match order.command {
-        Command::Pack => match parts.items {
-            Some(items) => answer_lines(alloc, Command::Pack, order.top, profile, items),
+        Command::Show => answer_listing(alloc, order.top, profile),
+        Command::Run(direction) => answer_run(alloc, direction, order.top, profile, parts),
+    }
+}
+
+/// The answer by the octets of a profile, and the items or packets among the parts.
+fn answer_run(
+    alloc: Global,
+    direction: Direction,
+    top: &str,
+    profile: &[u8],
+    parts: &Parts<'_>,
+) -> Result<Answer, AllocError>
+    ensures { IfOk result (AnswersRun direction top.now profile.now parts.now) }
+{
+    match direction {
+        Direction::Pack => match parts.items {
+            Some(items) => answer_lines(alloc, Direction::Pack, top, profile, items),
             None => refusal(alloc, "bundle: I4 bad part items"),
         },
-        Command::Unpack => match parts.packets {
-            Some(packets) => answer_lines(alloc, Command::Unpack, order.top, profile, packets),
+        Direction::Unpack => match parts.packets {
+            Some(packets) => answer_lines(alloc, Direction::Unpack, top, profile, packets),
             None => refusal(alloc, "bundle: I4 bad part packets"),
         },
     }
 }
 
-/// The answer to a command, by the octets of a profile and of items or packets.
+/// The answer in a direction, by the octets of a profile and of items or packets.
 fn answer_lines(
     alloc: Global,
-    command: Command,
+    direction: Direction,
     top: &str,
     profile: &[u8],
     input: &[u8],
 ) -> Result<Answer, AllocError>
-    ensures { IfOk result (AnswersBy command top.now profile.now input.now) }
+    ensures { IfOk result (AnswersBy direction top.now profile.now input.now) }
 {
     let normal = match read_profile(alloc, profile, top) {
         Ok(normal) => normal,
         Err(error) => return profile_refusal(alloc, profile, error),
     };
     match read_inputs(alloc, input) {
-        Ok(inputs) => print_all(alloc, command, top, &normal, inputs.as_slice()),
+        Ok(inputs) => print_all(alloc, direction, top, &normal, inputs.as_slice()),
         Err(BadLine::Number(number)) => {
-            let line = bad_line(alloc, command, number)?;
+            let line = bad_line(alloc, direction, number)?;
             refusal(alloc, line.as_str())
         }
         Err(BadLine::OutOfMemory) => Err(AllocError),
@@ -71,7 +90,7 @@ fn answer_lines(
 
 /// The line of a profile that is refused.
 fn profile_refusal(alloc: Global, octets: &[u8], error: ProfileError) -> Result<Answer, AllocError>
-    ensures { (command : Command) (top input : List ℕ) → Refuses octets.now top error → IfOk result (AnswersBy command top octets.now input) }
+    ensures { (direction : Direction) (top input : List ℕ) → Refuses octets.now top error → IfOk result (AnswersBy direction top octets.now input) }
 {
     match error {
         ProfileError::Fault(fault) => {
@@ -84,7 +103,7 @@ fn profile_refusal(alloc: Global, octets: &[u8], error: ProfileError) -> Result<
 }
 
 /// One line, and the status of a refusal.
-fn refusal(alloc: Global, line: &str) -> Result<Answer, AllocError>
+pub(crate) fn refusal(alloc: Global, line: &str) -> Result<Answer, AllocError>
     ensures { IfOk result (IsRefusal line.now) }
 {
     let mut output = String::from_str(alloc, line)?;
@@ -96,7 +115,7 @@ fn refusal(alloc: Global, line: &str) -> Result<Answer, AllocError>
 }
 
 /// A fault of the profile, at its line and column.
-fn profile_line(alloc: Global, octets: &[u8], fault: Fault) -> Result<String, AllocError>
+pub(crate) fn profile_line(alloc: Global, octets: &[u8], fault: Fault) -> Result<String, AllocError>
     ensures { IfOk result (λ text. IsProfileFault octets.now fault (string_bytes text)) }
 {
     let place = line_column(octets, fault.at.from);
@@ -106,7 +125,8 @@ fn profile_line(alloc: Global, octets: &[u8], fault: Fault) -> Result<String, Al
     fault_line(alloc, line, column, code, words.as_str())
 }
 
-fn fault_line(
+/// The line of a fault with its code and its words.
+pub(crate) fn fault_line(
     alloc: Global,
     line: usize,
     column: usize,
@@ -119,28 +139,28 @@ fn fault_line(
 }
 
 /// The line of a part that can't be read.
-fn bad_line(alloc: Global, command: Command, number: usize) -> Result<String, AllocError>
-    ensures { IfOk result (λ text. string_bytes text ≡ input_name command ++ codes ":" ++ decimal number ++ bad_line_words command) }
+fn bad_line(alloc: Global, direction: Direction, number: usize) -> Result<String, AllocError>
+    ensures { IfOk result (λ text. string_bytes text ≡ input_name direction ++ codes ":" ++ decimal number ++ bad_line_words direction) }
 {
-    match command {
-        Command::Pack => format!(in alloc; "items:{number}: I1 bad item"),
-        Command::Unpack => format!(in alloc; "packets:{number}: I2 bad packet"),
+    match direction {
+        Direction::Pack => format!(in alloc; "items:{number}: I1 bad item"),
+        Direction::Unpack => format!(in alloc; "packets:{number}: I2 bad packet"),
     }
 }
 
 /// A line for each item or packet, up to the first that is refused.
 fn print_all(
     alloc: Global,
-    command: Command,
+    direction: Direction,
     top: &str,
     profile: &Profile,
     inputs: &[Bits],
 ) -> Result<Answer, AllocError>
-    ensures { IfOk result (λ a. Prints command top.now profile.now 1 inputs.now a.status (string_bytes a.output)) }
+    ensures { IfOk result (λ a. Prints direction top.now profile.now 1 inputs.now a.status (string_bytes a.output)) }
 {
     let mut output = String::new(alloc);
     for (i, input) in inputs.iter().enumerate() {
-        match print_one(alloc, command, top, profile, i + 1, input)? {
+        match print_one(alloc, direction, top, profile, i + 1, input)? {
             Printed::Line(line) => push_line(&mut output, line.as_str())?,
             Printed::Fault(line) => {
                 push_line(&mut output, line.as_str())?;
@@ -167,17 +187,17 @@ fn push_line(output: &mut String, line: &str) -> Result<(), AllocError>
 /// The line of an item or a packet, whose number counts from 1.
 fn print_one(
     alloc: Global,
-    command: Command,
+    direction: Direction,
     top: &str,
     profile: &Profile,
     number: usize,
     input: &Bits,
 ) -> Result<Printed, AllocError>
-    ensures { IfOk result (IsPrinted command top.now profile.now number input.now) }
+    ensures { IfOk result (IsPrinted direction top.now profile.now number input.now) }
 {
-    match command {
-        Command::Pack => print_packed(alloc, profile, number, input),
-        Command::Unpack => print_read(alloc, top, profile, number, input),
+    match direction {
+        Direction::Pack => print_packed(alloc, profile, number, input),
+        Direction::Unpack => print_read(alloc, top, profile, number, input),
     }
 }
 
@@ -188,7 +208,7 @@ fn print_packed(
     number: usize,
     item: &Bits,
 ) -> Result<Printed, AllocError>
-    ensures { (top : List ℕ) → IfOk result (IsPrinted Command.Pack top profile.now number item.now) }
+    ensures { (top : List ℕ) → IfOk result (IsPrinted Direction.Pack top profile.now number item.now) }
 {
     match pack(alloc, profile, item) {
         Ok(Written { packed, filling: _ }) => Ok(Printed::Line(packed.print_text(alloc)?)),
@@ -210,7 +230,7 @@ fn print_read(
     number: usize,
     packet: &Bits,
 ) -> Result<Printed, AllocError>
-    ensures { IfOk result (IsPrinted Command.Unpack top.now profile.now number packet.now) }
+    ensures { IfOk result (IsPrinted Direction.Unpack top.now profile.now number packet.now) }
 {
     let mut cursor = Cursor::new(packet);
     match unpack(alloc, profile, &mut cursor) {

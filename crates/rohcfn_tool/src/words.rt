@@ -12,6 +12,15 @@ use thiserror::Error;
 /// What the program does.
 #[derive(Clone, Copy, Debug, PartialEq, Eq)]
 pub enum Command {
+    /// Lists what the part `profile` says.
+    Show,
+    /// Turns lines into lines by the part `profile`.
+    Run(Direction),
+}
+
+/// From which lines to which.
+#[derive(Clone, Copy, Debug, PartialEq, Eq)]
+pub enum Direction {
     /// Items to packed bits.
     Pack,
     /// Packed bits to items.
@@ -46,8 +55,8 @@ impl From<AllocError> for WordsError {
     }
 }
 
-/// Reads the words that follow the program's name: a command, `pack` or `unpack`, and its flag
-/// `--top NAME`.
+/// Reads the words that follow the program's name: a command, `pack`, `unpack` or `show`, and its
+/// flag `--top NAME`.
 ///
 /// The clauses say it by clap's own account of a command line (`asked_of`), on which clap's parse is
 /// proved exact. They say nothing of the text, and not which usage fault it tells.
@@ -79,13 +88,19 @@ fn program<'a>(alloc: Global) -> Result<clap::Command<'a>, AllocError>
 {
     let pack = with_top(alloc, "pack", "Packs the part items")?;
     let unpack = with_top(alloc, "unpack", "Unpacks the part packets")?;
+    let show = with_top(
+        alloc,
+        "show",
+        "Shows the methods, bounds and constraints of the part profile",
+    )?;
     clap::Command::new(alloc, "rohcfn")
         .about("Packs and unpacks headers by a profile in the ROHC formal notation")
         .bin_name("rohcfn")?
         .no_binary_name(true)
         .subcommand_required(true)
         .subcommand(pack)?
-        .subcommand(unpack)
+        .subcommand(unpack)?
+        .subcommand(show)
 }
 
 // A command with its flag.
@@ -119,9 +134,11 @@ fn command_of(name: &str) -> Option<Command>
     ensures { result ≡ command_named name.now }
 {
     if name == "pack" {
-        Some(Command::Pack)
+        Some(Command::Run(Direction::Pack))
     } else if name == "unpack" {
-        Some(Command::Unpack)
+        Some(Command::Run(Direction::Unpack))
+    } else if name == "show" {
+        Some(Command::Show)
     } else {
         None
     }

@@ -138,6 +138,25 @@ fn prints_an_answer(rt: HostRuntime) {
 }
 
 #[test]
+fn shows_a_profile(rt: HostRuntime) {
+    let words = ["show", "--top", "plain"];
+    prints(
+        &rt,
+        words.as_slice(),
+        b"=== items\n16:5abc\n",
+        Status::Refused,
+        b"bundle: I4 bad part profile\n",
+    );
+    prints(
+        &rt,
+        &[],
+        b"=== words\nshow --top plain\n=== profile\nplain {\n",
+        Status::Refused,
+        b"profile:2:1: E10 unexpected token\n",
+    );
+}
+
+#[test]
 fn refuses_parts(rt: HostRuntime) {
     let table: [(&[u8], &[u8]); 12] = [
         (b"", b"bundle: I4 bad part words\n"),

@@ -4,7 +4,7 @@ use Rattle.rohcfn_tool.proofs.Replying.{refused_at, all_answered}
 use Rattle.rohcfn_tool.proofs.replies.answer_lines.Goals as goal
 
 pub returns-in-Err : goal.returns-in-Err
-returns-in-Err c = c.profile_refusal.ensures c.args.command c.args.top.now c.args.input.now c.in-Err.ensures.refused
+returns-in-Err c = c.profile_refusal.ensures c.args.direction c.args.top.now c.args.input.now c.in-Err.ensures.refused
 
 pub returns-in-Ok-read_inputs : goal.returns-in-Ok-read_inputs
 returns-in-Ok-read_inputs c = all_answered _ _ _ _ _ _ _ c.in-Ok.ensures.found (rw c.as_slice.ensures.value c.in-Ok-read_inputs.ensures.found) c.print_all.ensures

@@ -13,4 +13,5 @@ returns c =
     let named : app_of c.no_binary_name.result ≡ on_top (λ top. record top { no_binary_name = true }) (app_of c.in_ok-bin_name.field-0) = ap app_of_fields c.no_binary_name.ensures in
     let bare : app_of c.subcommand_required.result ≡ bare_program = ap app_of_fields c.subcommand_required.ensures ∙ ap (on_top (λ top. record top { subcommand_required = true })) (named ∙ ap (on_top (λ top. record top { no_binary_name = true })) shown) in
     let one = c.in_ok-subcommand.ensures.shape c.in_ok-pack.ensures.local ∙ ap₂ with_subcommand bare (ap (λ (a : App). a.top) c.in_ok-pack.ensures.app) in
-    IfOk-weaker c.subcommand-2.result _ _ (λ command adds. adds.shape c.in_ok-unpack.ensures.local ∙ ap₂ with_subcommand one (ap (λ (a : App). a.top) c.in_ok-unpack.ensures.app)) c.subcommand-2.ensures
+    let two = c.in_ok-subcommand-2.ensures.shape c.in_ok-unpack.ensures.local ∙ ap₂ with_subcommand one (ap (λ (a : App). a.top) c.in_ok-unpack.ensures.app) in
+    IfOk-weaker c.subcommand-3.result _ _ (λ command adds. adds.shape c.in_ok-show.ensures.local ∙ ap₂ with_subcommand two (ap (λ (a : App). a.top) c.in_ok-show.ensures.app)) c.subcommand-3.ensures

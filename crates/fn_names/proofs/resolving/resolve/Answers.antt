@@ -1,0 +1,69 @@
+use Rattle.std.proofs.Common.{sym, ◌∙◌}
+use Rattle.std.specs.Prelude.{Some}
+use Rattle.std.proofs.lemmas.Result.{err_from_is_err_and, IfOk-weaker, IfErr-weaker}
+use Rattle.fn_profile.specs.Judging.{Blames}
+use Rattle.fn_names.specs.Resolved.{IsNormalForm, IsProfile, ProfileCause, Cause, in_head, in_methods, has_no_top, calls_back, in_profile}
+use Rattle.fn_names.proofs.Passes.{blames_as, form_for_each, text_ordered, forms_ordered, normal}
+use Rattle.fn_names.proofs.resolving.resolve.Goals as goal
+
+pub returns-in_err-head-clause-refused : goal.returns-in_err-head-clause-refused
+returns-in_err-head-clause-refused c =
+    let p = err_from_is_err_and c.from_residual.result c.from_residual.ensures.1 in
+    rw (p.1, p.2) (blames_as (λ f cause. in_head cause) _ c.in_err-head.ensures.refused)
+
+pub returns-in_err-methods-clause-refused : goal.returns-in_err-methods-clause-refused
+returns-in_err-methods-clause-refused c =
+    let p = err_from_is_err_and c.from_residual-in_err-methods.result c.from_residual-in_err-methods.ensures.1 in
+    rw (p.1, p.2) (blames_as (λ f cause. in_methods cause) _ c.in_err-methods.ensures.refused)
+
+pub returns-in_default-clause-refused : goal.returns-in_default-clause-refused
+returns-in_default-clause-refused c = rw c.no_top.ensures (has_no_top (sym c.top-place.ensures.place ∙ c.in_default.is))
+
+pub returns-in_err-calls-clause-refused : goal.returns-in_err-calls-clause-refused
+returns-in_err-calls-clause-refused c =
+    let p = err_from_is_err_and c.from_residual-in_err-calls.result c.from_residual-in_err-calls.ensures.1 in
+    rw (p.1, p.2) (blames_as (λ f cause. calls_back cause) _ c.in_err-calls.ensures.refused)
+
+pub profile_of-requires-clause-order : goal.profile_of-requires-clause-order
+profile_of-requires-clause-order c =
+    let text = c.args.text.now in
+    let parts = c.args.parts.now in
+    let calls = c.in_ok-calls.calls in
+    let form = rw c.in-Some.is at c.in_ok-methods.ensures.found in
+    let graph = rw c.in_ok-head.ensures.tables.methods_are at c.in_ok-calls.ensures.calls in
+    rw c.as_slice.ensures (forms_ordered text parts (Some c.in-Some.top) c.in_ok-methods.methods calls.order form (text_ordered text parts calls.calls calls.order graph c.in_ok-calls.ensures.order))
+
+pub profile_of-requires-clause-top : goal.profile_of-requires-clause-top
+profile_of-requires-clause-top c =
+    let form = rw c.in-Some.is at c.in_ok-methods.ensures.found in
+    rw (form_for_each c.args.text.now c.args.parts.now (Some c.in-Some.top) c.in_ok-methods.methods form) (rw c.in-Some.is at c.top-place.ensures.within)
+
+pub profile_of-requires-clause-named : goal.profile_of-requires-clause-named
+profile_of-requires-clause-named c =
+    let form = rw c.in-Some.is at c.in_ok-methods.ensures.found in
+    form_for_each c.args.text.now c.args.parts.now (Some c.in-Some.top) c.in_ok-methods.methods form
+
+pub returns-clause-found : goal.returns-clause-found
+returns-clause-found c =
+    let text = c.args.text.now in
+    let parts = c.args.parts.now in
+    let calls = c.in_ok-calls.calls in
+    let all = c.in_ok-methods.methods in
+    let top = c.in-Some.top in
+    let form = rw c.in-Some.is at c.in_ok-methods.ensures.found in
+    let graph = rw c.in_ok-head.ensures.tables.methods_are at c.in_ok-calls.ensures.calls in
+    let place = sym c.top-place.ensures.place ∙ c.in-Some.is in
+    IfOk-weaker c.profile_of.result (IsProfile all top) (IsNormalForm text parts c.args.name.now)
+    (λ p is. normal text parts c.args.name.now all top calls.order p c.in_ok-head.ensures.tables.distinct place form (text_ordered text parts calls.calls calls.order graph c.in_ok-calls.ensures.order) is)
+    c.profile_of.ensures.found
+
+pub returns-clause-refused : goal.returns-clause-refused
+returns-clause-refused c =
+    let text = c.args.text.now in
+    let parts = c.args.parts.now in
+    let all = c.in_ok-methods.methods in
+    let top = c.in-Some.top in
+    let form = rw c.in-Some.is at c.in_ok-methods.ensures.found in
+    let place = sym c.top-place.ensures.place ∙ c.in-Some.is in
+    IfErr-weaker c.profile_of.result (Blames (ProfileCause parts all top)) (Blames (Cause text parts c.args.name.now))
+    (blames_as (λ f cause. in_profile all top place form cause)) c.profile_of.ensures.refused

@@ -1,0 +1,99 @@
+//! The limits on the methods of a profile.
+
+ghost use Rattle.std.specs.Prelude.{◌≡◌, ◌<◌, ℕ, length, slice_get, Some, IfOk};
+ghost use Rattle.std.specs.List.{list_any};
+ghost use Rattle.fn_calls.specs.Order.{IsOrder};
+ghost use Rattle.fn_profile.specs.Judging.{Judged, earliest};
+ghost use Rattle.fn_names.specs.Large as spec;
+ghost use Rattle.fn_names.specs.Parts.{methods_of};
+ghost use Rattle.fn_names.specs.Uses.{Uses};
+
+use crate::limits::deep_call;
+use crate::uses::{used_graph, uses_of};
+use fn_calls::depth::number_at;
+use fn_calls::weights;
+use fn_profile::{Format, Method, ProfileFault, ProfileFaultKind, earlier};
+use fn_tree::Part;
+use std::alloc::{AllocError, Global};
+
+/// No format has more fields.
+pub const FIELD_LIMIT: usize = 128;
+
+/// No message has more fields, with those of the methods that encode its fields.
+pub const WEIGHT_LIMIT: usize = 4096;
+
+/// The earliest fault of sizes: calls deeper than 16 methods from the top, a format of more than 128 fields (of any method),
+/// more than 4,096 fields on all paths from the top.
+pub fn too_large(
+    alloc: Global,
+    parts: &[Part],
+    methods: &[Method],
+    order: &[usize],
+    top: usize,
+) -> Result<Option<ProfileFault>, AllocError>
+    requires order { IsOrder (Uses methods.now) (length methods.now) order.now }
+    requires top { top < length methods.now }
+    requires named { length methods.now ≡ length (methods_of parts.now) }
+    ensures { IfOk result (Judged (spec.IsWithinLimits methods.now top) (spec.IsTooLarge parts.now methods.now top)) }
+{
+    let graph = used_graph(alloc, methods)?;
+    let deep = deep_call(alloc, parts, graph.as_slice(), order, top)?;
+    let heavy = heavy_top(alloc, methods, order, top)?;
+    Ok(earlier(earlier(deep, first_long(methods)), heavy))
+}
+
+fn too_large_at(method: &Method) -> ProfileFault
+    ensures { result ≡ spec.too_large_at method.now }
+{
+    ProfileFault::about(ProfileFaultKind::TooLarge, method.place)
+}
+
+fn has_long_format(formats: &[Format]) -> bool
+    ensures { result ≡ list_any spec.is_long formats.now }
+{
+    for format in formats {
+        if format.fields.len() > FIELD_LIMIT {
+            return true;
+        }
+    }
+    false
+}
+
+fn long_format(method: &Method) -> Option<ProfileFault>
+    ensures { result ≡ spec.long_format method.now }
+{
+    if has_long_format(method.formats.as_slice()) {
+        Some(too_large_at(method))
+    } else {
+        None
+    }
+}
+
+fn first_long(methods: &[Method]) -> Option<ProfileFault>
+    ensures { result ≡ earliest spec.long_format methods.now }
+{
+    let mut found = None;
+    for method in methods {
+        found = earlier(found, long_format(method));
+    }
+    found
+}
+
+fn heavy_top(
+    alloc: Global,
+    methods: &[Method],
+    order: &[usize],
+    top: usize,
+) -> Result<Option<ProfileFault>, AllocError>
+    requires order { IsOrder (Uses methods.now) (length methods.now) order.now }
+    requires top { top < length methods.now }
+    ensures { IfOk result (Judged (spec.IsLight methods.now top) (spec.IsHeavy methods.now top)) }
+{
+    let uses = uses_of(alloc, methods)?;
+    let weights = weights(alloc, uses.as_slice(), order)?;
+    if number_at(weights.as_slice(), top) > WEIGHT_LIMIT {
+        Ok(Some(too_large_at(&methods[top])))
+    } else {
+        Ok(None)
+    }
+}

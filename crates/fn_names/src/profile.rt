@@ -1,0 +1,69 @@
+//! Resolved profiles.
+
+ghost use Rattle.std.specs.Prelude.{◌≡◌};
+ghost use Rattle.fn_names.specs.Resolved.{IsSound};
+
+use fn_profile::{Method, MethodSizes};
+use sqlite_items::Items;
+use std::marker::Model;
+
+/// A resolved profile: its methods in the order of the text, where those that the top doesn't reach have no formats; the bounds of each; and the place of
+/// the top among them.
+#[derive(Debug, Drop)]
+pub struct Profile {
+    methods: Items<Method>,
+    sizes: Items<MethodSizes>,
+    top: usize,
+}
+
+impl Model for Profile {
+    ghost use Rattle.fn_names.specs.Resolved.{Resolved, IsSound};
+    ghost use Rattle.fn_expr.specs.contracts.expr.Expr as expr;
+    ghost use Rattle.fn_expr.specs.contracts.expr.Cond as cond;
+    ghost use Rattle.std.specs.Coded.{codes};
+
+    ghost Value = { Resolved };
+
+    ghost coded = { Prim.hlevel (codes, expr.the_row.coded, cond.the_row.coded) };
+
+    ghost view = { λ p. record { methods = p.methods; sizes = p.sizes; top = p.top } };
+
+    ghost invariant = { λ p. IsSound (record { methods = p.methods; sizes = p.sizes; top = p.top }) };
+}
+
+impl Profile {
+    /// The profile of these methods with their bounds.
+    pub(crate) fn of(methods: Items<Method>, sizes: Items<MethodSizes>, top: usize) -> Profile
+        requires { IsSound (record { methods = methods; sizes = sizes; top = top }) }
+        ensures methods { result.methods ≡ methods }
+        ensures sizes { result.sizes ≡ sizes }
+        ensures top { result.top ≡ top }
+    {
+        Profile {
+            methods,
+            sizes,
+            top,
+        }
+    }
+
+    /// The methods in the order of the text.
+    pub fn methods(&self) -> &[Method]
+        ensures { result.now ≡ self.now.methods }
+    {
+        self.methods.as_slice()
+    }
+
+    /// The bounds of each method.
+    pub fn sizes(&self) -> &[MethodSizes]
+        ensures { result.now ≡ self.now.sizes }
+    {
+        self.sizes.as_slice()
+    }
+
+    /// The place of the top among the methods.
+    pub fn top(&self) -> usize
+        ensures { result ≡ self.now.top }
+    {
+        self.top
+    }
+}

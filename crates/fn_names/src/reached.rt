@@ -1,0 +1,85 @@
+//! The methods that the top reaches.
+
+ghost use Rattle.std.specs.Prelude.{◌≡◌, ◌<◌, ◌++◌, ℕ, length, reverse, IfOk};
+ghost use Rattle.fn_names.specs.Reached as marking;
+ghost use Rattle.fn_names.specs.Uses as spec;
+
+use crate::uses::used_graph;
+use fn_calls::reached;
+use fn_profile::Method;
+use sqlite_items::Items;
+use std::alloc::{AllocError, Global};
+
+/// The methods with formats for those alone that the top reaches. The formats of the others are let go.
+pub fn reached_methods(
+    alloc: Global,
+    methods: Items<Method>,
+    top: usize,
+) -> Result<Items<Method>, AllocError>
+    requires top { top < length methods }
+    requires within { (i j : ℕ) → spec.Uses methods i j → j < length methods }
+    ensures { IfOk result (spec.AreReached methods top) }
+{
+    let graph = used_graph(alloc, methods.as_slice())?;
+    let mut is_reached = reached(alloc, graph.as_slice(), top)?;
+    is_reached.set(top, true);
+    marked_methods(alloc, methods, is_reached.as_slice())
+}
+
+/// The methods with formats for the marked ones alone.
+fn marked_methods(
+    alloc: Global,
+    methods: Items<Method>,
+    is_marked: &[bool],
+) -> Result<Items<Method>, AllocError>
+    ensures { IfOk result (λ kept. kept ≡ marking.marked_from is_marked.now 0 methods) }
+{
+    let mut rest = reversed(alloc, methods)?;
+    let mut kept = Items::new(alloc);
+    while let Some(method) = rest.pop() {
+        let place = kept.len();
+        let kept_method = if is_marked_at(is_marked, place) {
+            method
+        } else {
+            without_formats(alloc, method)
+        };
+        kept.push(kept_method)?;
+    }
+    Ok(kept)
+}
+
+fn reversed(alloc: Global, mut methods: Items<Method>) -> Result<Items<Method>, AllocError>
+    ensures { IfOk result (λ turned. turned ≡ reverse methods) }
+{
+    let mut turned = Items::new(alloc);
+    while let Some(method) = methods.pop() {
+        turned.push(method)?;
+    }
+    Ok(turned)
+}
+
+fn is_marked_at(marks: &[bool], place: usize) -> bool
+    ensures { result ≡ marking.is_marked_at marks.now place }
+{
+    match marks.get(place) {
+        Some(mark) => *mark,
+        None => false,
+    }
+}
+
+fn without_formats(alloc: Global, method: Method) -> Method
+    ensures { result ≡ spec.without_formats method }
+{
+    let Method {
+        name,
+        place,
+        parameters,
+        ..
+    } = method;
+    Method {
+        name,
+        place,
+        parameters,
+        formats: Items::new(alloc),
+    }
+}

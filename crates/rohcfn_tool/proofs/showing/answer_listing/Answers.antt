@@ -1,0 +1,5 @@
+use Rattle.rohcfn_tool.proofs.Replying.{all_listed}
+use Rattle.rohcfn_tool.proofs.showing.answer_listing.Goals as goal
+
+pub returns-in_ok-output-in-Ok : goal.returns-in_ok-output-in-Ok
+returns-in_ok-output-in-Ok c = all_listed _ _ _ c.in-Ok.profile c.in_ok-output-in-Ok.output c.as_bytes.ensures.value c.in-Ok.ensures.found c.in_ok-output-in-Ok.ensures

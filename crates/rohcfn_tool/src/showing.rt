@@ -1,0 +1,67 @@
+//! What is printed of a profile alone.
+
+ghost use Rattle.std.specs.Prelude.{◌≡◌, ℕ, List, IfOk, string_bytes};
+ghost use Rattle.fn_reading.specs.Readings.{Refuses};
+ghost use Rattle.fn_show.specs.Shown as listing;
+ghost use Rattle.rohcfn_tool.specs.Printed.{Shows, cause_line};
+
+use crate::replies::{fault_line, profile_line, refusal};
+use crate::status::{Answer, Status};
+use fn_names::Profile;
+use fn_profile::ProfileFault;
+use fn_reading::{ReadError, read};
+use fn_show::{fault_text, show};
+use fn_source::line_column;
+use std::alloc::{AllocError, Global};
+
+/// The listing of the profile with the top of this name: its methods, bounds and constraints. For a profile with a fault
+/// its line.
+pub(crate) fn answer_listing(alloc: Global, top: &str, octets: &[u8]) -> Result<Answer, AllocError>
+    ensures { IfOk result (Shows top.now octets.now) }
+{
+    match read(alloc, octets, top.as_bytes()) {
+        Ok(profile) => {
+            let output = listing(alloc, octets, &profile)?;
+            Ok(Answer {
+                status: Status::Done,
+                output,
+            })
+        }
+        Err(error) => listing_refusal(alloc, octets, error),
+    }
+}
+
+/// The lines of a resolved profile.
+fn listing(alloc: Global, octets: &[u8], profile: &Profile) -> Result<String, AllocError>
+    ensures { IfOk result (λ text. string_bytes text ≡ listing.shown octets.now profile.now.methods profile.now.sizes) }
+{
+    show(alloc, octets, profile.methods(), profile.sizes())
+}
+
+/// The line of a profile that has no listing.
+fn listing_refusal(alloc: Global, octets: &[u8], error: ReadError) -> Result<Answer, AllocError>
+    ensures { (top : List ℕ) → Refuses octets.now top error → IfOk result (Shows top octets.now) }
+{
+    match error {
+        ReadError::Text(fault) => {
+            let line = profile_line(alloc, octets, fault)?;
+            refusal(alloc, line.as_str())
+        }
+        ReadError::Profile(fault) => {
+            let line = cause_line(alloc, octets, &fault)?;
+            refusal(alloc, line.as_str())
+        }
+        ReadError::OutOfMemory => Err(AllocError),
+    }
+}
+
+/// A fault of the normal form, at its line and column, with the names that it shows.
+fn cause_line(alloc: Global, octets: &[u8], fault: &ProfileFault) -> Result<String, AllocError>
+    ensures { IfOk result (λ text. string_bytes text ≡ cause_line octets.now fault.now) }
+{
+    let place = line_column(octets, fault.at.from);
+    let (line, column) = (place.line, place.column);
+    let code = fault.kind.code();
+    let words = fault_text(alloc, octets, fault)?;
+    fault_line(alloc, line, column, code, words.as_str())
+}
