@@ -11,3 +11,10 @@ pub mod Weighing
 pub mod Forms
 pub mod Bridging
 pub mod Passes
+pub mod Within
+pub mod Constrained
+pub mod Encoded
+pub mod FirstNames
+pub mod SoundFormats
+pub mod SoundMethods
+pub mod SoundKept

@@ -19,6 +19,8 @@ use Rattle.fn_names.specs.Methods.{HaveForm}
 use Rattle.fn_names.specs.Uses.{Uses, AreReached}
 use Rattle.fn_names.specs.Twice.{AreDistinct}
 use Rattle.fn_names.specs.Resolved.{Resolved, top_of, OrderOfText, IsProfile, IsNormalForm, ProfileCause, no_bounds, IsSound}
+use Rattle.fn_names.specs.WellFormed.{AreWellFormed}
+use Rattle.fn_names.proofs.SoundKept.{kept_well_formed}
 use Rattle.fn_names.proofs.Bridging.{uses_of_text, as_many}
 use Rattle.fn_names.proofs.Using.{order_of_uses, order_of_kept}
 
@@ -54,12 +56,13 @@ forms_ordered text parts top all order form ordered =
 
 -- the methods that the top reaches, with bounds
 pub sound : (all kept : List Method) (table : List MethodSizes) (top : ℕ) (order : List ℕ) → IsOrder (Uses all) (length all) order → top < length all → AreReached all top kept
-    → sizes.AreSizes kept table → IsSound (record { methods = kept; sizes = table; top = top })
-sound all kept table top order ordered within reached sized = record {
+    → sizes.AreSizes kept table → AreWellFormed all → IsSound (record { methods = kept; sizes = table; top = top })
+sound all kept table top order ordered within reached sized well_formed = record {
   order = order;
   ordered = order_of_kept (length all) order all kept top refl ordered reached;
   sized = sized;
   within = subst (λ n. top < n) (sym reached.each) within;
+  well_formed = kept_well_formed all kept top well_formed reached;
 }
 
 -- the normal form from its passes

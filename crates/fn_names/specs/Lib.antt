@@ -10,3 +10,4 @@ pub mod Large
 pub mod Reached
 pub mod Methods
 pub mod Resolved
+pub mod WellFormed

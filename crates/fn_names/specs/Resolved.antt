@@ -17,6 +17,7 @@ use Rattle.fn_names.specs.Calls.{graph_of}
 use Rattle.fn_names.specs.Recursion.{IsRecursive}
 use Rattle.fn_names.specs.Large.{IsWithinLimits, IsTooLarge}
 use Rattle.fn_names.specs.Uses.{AreReached}
+use Rattle.fn_names.specs.WellFormed.{AreWellFormed}
 
 -- what a resolved profile shows: its methods in the order of the text, where those that the top doesn't reach have no formats; the bounds of each; and the place of the top
 pub record Resolved : Type 0 where
@@ -30,6 +31,8 @@ pub record IsSound (p : Resolved) : Type 0 where
   pub ordered : bounds.IsOrder p.methods order
   pub sized : sizes.AreSizes p.methods p.sizes
   pub within : p.top < length p.methods
+  -- indices are in range, and calls have as many arguments as the called method has parameters
+  pub well_formed : AreWellFormed p.methods
 
 -- the place of the top method of this name
 abbrev pub top_of : List ℕ → List Part → List ℕ → Option ℕ

@@ -7,6 +7,7 @@ pub use resolving::resolve;
 pub mod calls;
 pub mod heads;
 pub mod large;
+pub mod laws;
 pub mod limits;
 pub mod methods;
 pub mod parts;

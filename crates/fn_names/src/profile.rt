@@ -60,6 +60,13 @@ impl Profile {
         self.sizes.as_slice()
     }
 
+    /// A law of profiles: what each one keeps.
+    pub fn keeps(&self)
+        ensures { IsSound self.now }
+    {
+        let _ = &self.methods;
+    }
+
     /// The place of the top among the methods.
     pub fn top(&self) -> usize
         ensures { result ≡ self.now.top }

@@ -1,11 +1,12 @@
 //! The passes of name resolution.
 
-ghost use Rattle.std.specs.Prelude.{◌≡◌, ◌<◌, ◌↔◌, length, IfOk, IfErr};
+ghost use Rattle.std.specs.Prelude.{◌≡◌, ◌<◌, length, IfOk, IfErr};
 ghost use Rattle.fn_calls.specs.Order.{IsOrder};
 ghost use Rattle.fn_profile.specs.Judging.{Blames};
 ghost use Rattle.fn_names.specs.Parts.{methods_of};
 ghost use Rattle.fn_names.specs.Resolved as spec;
 ghost use Rattle.fn_names.specs.Uses.{Uses};
+ghost use Rattle.fn_names.specs.WellFormed.{AreWellFormed};
 
 use crate::heads::head_of;
 use crate::large::too_large;
@@ -54,6 +55,7 @@ fn profile_of(
     requires order { IsOrder (Uses methods) (length methods) order.now }
     requires top { top < length methods }
     requires named { length methods ≡ length (methods_of parts.now) }
+    requires well_formed { AreWellFormed methods }
     ensures found { IfOk result (spec.IsProfile methods top) }
     ensures refused { IfErr result (Blames (spec.ProfileCause parts.now methods top)) }
 {

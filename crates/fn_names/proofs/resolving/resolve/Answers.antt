@@ -4,6 +4,7 @@ use Rattle.std.proofs.lemmas.Result.{err_from_is_err_and, IfOk-weaker, IfErr-wea
 use Rattle.fn_profile.specs.Judging.{Blames}
 use Rattle.fn_names.specs.Resolved.{IsNormalForm, IsProfile, ProfileCause, Cause, in_head, in_methods, has_no_top, calls_back, in_profile}
 use Rattle.fn_names.proofs.Passes.{blames_as, form_for_each, text_ordered, forms_ordered, normal}
+use Rattle.fn_names.proofs.SoundMethods.{well_formed}
 use Rattle.fn_names.proofs.resolving.resolve.Goals as goal
 
 pub returns-in_err-head-clause-refused : goal.returns-in_err-head-clause-refused
@@ -42,6 +43,11 @@ pub profile_of-requires-clause-named : goal.profile_of-requires-clause-named
 profile_of-requires-clause-named c =
     let form = rw c.in-Some.is at c.in_ok-methods.ensures.found in
     form_for_each c.args.text.now c.args.parts.now (Some c.in-Some.top) c.in_ok-methods.methods form
+
+pub profile_of-requires-clause-well_formed : goal.profile_of-requires-clause-well_formed
+profile_of-requires-clause-well_formed c =
+    let form = rw c.in-Some.is at c.in_ok-methods.ensures.found in
+    well_formed c.args.text.now c.args.parts.now (Some c.in-Some.top) c.in_ok-methods.methods form
 
 pub returns-clause-found : goal.returns-clause-found
 returns-clause-found c =
