@@ -2,7 +2,6 @@ pub mod Marking
 pub mod Work
 pub mod Ranks
 pub mod Pushing
-pub mod Renumbering
 pub mod Backward
 pub mod Ordered
 pub mod Filling

@@ -1,13 +1,11 @@
--- Depths and weights depend on those of what is called, and stay below their bounds.
+-- Weights depend on those of what is called, and stay below their bound.
 use Rattle.std.proofs.Common.{◌≡◌, ℕ, ◌<◌, ◌≤◌, ◌+◌, List, [], ◌∷◌, Option, Some, None, suc, zero, length, get_or, slice_get, slice_set, replicate, min, arith, refl, ap, sym, ◌∙◌, subst}
 use Rattle.std.specs.List.{sum_by}
 use Rattle.std.proofs.lemmas.List.Sums.{sum_by-cons}
 use Rattle.std.proofs.lemmas.Grind.{common_steps}
-use Rattle.fn_calls.specs.Calls.{Calls, Has}
 use Rattle.fn_calls.specs.Order.{IsOrder}
-use Rattle.fn_calls.specs.Measures.{number_at, greatest_by, depth_by, field_weight, format_weight, weight_by, weight_cap, FieldCalls, AreDepths, AreWeights}
+use Rattle.fn_calls.specs.Measures.{number_at, greatest_by, field_weight, format_weight, weight_by, weight_cap, FieldCalls, AreWeights}
 use Rattle.fn_calls.proofs.Filling.{IsLocal, Filled, filled_more, filled_all, filled_none}
-use Rattle.fn_calls.proofs.Pushing.{some_is}
 
 pub greatest_same : {X : Type 0} (f g : X → ℕ) (xs : List X) → ((k : ℕ) (x : X) → slice_get xs k ≡ Some x → f x ≡ g x) → greatest_by f xs ≡ greatest_by g xs
 greatest_same f g [] same = refl
@@ -20,22 +18,6 @@ sum_same f g (x ∷ xs) same = sum_by-cons f x xs ∙ (ap (λ n. n + sum_by f xs
 pub greatest_most : {X : Type 0} (f : X → ℕ) (xs : List X) (most : ℕ) → ((x : X) → f x ≤ most) → greatest_by f xs ≤ most
 greatest_most f [] most each = omega arith
 greatest_most f (x ∷ xs) most each = let here = each x in let rest = greatest_most f xs most each in omega arith
-
-place_of : (xs : List ℕ) (k x : ℕ) → slice_get xs k ≡ Some x → Has xs x
-place_of [] zero x e = absurd cc
-place_of [] (suc k) x e = absurd cc
-place_of (y ∷ xs) zero x e = (0, omega arith, some_is e)
-place_of (y ∷ xs) (suc k) x e = let there = place_of xs k x e in let below = there.1 in (suc there.0, omega arith, there.2)
-
-row_below : (graph : List (List ℕ)) (i j : ℕ) → Has (get_or graph i []) j → i < length graph
-row_below [] zero j has = let below = has.1 in absurd (omega arith)
-row_below [] (suc i) j has = let below = has.1 in absurd (omega arith)
-row_below (row ∷ graph) zero j has = omega arith
-row_below (row ∷ graph) (suc i) j has = omega (arith, row_below graph i j has)
-
-pub depth_is_local : (graph : List (List ℕ)) → IsLocal (Calls graph) (depth_by graph)
-depth_is_local graph xs ys i same =
-    ap (λ n. n + 1) (greatest_same (number_at xs) (number_at ys) (get_or graph i []) (λ k j at. let has = place_of (get_or graph i []) k j at in same j (row_below graph i j has, has)))
 
 field_same : (xs ys : List ℕ) (callee : Option ℕ) → ((j : ℕ) → callee ≡ Some j → number_at xs j ≡ number_at ys j) → field_weight xs callee ≡ field_weight ys callee
 field_same xs ys None same = refl
@@ -74,32 +56,6 @@ zeros_at : (n j : ℕ) → number_at (replicate n 0) j ≡ 0
 zeros_at n j = grind (arith, common_steps)
 
 -- a step of the loop over the order
-pub record Deep (graph : List (List ℕ)) (order : List ℕ) (k : ℕ) (depths : List ℕ) : Type 0 where
-  pub filled : Filled (depth_by graph) (length graph) order k depths
-  pub most : (j : ℕ) → number_at depths j ≤ k
-
-pub deep_none : (graph : List (List ℕ)) (order : List ℕ) (n : ℕ) (depths : List ℕ) → n ≡ length graph → depths ≡ replicate n 0 → Deep graph order 0 depths
-deep_none graph order n depths count is = record {
-  filled = filled_none (depth_by graph) (length graph) order depths (ap length is ∙ (zeros_long n ∙ count));
-  most = λ j. subst (λ values. number_at values j ≤ 0) (sym is) (let zero_there = zeros_at n j in omega arith);
-}
-
-pub deep_more : (graph : List (List ℕ)) (order : List ℕ) (k : ℕ) (depths row : List ℕ) (depth : ℕ) → IsOrder (Calls graph) (length graph) order → Deep graph order k depths → k < length order
-    → row ≡ get_or graph (get_or order k 0) row → depth ≡ greatest_by (number_at depths) row → Deep graph order (k + 1) (slice_set depths (get_or order k 0) (depth + 1))
-deep_more graph order k depths row depth ordered now lt row_is is =
-    let here = read_at order k lt in
-    let below = ordered.only k (get_or order k 0) here in
-    let row_there = read_row graph (get_or order k 0) row below row_is in
-    let long = now.filled.each in
-    let most : depth ≤ k = subst (λ d. d ≤ k) (sym is) (greatest_most (number_at depths) row k now.most) in
-    record {
-      filled = filled_more (depth_by graph) (length graph) order k depths (get_or order k 0) (depth + 1) ordered (depth_is_local graph) now.filled here (ap (λ n. n + 1) (is ∙ ap (greatest_by (number_at depths)) row_there));
-      most = λ j. none_greater depths (get_or order k 0) (depth + 1) (k + 1) j (omega arith) (omega arith) (λ j. let less = now.most j in omega arith);
-    }
-
-pub deep_all : (graph : List (List ℕ)) (order : List ℕ) (k : ℕ) (depths : List ℕ) → IsOrder (Calls graph) (length graph) order → length order ≤ k → Deep graph order k depths → AreDepths graph depths
-deep_all graph order k depths ordered past now = record { each = now.filled.each; rule = filled_all (depth_by graph) (length graph) order k depths ordered past now.filled }
-
 pub record Heavy (methods : List (List (List (Option ℕ)))) (order : List ℕ) (k : ℕ) (weights : List ℕ) : Type 0 where
   pub filled : Filled (weight_by methods) (length methods) order k weights
   pub most : (j : ℕ) → number_at weights j ≤ weight_cap
@@ -127,9 +83,6 @@ heavy_more methods order k weights formats weight ordered now lt formats_is is =
 pub heavy_all : (methods : List (List (List (Option ℕ)))) (order : List ℕ) (k : ℕ) (weights : List ℕ) → IsOrder (FieldCalls methods) (length methods) order → length order ≤ k → Heavy methods order k weights
     → AreWeights methods weights
 heavy_all methods order k weights ordered past now = record { each = now.filled.each; rule = filled_all (weight_by methods) (length methods) order k weights ordered past now.filled }
-
-pub depth_is : (depth : ℕ) (read depths row_read row : List ℕ) → depth ≡ greatest_by (number_at read) row_read → read ≡ depths → row_read ≡ row → depth ≡ greatest_by (number_at depths) row
-depth_is depth read depths row_read row is same same_row = is ∙ (ap (λ values. greatest_by (number_at values) row_read) same ∙ ap (greatest_by (number_at depths)) same_row)
 
 pub weight_is : (weight : ℕ) (read weights : List ℕ) (formats_read formats : List (List (Option ℕ))) → weight ≡ greatest_by (format_weight read) formats_read → read ≡ weights → formats_read ≡ formats
     → weight ≡ greatest_by (format_weight weights) formats

@@ -2,4 +2,3 @@ pub mod Calls
 pub mod Order
 pub mod Measures
 pub mod Sorting
-pub mod Numbering

@@ -11,14 +11,6 @@ abbrev pub greatest_by : {X : Type 0} → (X → ℕ) → List X → ℕ
 greatest_by f [] = 0
 greatest_by f (x ∷ xs) = max (f x) (greatest_by f xs)
 
--- one more than the greatest depth of what it calls
-abbrev pub depth_by : List (List ℕ) → List ℕ → ℕ → ℕ
-depth_by graph depths i = greatest_by (number_at depths) (slice_index_or graph i []) + 1
-
-pub record AreDepths (graph : List (List ℕ)) (depths : List ℕ) : Type 0 where
-  pub each : length depths ≡ length graph
-  pub rule : (i : ℕ) → i < length graph → number_at depths i ≡ depth_by graph depths i
-
 -- greater weights are counted as this
 abbrev pub weight_cap : ℕ
 weight_cap = 4097

@@ -1,15 +1,12 @@
 //! Graphs of calls: which method reaches which, an order in which a method comes after those that it calls, and what is counted in that order.
 #![tactic(auto)]
 
-pub use depth::depths;
-pub use numbering::{kept, numbers};
 pub use ordering::{calls_decide, leads_back, order, rank, ranks_fall, table};
 pub use reach::reached;
 pub use weight::{WEIGHT_CAP, weights};
 
 pub mod depth;
 mod marks;
-pub mod numbering;
 pub mod ordering;
 pub mod reach;
 mod sorting;
