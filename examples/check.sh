@@ -1,10 +1,10 @@
 #!/usr/bin/env bash
-# Runs each example through the built program and compares what it prints.
+# Runs each example, and each fault of faults/, through the built program and compares what it prints.
 set -u
 cd "$(dirname "$0")"
 passed=0
 failed=0
-for bundle in *.bundle; do
+for bundle in *.bundle faults/*.bundle; do
   expected=${bundle%.bundle}.expected
   if ../bin/rohcfn <"$bundle" | cmp -s - "$expected"; then
     passed=$((passed + 1))

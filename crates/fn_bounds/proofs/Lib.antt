@@ -7,3 +7,4 @@ pub mod Calling
 pub mod Earliest
 pub mod Faultless
 pub mod Ruling
+pub mod Widening

@@ -1,5 +1,5 @@
 -- The equations of bounds give the rules.
-use Rattle.std.proofs.Common.{◌≡◌, ◌∙◌, ap, sym, refl, subst, ℕ, ◌+◌, ◌<◌, ◌≤◌, ◌^◌, ◌≤ℤ◌, ◌⊎◌, inl, inr, Bool, true, false, cond, ◌&&◌, nat_eq, nat_le, min, max, ℤ, pos, negsuc, List, [], ◌∷◌, suc, zero, length, map, fold, arith}
+use Rattle.std.proofs.Common.{◌≡◌, ◌∙◌, ap, sym, refl, subst, ℕ, ◌+◌, ◌<◌, ◌≤◌, ◌^◌, ◌≤ℤ◌, ◌⊎◌, inl, inr, Bool, true, false, cond, ◌&&◌, nat_eq, nat_le, min, max, ℤ, pos, negsuc, List, [], ◌∷◌, suc, zero, length, map, fold, if◌then◌else◌, arith}
 use Rattle.std.specs.Prelude.{slice_get, Some, None, Option}
 use Rattle.std.specs.Option.{option_map, option_and_then, unwrap_or}
 use Rattle.std.proofs.lemmas.Option.{slice_get_within, slice_get-map}
@@ -25,12 +25,13 @@ use Rattle.fn_profile.specs.declared.profile.Format.{Format}
 use Rattle.fn_profile.specs.declared.profile.Method.{Method}
 use Rattle.fn_bounds.specs.Constants.{constant}
 use Rattle.fn_bounds.specs.Fields.{bounds, sides, counted, by_length, library_sizes, encoding_sizes, where_listed, encoded_sizes, lists, enclosing, enclosing_all, bracket_bounds, meet, narrowed_by, narrowed, field_sizes}
-use Rattle.fn_bounds.specs.Formats.{plus, total, sizes_at, format_sizes}
+use Rattle.fn_bounds.specs.Formats.{plus, total, sizes_at, is_header, header_bounds, format_sizes}
+use Rattle.fn_bounds.specs.Passes.{indexed}
 use Rattle.fn_bounds.specs.Methods.{sides_hull, formats_hull, is_within}
 use Rattle.fn_bounds.specs.Faults.{side_bounds}
 use Rattle.fn_bounds.specs.Outcome.{AreSizes, FormatAt}
-use Rattle.fn_bounds.specs.HasBounds.{size_of, is_empty, Lower, Upper, least_of_all, least_sized, least_called, least_bracket, most_unlisted, most_bare, most_unsent, most_missing, most_empty, most_of_all, most_sized, most_called, most_bracket, listed_sum, Encloses, BoundsByRules}
-use Rattle.fn_bounds.proofs.Places.{indexed-at}
+use Rattle.fn_bounds.specs.HasBounds.{size_of, is_empty, Lower, Upper, least_of_all, least_sized, least_called, least_bracket, most_unlisted, most_bare, most_unsent, most_missing, most_empty, most_of_all, most_sized, most_called, most_bracket, listed_sum, header_sum, Encloses, BoundsByRules}
+use Rattle.fn_bounds.proofs.Places.{indexed-at, indexed-length}
 
 -- both bounds come by a rule, and the upper one is at most 2^64
 record Ruled (table : List MethodSizes) (format : Format) (i : ℕ) (d : Field) (side : Side) (b : Bounds) : Type 0 where
@@ -228,7 +229,7 @@ ruled table format i d side tight =
 
 -- ---- the table
 
-there : {A : Type 0} → (xs : List A) (k : ℕ) → k < length xs → (x : A) × (slice_get xs k ≡ Some x)
+pub there : {A : Type 0} → (xs : List A) (k : ℕ) → k < length xs → (x : A) × (slice_get xs k ≡ Some x)
 there [] k lt = absurd (omega arith)
 there (x ∷ xs) zero lt = (x, refl)
 there (x ∷ xs) (suc k) lt = there xs k (omega arith)
@@ -265,43 +266,76 @@ field-is methods table are m format s sizes at i d b in-format in-sizes =
 
 -- ---- sums
 
-total-least : (b : Bounds) (bs : List Bounds) → (fold plus b bs).least ≡ b.least + (fold plus (bounds 0 0) bs).least
-total-least b [] = omega arith
-total-least b (c ∷ cs) = total-least (plus b c) cs ∙ (let t = total-least (plus (bounds 0 0) c) cs in omega arith)
+-- a count of bits that adds up, as the least and the most of bounds do
+record AddsUp (count : Bounds → ℕ) : Type 0 where
+  none : count (bounds 0 0) ≡ 0
+  more : (b c : Bounds) → count (plus b c) ≡ count b + count c
 
-total-most : (b : Bounds) (bs : List Bounds) → (fold plus b bs).most ≡ b.most + (fold plus (bounds 0 0) bs).most
-total-most b [] = omega arith
-total-most b (c ∷ cs) = total-most (plus b c) cs ∙ (let t = total-most (plus (bounds 0 0) c) cs in omega arith)
+least-adds : AddsUp (λ b. b.least)
+least-adds = record { none = refl; more = λ b c. refl }
 
-least-at : (fields : List Sizes) (i : ℕ) → (sizes_at fields i).compressed.least ≡ unwrap_or (option_map (λ b. b.compressed.least) (slice_get fields i)) 0
-least-at fields i = by (slice_get fields i)
+most-adds : AddsUp (λ b. b.most)
+most-adds = record { none = refl; more = λ b c. refl }
+
+first-zero : (n m z : ℕ) → n ≡ z + m → z ≡ 0 → n ≡ m
+first-zero n m z e f = omega arith
+
+total-more : (count : Bounds → ℕ) → AddsUp count → (b : Bounds) (bs : List Bounds) → count (fold plus b bs) ≡ count b + count (total bs)
+total-more count adds b [] = let none = adds.none in omega arith
+total-more count adds b (c ∷ cs) =
+    let here = adds.more b c in
+    let start = first-zero (count (plus (bounds 0 0) c)) (count c) (count (bounds 0 0)) (adds.more (bounds 0 0) c) adds.none in
+    let rest = total-more count adds (plus (bounds 0 0) c) cs in
+    total-more count adds (plus b c) cs ∙ omega arith
+
+-- the first of the bounds, and the rest
+total-next : (count : Bounds → ℕ) → AddsUp count → (b : Bounds) (bs : List Bounds) → count (total (b ∷ bs)) ≡ count b + count (total bs)
+total-next count adds b bs =
+    total-more count adds (plus (bounds 0 0) b) bs
+    ∙ ap (λ n. n + count (total bs)) (first-zero (count (plus (bounds 0 0) b)) (count b) (count (bounds 0 0)) (adds.more (bounds 0 0) b) adds.none)
+
+-- ---- sums over the listing
+
+count-at : (count : Bounds → ℕ) → AddsUp count → (fields : List Sizes) (i : ℕ)
+    → count (sizes_at fields i).compressed ≡ unwrap_or (option_map (λ b. count b.compressed) (slice_get fields i)) 0
+count-at count adds fields i = by (slice_get fields i)
   where
-    by : (o : Option Sizes) → (unwrap_or o (sides (bounds 0 0) (bounds 0 0))).compressed.least ≡ unwrap_or (option_map (λ b. b.compressed.least) o) 0
-    by None = refl
+    by : (o : Option Sizes) → count (unwrap_or o (sides (bounds 0 0) (bounds 0 0))).compressed ≡ unwrap_or (option_map (λ b. count b.compressed) o) 0
+    by None = adds.none
     by (Some b) = refl
 
-most-at : (fields : List Sizes) (i : ℕ) → (sizes_at fields i).compressed.most ≡ unwrap_or (option_map (λ b. b.compressed.most) (slice_get fields i)) 0
-most-at fields i = by (slice_get fields i)
+listed-sum : (count : Bounds → ℕ) → AddsUp count → (fields : List Sizes) (listing : List ℕ)
+    → count (total (map (λ i. (sizes_at fields i).compressed) listing)) ≡ listed_sum (λ b. count b.compressed) fields listing
+listed-sum count adds fields [] = adds.none
+listed-sum count adds fields (i ∷ is) =
+    let here = count-at count adds fields i in
+    let rest = listed-sum count adds fields is in
+    total-next count adds (sizes_at fields i).compressed (map (λ k. (sizes_at fields k).compressed) is) ∙ (λ j. here j + rest j)
+
+-- ---- sums over the header
+
+-- the bounds of the fields from a place on are those of the rest of the list
+header-sum : (count : Bounds → ℕ) → AddsUp count → (all : List Sizes) (n : ℕ) (ds : List Field) (bs : List Sizes) → length bs ≡ length ds
+    → ((k : ℕ) → slice_get all (n + k) ≡ slice_get bs k) → count (total (indexed (header_bounds all) n ds)) ≡ header_sum (λ b. count b.uncompressed) ds bs
+header-sum count adds all n [] bs same at = adds.none
+header-sum count adds all n (d ∷ ds) [] same at = absurd (omega arith)
+header-sum count adds all n (d ∷ ds) (b ∷ bs) same at =
+    let zero-n : n ≡ n + 0 = omega arith in
+    let found : sizes_at all n ≡ b = ap (sizes_at all) zero-n ∙ ap (λ o. unwrap_or o (sides (bounds 0 0) (bounds 0 0))) (at 0) in
+    let here : count (header_bounds all n d) ≡ (if is_header d.declared.part then count b.uncompressed else 0) =
+    ap (λ (s : Sizes). count (if is_header d.declared.part then s.uncompressed else bounds 0 0)) found ∙ inside (is_header d.declared.part) b in
+    let rest = header-sum count adds all (n + 1) ds bs (omega arith) (λ k. ap (slice_get all) (let e : n + 1 + k ≡ n + suc k = omega arith in e) ∙ at (suc k)) in
+    total-next count adds (header_bounds all n d) (indexed (header_bounds all) (n + 1) ds) ∙ (λ i. here i + rest i)
   where
-    by : (o : Option Sizes) → (unwrap_or o (sides (bounds 0 0) (bounds 0 0))).compressed.most ≡ unwrap_or (option_map (λ b. b.compressed.most) o) 0
-    by None = refl
-    by (Some b) = refl
+    inside : (t : Bool) (s : Sizes) → count (if t then s.uncompressed else bounds 0 0) ≡ (if t then count s.uncompressed else 0)
+    inside true s = refl
+    inside false s = adds.none
 
-sum-least : (fields : List Sizes) (listing : List ℕ) → (total (map (λ i. (sizes_at fields i).compressed) listing)).least ≡ listed_sum (λ b. b.compressed.least) fields listing
-sum-least fields [] = refl
-sum-least fields (i ∷ is) =
-    let head = total-least (plus (bounds 0 0) (sizes_at fields i).compressed) (map (λ k. (sizes_at fields k).compressed) is) in
-    let rest = sum-least fields is in
-    let here = least-at fields i in
-    head ∙ omega arith
-
-sum-most : (fields : List Sizes) (listing : List ℕ) → (total (map (λ i. (sizes_at fields i).compressed) listing)).most ≡ listed_sum (λ b. b.compressed.most) fields listing
-sum-most fields [] = refl
-sum-most fields (i ∷ is) =
-    let head = total-most (plus (bounds 0 0) (sizes_at fields i).compressed) (map (λ k. (sizes_at fields k).compressed) is) in
-    let rest = sum-most fields is in
-    let here = most-at fields i in
-    head ∙ omega arith
+header-of : (count : Bounds → ℕ) → AddsUp count → (table : List MethodSizes) (format : Format)
+    → count (format_sizes table format).whole.uncompressed ≡ header_sum (λ b. count b.uncompressed) format.fields (format_sizes table format).fields
+header-of count adds table format =
+    let all = (format_sizes table format).fields in
+    header-sum count adds all 0 format.fields all (indexed-length (field_sizes table format) 0 format.fields) (λ k. ap (slice_get all) (let e : 0 + k ≡ k = omega arith in e))
 
 -- ---- methods
 
@@ -349,12 +383,18 @@ by-rules methods table are = record {
   most_by = λ m format s sizes at side i d b in-format in-sizes.
       subst (λ (x : Sizes). Upper table format i d side (side_bounds side x).most) (field-is methods table are m format s sizes at i d b in-format in-sizes)
       (ruled table format i d side (small-table methods table are)).upper;
+  least_header = λ m format s sizes at.
+      subst (λ (f : FormatSizes). f.whole.uncompressed.least ≡ header_sum (λ b. b.uncompressed.least) format.fields f.fields) (format-is methods table are m format s sizes at)
+      (header-of (λ b. b.least) least-adds table format);
+  most_header = λ m format s sizes at.
+      subst (λ (f : FormatSizes). f.whole.uncompressed.most ≡ header_sum (λ b. b.uncompressed.most) format.fields f.fields) (format-is methods table are m format s sizes at)
+      (header-of (λ b. b.most) most-adds table format);
   least_sum = λ m format s sizes at.
       subst (λ (f : FormatSizes). f.whole.compressed.least ≡ listed_sum (λ b. b.compressed.least) f.fields format.listing) (format-is methods table are m format s sizes at)
-      (sum-least (format_sizes table format).fields format.listing);
+      (listed-sum (λ b. b.least) least-adds (format_sizes table format).fields format.listing);
   most_sum = λ m format s sizes at.
       subst (λ (f : FormatSizes). f.whole.compressed.most ≡ listed_sum (λ b. b.compressed.most) f.fields format.listing) (format-is methods table are m format s sizes at)
-      (sum-most (format_sizes table format).fields format.listing);
+      (listed-sum (λ b. b.most) most-adds (format_sizes table format).fields format.listing);
   of_method = λ m format s sizes at side.
       let has = are.sized at.method_place m s at.method_at at.whole_at in
       subst (λ (w : Sizes). Encloses (side_bounds side w) (side_bounds side sizes.whole)) (sym has.whole_is) (hull-all side s.formats at.format_place sizes at.sizes_at);

@@ -1,5 +1,5 @@
 -- The rule that gives each bound.
-use Rattle.std.specs.Prelude.{◌≡◌, ◌≤◌, ℕ, ◌≤ℤ◌, ℤ, pos, Bool, true, false, List, slice_get, Option, Some, None, ◌+◌, [], ◌∷◌, option_map, unwrap_or}
+use Rattle.std.specs.Prelude.{◌≡◌, ◌≤◌, ℕ, ◌≤ℤ◌, ℤ, pos, Bool, true, false, List, slice_get, Option, Some, None, ◌+◌, [], ◌∷◌, option_map, unwrap_or, if◌then◌else◌}
 use Rattle.fn_source.specs.declared.span.Span.{Span}
 use Rattle.fn_expr.specs.declared.expr.Expr.{Expr}
 use Rattle.fn_expr.specs.declared.expr.Side.{Side}
@@ -17,6 +17,7 @@ use Rattle.fn_profile.specs.declared.profile.Format.{Format}
 use Rattle.fn_profile.specs.declared.profile.Method.{Method}
 use Rattle.fn_bounds.specs.Constants.{constant}
 use Rattle.fn_bounds.specs.Fields.{lists}
+use Rattle.fn_bounds.specs.Formats.{is_header}
 use Rattle.fn_bounds.specs.Faults.{side_bounds}
 use Rattle.fn_bounds.specs.Outcome.{AreSizes, FormatAt}
 
@@ -87,17 +88,28 @@ abbrev pub listed_sum : (Sizes → ℕ) → List Sizes → List ℕ → ℕ
 listed_sum bound fields [] = 0
 listed_sum bound fields (i ∷ is) = unwrap_or (option_map bound (slice_get fields i)) 0 + listed_sum bound fields is
 
+-- the sum over the header fields, of the fields and their bounds side by side
+abbrev pub header_sum : (Sizes → ℕ) → List Field → List Sizes → ℕ
+header_sum bound [] bs = 0
+header_sum bound (d ∷ ds) [] = 0
+header_sum bound (d ∷ ds) (b ∷ bs) = (if is_header d.declared.part then bound b else 0) + header_sum bound ds bs
+
 -- from the least to the greatest length of the one lie those of the other
 pub record Encloses (outer inner : Bounds) : Type 0 where
   pub least : outer.least ≤ inner.least
   pub most : inner.most ≤ outer.most
 
--- a rule gives each bound of each field of each format; a format's packed bits are those of its listed fields, and a method's bounds enclose those of its formats
+-- a rule gives each bound of each field of each format; a format's header is that of its header fields, its packed bits are those of its listed fields,
+-- and a method's bounds enclose those of its formats
 pub record HasBounds (methods : List Method) (table : List MethodSizes) : Type 0 where
   pub least_by : (m : Method) (format : Format) (s : MethodSizes) (sizes : FormatSizes) → FormatAt methods table m format s sizes → (side : Side) (i : ℕ) (d : Field) (b : Sizes) →
       slice_get format.fields i ≡ Some d → slice_get sizes.fields i ≡ Some b → Lower table format i d side (side_bounds side b).least
   pub most_by : (m : Method) (format : Format) (s : MethodSizes) (sizes : FormatSizes) → FormatAt methods table m format s sizes → (side : Side) (i : ℕ) (d : Field) (b : Sizes) →
       slice_get format.fields i ≡ Some d → slice_get sizes.fields i ≡ Some b → Upper table format i d side (side_bounds side b).most
+  pub least_header : (m : Method) (format : Format) (s : MethodSizes) (sizes : FormatSizes) → FormatAt methods table m format s sizes →
+      sizes.whole.uncompressed.least ≡ header_sum (λ b. b.uncompressed.least) format.fields sizes.fields
+  pub most_header : (m : Method) (format : Format) (s : MethodSizes) (sizes : FormatSizes) → FormatAt methods table m format s sizes →
+      sizes.whole.uncompressed.most ≡ header_sum (λ b. b.uncompressed.most) format.fields sizes.fields
   pub least_sum : (m : Method) (format : Format) (s : MethodSizes) (sizes : FormatSizes) → FormatAt methods table m format s sizes →
       sizes.whole.compressed.least ≡ listed_sum (λ b. b.compressed.least) sizes.fields format.listing
   pub most_sum : (m : Method) (format : Format) (s : MethodSizes) (sizes : FormatSizes) → FormatAt methods table m format s sizes →

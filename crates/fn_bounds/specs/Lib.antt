@@ -9,3 +9,4 @@ pub mod Parameters
 pub mod Outcome
 pub mod Laws
 pub mod HasBounds
+pub mod Calling

@@ -1,5 +1,6 @@
 //! What holds of profiles with bounds.
 
+ghost use Rattle.fn_bounds.specs.Calling as calling;
 ghost use Rattle.fn_bounds.specs.HasBounds as rules;
 ghost use Rattle.fn_bounds.specs.Laws as laws;
 
@@ -8,7 +9,12 @@ pub fn faultless_is_sound()
     ensures { laws.FaultlessIsSound }
 {}
 
-/// Each bound of a field is one that a rule gives.
+/// Each bound of a field is one that a rule gives; those of a format are sums over its fields.
 pub fn bounds_by_rules()
     ensures { rules.BoundsByRules }
+{}
+
+/// The values of the arguments of each call lie in the ranges of the parameters of the called method.
+pub fn arguments_lie_in_parameters()
+    ensures { calling.ArgumentsLieInParameters }
 {}
