@@ -33,12 +33,7 @@ pub fn section_format(
     let draft = draft_format(alloc, setting, number, section)?;
     let name = format_name(alloc, setting.text, section.kind)?;
     let encodings = draft.encodings;
-    let fields = joined_fields(
-        alloc,
-        setting,
-        draft.fields.firsts.as_slice(),
-        encodings,
-    )?;
+    let fields = joined_fields(alloc, setting, draft.fields.firsts.as_slice(), encodings)?;
     Ok(Resolved {
         format: Format {
             name,
