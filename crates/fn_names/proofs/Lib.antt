@@ -18,3 +18,4 @@ pub mod FirstNames
 pub mod SoundFormats
 pub mod SoundMethods
 pub mod SoundKept
+pub mod KeptLimits

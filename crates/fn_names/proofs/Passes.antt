@@ -15,12 +15,14 @@ use Rattle.fn_bounds.specs.Methods as bounds
 use Rattle.fn_bounds.specs.Outcome as sizes
 use Rattle.fn_names.specs.Parts.{methods_of, method_names}
 use Rattle.fn_names.specs.Calls.{graph_of}
+use Rattle.fn_names.specs.Large.{IsWithinLimits}
 use Rattle.fn_names.specs.Methods.{HaveForm}
 use Rattle.fn_names.specs.Uses.{Uses, AreReached}
 use Rattle.fn_names.specs.Twice.{AreDistinct}
 use Rattle.fn_names.specs.Resolved.{Resolved, top_of, OrderOfText, IsProfile, IsNormalForm, ProfileCause, no_bounds, IsSound}
 use Rattle.fn_names.specs.WellFormed.{AreWellFormed}
 use Rattle.fn_names.proofs.SoundKept.{kept_well_formed}
+use Rattle.fn_names.proofs.KeptLimits.{kept_within_limits}
 use Rattle.fn_names.proofs.Bridging.{uses_of_text, as_many}
 use Rattle.fn_names.proofs.Using.{order_of_uses, order_of_kept}
 
@@ -56,13 +58,14 @@ forms_ordered text parts top all order form ordered =
 
 -- the methods that the top reaches, with bounds
 pub sound : (all kept : List Method) (table : List MethodSizes) (top : ℕ) (order : List ℕ) → IsOrder (Uses all) (length all) order → top < length all → AreReached all top kept
-    → sizes.AreSizes kept table → AreWellFormed all → IsSound (record { methods = kept; sizes = table; top = top })
-sound all kept table top order ordered within reached sized well_formed = record {
+    → sizes.AreSizes kept table → AreWellFormed all → IsWithinLimits all top → IsSound (record { methods = kept; sizes = table; top = top })
+sound all kept table top order ordered within reached sized well_formed limits = record {
   order = order;
   ordered = order_of_kept (length all) order all kept top refl ordered reached;
   sized = sized;
   within = subst (λ n. top < n) (sym reached.each) within;
   well_formed = kept_well_formed all kept top well_formed reached;
+  limits = kept_within_limits all kept top order ordered within reached limits;
 }
 
 -- the normal form from its passes

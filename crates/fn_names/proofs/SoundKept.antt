@@ -13,13 +13,13 @@ use Rattle.fn_names.specs.Uses.{Uses, IsReached, without_formats, AreReached}
 use Rattle.fn_names.specs.WellFormed.{AreWithin, FormatIsSound, KeptIsWellFormed}
 
 -- what is not refuted
-abbrev Surely : Type 0 → Type 0
+abbrev pub Surely : Type 0 → Type 0
 Surely P = (P → ⊥) → ⊥
 
-surely_from : {P Q : Type 0} → Surely P → (P → Q) → Surely Q
+pub surely_from : {P Q : Type 0} → Surely P → (P → Q) → Surely Q
 surely_from sure into none = sure (λ p. none (into p))
 
-surely_less : (a b : ℕ) → Surely (a < b) → a < b
+pub surely_less : (a b : ℕ) → Surely (a < b) → a < b
 surely_less a b sure = elim (cases_lt a b) as (λ _. a < b) [
   | inl less ↦ less
   | inr more ↦ absurd (sure (λ less. omega (arith, less, more)))
@@ -60,7 +60,7 @@ surely_sound methods parameters f sure = record {
 
 -- ---- a format of a method that the top reaches
 
-reached_on : (methods : List Method) (top i j : ℕ) → IsReached methods top i → Uses methods i j → IsReached methods top j
+pub reached_on : (methods : List Method) (top i j : ℕ) → IsReached methods top i → Uses methods i j → IsReached methods top j
 reached_on methods top i j (inl same) uses = inr (by_call (subst (λ n. Uses methods n j) same uses))
 reached_on methods top i j (inr way) uses = inr (further way uses)
 
@@ -90,18 +90,18 @@ element_at (m ∷ ms) (suc k) lt = element_at ms k (omega arith)
 no_format : (m : Method) (n : ℕ) (f : Format) → slice_get (without_formats m).formats n ≡ Some f → ⊥
 no_format m n f at = let wrong : None ≡ Some f = at in absurd cc
 
+-- a kept method that has a format is one that the top reaches, as it was
+pub with_format : (methods kept : List Method) (top k n : ℕ) (m : Method) (f : Format) → AreReached methods top kept → slice_get kept k ≡ Some m → slice_get m.formats n ≡ Some f
+    → Surely (IsReached methods top k × (slice_get methods k ≡ Some m))
+with_format methods kept top k n m f are at here none =
+    let old = element_at methods k (omega (arith, slice_get_within kept k m at, are.each)) in
+    let unreached : IsReached methods top k → ⊥ = λ way. none (way, old.1 ∙ ap Some (some_is (sym (are.reached k old.0 old.1 way) ∙ at))) in
+    let bare : without_formats old.0 ≡ m = some_is (sym (are.unreached k old.0 old.1 unreached) ∙ at) in
+    no_format old.0 n f (subst (λ (c : Method). slice_get c.formats n ≡ Some f) (sym bare) here)
+
 pub kept_well_formed : KeptIsWellFormed
 kept_well_formed methods kept top formed are = record {
   formats = λ k n m f at here.
-      let old = element_at methods k (omega (arith, slice_get_within kept k m at, are.each)) in
-      surely_sound kept (length m.parameters) f (λ none.
-      are_not_reached k n m old.0 f at here old.1 (λ way.
-      let same : old.0 ≡ m = some_is (sym (are.reached k old.0 old.1 way) ∙ at) in
-      let there : slice_get methods k ≡ Some m = old.1 ∙ ap Some same in
-      none (sound_reached methods kept top k n m f are way there here (formed.formats k n m f there here))));
+      surely_sound kept (length m.parameters) f
+      (surely_from (with_format methods kept top k n m f are at here) (λ there. sound_reached methods kept top k n m f are there.0 there.1 here (formed.formats k n m f there.1 here)));
 }
-  where
-    are_not_reached : (k n : ℕ) (m old : Method) (f : Format) → slice_get kept k ≡ Some m → slice_get m.formats n ≡ Some f → slice_get methods k ≡ Some old → Surely (IsReached methods top k)
-    are_not_reached k n m old f at here there none =
-        let bare : without_formats old ≡ m = some_is (sym (are.unreached k old there none) ∙ at) in
-        no_format old n f (subst (λ (c : Method). slice_get c.formats n ≡ Some f) (sym bare) here)

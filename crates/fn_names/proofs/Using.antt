@@ -113,7 +113,7 @@ made_from f [] k y at = let wrong : None ≡ Some y = at in absurd cc
 made_from f (x ∷ xs) zero y at = record { element = x; at = refl; is = some_is at }
 made_from f (x ∷ xs) (suc k) y at = let r = made_from f xs k y at in record { element = r.element; at = r.at; is = r.is }
 
-row_made : {X Y : Type 0} (f : X → List Y) (xs : List X) (i : ℕ) (x : X) → slice_get xs i ≡ Some x → get_or (map f xs) i [] ≡ f x
+pub row_made : {X Y : Type 0} (f : X → List Y) (xs : List X) (i : ℕ) (x : X) → slice_get xs i ≡ Some x → get_or (map f xs) i [] ≡ f x
 row_made f [] i x at = let wrong : None ≡ Some x = at in absurd cc
 row_made f (y ∷ ys) zero x at = let same : y ≡ x = cc in ap f same
 row_made f (y ∷ ys) (suc i) x at = row_made f ys i x at

@@ -25,7 +25,7 @@ pub record Resolved : Type 0 where
   pub sizes : List MethodSizes
   pub top : ℕ
 
--- what every value of the type keeps: callees can come first, the bounds are those of the methods, and the top is one of them
+-- what every value of the type keeps: callees can come first, the bounds are those of the methods, the top is one of them, and they are within the limits
 pub record IsSound (p : Resolved) : Type 0 where
   pub order : List ℕ
   pub ordered : bounds.IsOrder p.methods order
@@ -33,6 +33,8 @@ pub record IsSound (p : Resolved) : Type 0 where
   pub within : p.top < length p.methods
   -- indices are in range, and calls have as many arguments as the called method has parameters
   pub well_formed : AreWellFormed p.methods
+  -- no call chain, format or message is too large, by the methods as they are kept
+  pub limits : IsWithinLimits p.methods p.top
 
 -- the place of the top method of this name
 abbrev pub top_of : List ℕ → List Part → List ℕ → Option ℕ

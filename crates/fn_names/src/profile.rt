@@ -8,7 +8,7 @@ use sqlite_items::Items;
 use std::marker::Model;
 
 /// A resolved profile: its methods in the order of the text, where those that the top doesn't reach have no formats; the bounds of each; and the place of
-/// the top among them.
+/// the top among them. It is within the limits of `too_large`.
 #[derive(Debug, Drop)]
 pub struct Profile {
     methods: Items<Method>,

@@ -14,7 +14,7 @@ pub sizes-requires : goal.sizes-requires
 sizes-requires c = rw c.as_slice-2.ensures (order_of_kept (length c.args.methods) c.args.order.now c.args.methods c.in_ok-methods.methods c.args.top refl c.requires.order c.in_ok-methods.ensures)
 
 pub of-requires : goal.of-requires
-of-requires c = sound c.args.methods c.in_ok-methods.methods c.in-Ok.sizes c.args.top c.args.order.now c.requires.order c.requires.top c.in_ok-methods.ensures (rw c.as_slice-2.ensures at c.in-Ok.ensures.ok) c.requires.well_formed
+of-requires c = sound c.args.methods c.in_ok-methods.methods c.in-Ok.sizes c.args.top c.args.order.now c.requires.order c.requires.top c.in_ok-methods.ensures (rw c.as_slice-2.ensures at c.in-Ok.ensures.ok) c.requires.well_formed ((rw c.as_slice.ensures at c.in_ok-fault.ensures).fine c.in_default.is)
 
 pub returns-in-Err-clause-refused : goal.returns-in-Err-clause-refused
 returns-in-Err-clause-refused c =
