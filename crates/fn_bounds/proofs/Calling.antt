@@ -82,11 +82,11 @@ still-sized methods order n k ps t before =
 
 -- ---- a method that does not call another gives it nothing
 
-fold-still : {A B : Type 0} → (f : B → A → B) (b : B) (xs : List A) → ((i : ℕ) (x : A) → slice_get xs i ≡ Some x → f b x ≡ b) → fold f b xs ≡ b
+pub fold-still : {A B : Type 0} → (f : B → A → B) (b : B) (xs : List A) → ((i : ℕ) (x : A) → slice_get xs i ≡ Some x → f b x ≡ b) → fold f b xs ≡ b
 fold-still f b [] still = refl
 fold-still f b (x ∷ xs) still = ap (λ c. fold f c xs) (still 0 x refl) ∙ fold-still f b xs (λ i y at. still (suc i) y at)
 
-folded-still : {A B : Type 0} → (f : ℕ → B → A → B) (n : ℕ) (b : B) (xs : List A) → ((i : ℕ) (x : A) → slice_get xs i ≡ Some x → (k : ℕ) → f k b x ≡ b) → folded f n b xs ≡ b
+pub folded-still : {A B : Type 0} → (f : ℕ → B → A → B) (n : ℕ) (b : B) (xs : List A) → ((i : ℕ) (x : A) → slice_get xs i ≡ Some x → (k : ℕ) → f k b x ≡ b) → folded f n b xs ≡ b
 folded-still f n b [] still = refl
 folded-still f n b (x ∷ xs) still = ap (λ c. folded f (n + 1) c xs) (still 0 x refl n) ∙ folded-still f (n + 1) b xs (λ i y at. still (suc i) y at)
 
@@ -117,7 +117,7 @@ uncalled-format ps k o format None no-call = refl
 uncalled-format ps k o format (Some s) no-call =
     fold-still (λ c d. with_call (format_ranges s ps) k c d.encoding) o format.fields (λ i d at. other-call (format_ranges s ps) k o d.encoding (no-call i d at))
 
-none-passes : {A : Type 0} → (p : A → Bool) (xs : List A) → list_any p xs ≡ false → (i : ℕ) (x : A) → slice_get xs i ≡ Some x → p x ≡ false
+pub none-passes : {A : Type 0} → (p : A → Bool) (xs : List A) → list_any p xs ≡ false → (i : ℕ) (x : A) → slice_get xs i ≡ Some x → p x ≡ false
 none-passes p [] e i x at = let wrong : None ≡ Some x = at in absurd cc
 none-passes p (y ∷ ys) e zero x at = let same : y ≡ x = cc in ap p (sym same) ∙ (or-false (p y) (list_any p ys) e).0
 none-passes p (y ∷ ys) e (suc i) x at = none-passes p ys (or-false (p y) (list_any p ys) e).1 i x at

@@ -8,3 +8,4 @@ pub mod Earliest
 pub mod Faultless
 pub mod Ruling
 pub mod Widening
+pub mod Rows

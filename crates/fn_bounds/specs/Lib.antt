@@ -10,3 +10,4 @@ pub mod Outcome
 pub mod Laws
 pub mod HasBounds
 pub mod Calling
+pub mod Callers

@@ -4,8 +4,10 @@ ghost use Rattle.std.specs.Prelude.{◌≡◌, Some, IfOk, is_none};
 ghost use Rattle.std.specs.List.{list_any};
 ghost use Rattle.std.specs.Option.{option_copied};
 ghost use Rattle.fn_profile.specs.Judging.{earlier};
+ghost use Rattle.fn_bounds.specs.Callers as calling;
 ghost use Rattle.fn_bounds.specs.Faults as spec;
 
+use crate::callers::callers_at;
 use crate::formats::sizes_at;
 use crate::parameters::{gathered, unknown};
 use crate::ranging::{WIDEST_VALUE, format_ranges};
@@ -18,7 +20,7 @@ use fn_profile::{
     ProfileFault, ProfileFaultKind, Sizes, earlier,
 };
 use fn_source::Span;
-use sqlite_items::at;
+use sqlite_items::{Items, at};
 use std::alloc::{AllocError, Global};
 
 /// How many octets the word THIS has.
@@ -359,13 +361,15 @@ fn lacks(
     alloc: Global,
     methods: &[Method],
     table: &[MethodSizes],
+    callers: &[usize],
     index: usize,
     method: &Method,
 ) -> Result<bool, AllocError>
+    requires { callers.now ≡ calling.callers_of index methods.now }
     ensures { IfOk result (λ b. b ≡ spec.lacks methods.now table.now index method.now) }
 {
     let start = unknown(alloc, method.parameters.as_slice())?;
-    let found = gathered(alloc, methods, table, index, start)?;
+    let found = gathered(alloc, methods, table, callers, index, start)?;
     Ok(any_none(found.as_slice()))
 }
 
@@ -379,12 +383,14 @@ fn known_fault(
     alloc: Global,
     methods: &[Method],
     table: &[MethodSizes],
+    callers: &[usize],
     index: usize,
     method: &Method,
 ) -> Result<Option<ProfileFault>, AllocError>
+    requires { callers.now ≡ calling.callers_of index methods.now }
     ensures { IfOk result (λ o. o ≡ spec.known_fault methods.now table.now index method.now) }
 {
-    if lacks(alloc, methods, table, index, method)? {
+    if lacks(alloc, methods, table, callers, index, method)? {
         Ok(None)
     } else {
         method_fault(alloc, method, at(table, index))
@@ -396,13 +402,16 @@ pub(crate) fn known_faults(
     alloc: Global,
     methods: &[Method],
     table: &[MethodSizes],
+    callers: &[Items<usize>],
 ) -> Result<Option<ProfileFault>, AllocError>
+    requires { callers.now ≡ calling.caller_table methods.now }
     ensures { IfOk result (λ o. o ≡ spec.known_faults methods.now table.now) }
 {
     let mut found = None;
     let mut place = 0;
     for method in methods {
-        let fault = known_fault(alloc, methods, table, place, method)?;
+        let row = callers_at(callers, place);
+        let fault = known_fault(alloc, methods, table, row, place, method)?;
         found = earlier(found, fault);
         place += 1;
     }

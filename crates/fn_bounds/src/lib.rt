@@ -5,6 +5,7 @@ pub use constants::constant_of;
 pub use methods::sizes;
 pub use ranging::format_ranges;
 
+mod callers;
 pub mod constants;
 mod fields;
 mod formats;

@@ -2,11 +2,13 @@
 
 ghost use Rattle.std.specs.Prelude.{◌≡◌, ℕ, ◌<◌, length, map, slice_set, IfOk, IfErr};
 ghost use Rattle.fn_profile.specs.Judging.{Judged};
+ghost use Rattle.fn_bounds.specs.Callers as calling;
 ghost use Rattle.fn_bounds.specs.Formats as formats;
 ghost use Rattle.fn_bounds.specs.Methods as spec;
 ghost use Rattle.fn_bounds.specs.Outcome as outcome;
 ghost use Rattle.fn_bounds.specs.Parameters.{RangedFrom};
 
+use crate::callers::{caller_table, callers_at};
 use crate::fields::NO_BITS;
 use crate::formats::format_sizes;
 use crate::judging::{known_faults, methods_fault};
@@ -145,8 +147,10 @@ fn with_ranges(
     alloc: Global,
     methods: &[Method],
     order: &[usize],
+    callers: &[Items<usize>],
     sized: Vec<MethodSizes>,
 ) -> Result<Vec<MethodSizes>, AllocError>
+    requires callers { callers.now ≡ calling.caller_table methods.now }
     requires order { spec.IsOrder methods.now order.now }
     requires sized { spec.SizedBefore methods.now order.now (length order.now) sized.items }
     ensures sized { IfOk result (λ t. spec.SizedBefore methods.now order.now (length order.now) t.items) }
@@ -160,7 +164,8 @@ fn with_ranges(
         let Some(method) = at(methods, index) else {
             continue;
         };
-        let parameters = parameter_ranges(alloc, methods, table.as_slice(), index, method)?;
+        let row = callers_at(callers, index);
+        let parameters = parameter_ranges(alloc, methods, table.as_slice(), row, index, method)?;
         set_parameters(&mut table, index, parameters);
     }
     Ok(table)
@@ -198,10 +203,12 @@ fn earliest(
     alloc: Global,
     methods: &[Method],
     table: &[MethodSizes],
+    callers: &[Items<usize>],
 ) -> Result<Option<ProfileFault>, AllocError>
+    requires { callers.now ≡ calling.caller_table methods.now }
     ensures { IfOk result (Judged (outcome.IsFine methods.now table.now) (outcome.IsFaulty methods.now table.now)) }
 {
-    let known = known_faults(alloc, methods, table)?;
+    let known = known_faults(alloc, methods, table, callers)?;
     let all = methods_fault(alloc, methods, table)?;
     Ok(earlier(widest(methods, table), known).or(all))
 }
@@ -219,8 +226,10 @@ pub fn sizes(
     ensures err { IfErr result (outcome.Blames methods.now order.now) }
 {
     let sized = filled(alloc, methods, order)?;
-    let table = with_ranges(alloc, methods, order, sized)?;
-    match earliest(alloc, methods, table.as_slice())? {
+    let callers = caller_table(alloc, methods)?;
+    let rows = callers.as_slice();
+    let table = with_ranges(alloc, methods, order, rows, sized)?;
+    match earliest(alloc, methods, table.as_slice(), rows)? {
         Some(fault) => Err(ResolveError::Fault(fault)),
         None => Ok(Items::from_vec(table)),
     }

@@ -2,6 +2,7 @@
 
 ghost use Rattle.std.specs.Prelude.{◌≡◌, ◌<◌, None, length, map, slice_get, IfOk};
 ghost use Rattle.std.specs.Option.{option_copied};
+ghost use Rattle.fn_bounds.specs.Callers as calling;
 ghost use Rattle.fn_bounds.specs.Parameters as spec;
 ghost use Rattle.fn_bounds.specs.Passes.{changed};
 
@@ -175,20 +176,40 @@ fn with_entry(
     }
 }
 
-pub(crate) fn gathered(
+fn with_caller(
     alloc: Global,
     methods: &[Method],
     table: &[MethodSizes],
     method: usize,
     found: Items<Option<Interval>>,
+    place: usize,
 ) -> Result<Items<Option<Interval>>, AllocError>
+    ensures { IfOk result (λ r. r ≡ calling.with_caller table.now method found place (slice_get methods.now place)) }
+{
+    match at(methods, place) {
+        Some(caller) => with_entry(alloc, at(table, place), method, found, caller),
+        None => Ok(found),
+    }
+}
+
+/// The ranges so far, with those of the arguments of all calls of a method, from the methods that call it.
+pub(crate) fn gathered(
+    alloc: Global,
+    methods: &[Method],
+    table: &[MethodSizes],
+    callers: &[usize],
+    method: usize,
+    found: Items<Option<Interval>>,
+) -> Result<Items<Option<Interval>>, AllocError>
+    requires { callers.now ≡ calling.callers_of method methods.now }
     ensures { IfOk result (λ r. r ≡ spec.gathered methods.now table.now method found) }
 {
+    if found.is_empty() {
+        return Ok(found);
+    }
     let mut all = found;
-    let mut place = 0;
-    for caller in methods {
-        all = with_entry(alloc, at(table, place), method, all, caller)?;
-        place += 1;
+    for place in callers {
+        all = with_caller(alloc, methods, table, method, all, *place)?;
     }
     Ok(all)
 }
@@ -220,13 +241,15 @@ pub(crate) fn parameter_ranges(
     alloc: Global,
     methods: &[Method],
     table: &[MethodSizes],
+    callers: &[usize],
     index: usize,
     method: &Method,
 ) -> Result<Items<Interval>, AllocError>
+    requires { callers.now ≡ calling.callers_of index methods.now }
     ensures { IfOk result (λ r. r ≡ spec.parameter_ranges methods.now table.now index method.now) }
 {
     let start = unknown(alloc, method.parameters.as_slice())?;
-    let found = gathered(alloc, methods, table, index, start)?;
+    let found = gathered(alloc, methods, table, callers, index, start)?;
     settled(alloc, found.as_slice())
 }
 

@@ -11,8 +11,8 @@ returns-in-Some-clause-err c =
     let judged = subst (λ (t : List MethodSizes). Judged (IsFine methods t) (IsFaulty methods t) c.in_ok-fault.field-0) c.as_slice.ensures.value (c.in_ok-fault.ensures {u = tt}) in
     table_faulty c.in_ok-table.ensures.sized c.in_ok-table.ensures.ranged (judged.cause c.in-Some.fault c.in-Some.is)
 
-pub returns-in-None-clause-ok : goal.returns-in-None-clause-ok
-returns-in-None-clause-ok c =
+pub returns-clause-ok : goal.returns-clause-ok
+returns-clause-ok c =
     let methods = c.args.methods.now in
     let judged = subst (λ (t : List MethodSizes). Judged (IsFine methods t) (IsFaulty methods t) c.in_ok-fault.field-0) c.as_slice.ensures.value (c.in_ok-fault.ensures {u = tt}) in
     rw c.from_vec.ensures

@@ -1,5 +1,7 @@
-use Rattle.std.proofs.Common.{◌≡◌, ◌-◌, ◌∙◌, get_or, ap, subst, arith}
+use Rattle.std.proofs.Common.{◌≡◌, ◌-◌, ◌∙◌, get_or, ap, sym, subst, arith}
 use Rattle.fn_bounds.specs.Parameters.{RangedFrom, parameter_ranges}
+use Rattle.fn_bounds.specs.Callers.{row_at}
+use Rattle.fn_bounds.proofs.Rows.{row-of}
 use Rattle.fn_bounds.proofs.Calling.{ranged-none, ranged-pass, ranged-step}
 use Rattle.fn_bounds.proofs.methods.with_ranges.Goals as goal
 
@@ -20,3 +22,8 @@ pub returns-clause-ranged : goal.returns-clause-ranged
 returns-clause-ranged c =
     let none : c.loop-left.left ≡ 0 = omega (arith, c.loop-left-test.false) in
     subst (λ n. RangedFrom c.args.methods.now c.args.order.now n c.loop-left.table.items) none c.loop-left.invariant.2
+
+pub parameter_ranges-requires : goal.parameter_ranges-requires
+parameter_ranges-requires c =
+    let index = get_or c.args.order.now (c.loop-left.left - 1) 0 in
+    c.callers_at-row.ensures ∙ ap (λ rows. row_at rows index) c.requires.callers ∙ row-of c.args.methods.now index c.in-Some.method.now (sym (c.in-Some.ensures {u = tt}))

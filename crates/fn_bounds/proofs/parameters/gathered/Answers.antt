@@ -1,12 +1,9 @@
-use Rattle.std.proofs.Common.{◌∙◌, ap, refl}
-use Rattle.std.specs.Prelude.{slice_get, Option}
-use Rattle.fn_profile.specs.declared.profile.MethodSizes.{MethodSizes}
-use Rattle.fn_bounds.specs.Parameters.{with_entry}
-use Rattle.fn_bounds.proofs.Places.{folded-step}
+use Rattle.std.proofs.Common.{refl}
+use Rattle.fn_bounds.proofs.Rows.{walked, gathered-empty}
 use Rattle.fn_bounds.proofs.parameters.gathered.Goals as goal
 
-pub loop-caller-preserved : goal.loop-caller-preserved
-loop-caller-preserved c =
-    let k = c.args.method in
-    folded-step (λ i o m. with_entry (slice_get c.args.table.now i) k o m) _ _ _ _ _ _ _ _ refl c.loop-caller-test.true c.caller-item.is
-    c.loop-caller.invariant (c.in_ok-all.ensures {u = tt} ∙ ap (λ (e : Option MethodSizes). with_entry e k c.loop-caller.all c.caller-item.result) c.at.ensures)
+pub returns-then-is_empty : goal.returns-then-is_empty
+returns-then-is_empty c = gathered-empty c.args.methods.now c.args.table.now c.args.method c.args.found (c.if-is_empty.ensures.0 refl)
+
+pub returns : goal.returns
+returns c = walked c.args.methods.now c.args.table.now c.args.method c.loop-place.place-index _ _ c.args.callers.now c.requires c.loop-place-test.false c.loop-place.invariant

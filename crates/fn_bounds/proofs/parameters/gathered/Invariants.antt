@@ -1,9 +1,6 @@
-use Rattle.std.proofs.Common.{◌≡◌, take}
-use Rattle.std.specs.Prelude.{slice_get}
-use Rattle.fn_bounds.specs.Parameters as spec
-use Rattle.fn_bounds.specs.Passes.{folded}
+use Rattle.std.proofs.Common.{◌≡◌, take, fold}
+use Rattle.fn_bounds.proofs.Rows.{given-by}
 use Rattle.fn_bounds.proofs.parameters.gathered.Given as goal
 
-abbrev pub invariant-loop-caller : goal.invariant-loop-caller
-invariant-loop-caller l = (l.place ≡ l.caller-index)
-    × (l.all ≡ folded (λ i o m. spec.with_entry (slice_get l.table i) l.method o m) 0 l.fn.found (take l.caller-index l.methods))
+abbrev pub invariant-loop-place : goal.invariant-loop-place
+invariant-loop-place l = l.all ≡ fold (given-by l.methods l.table l.method) l.fn.found (take l.place-index l.callers)
