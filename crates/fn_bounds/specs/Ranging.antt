@@ -1,5 +1,5 @@
 -- The ranges of attributes by the bounds of a format.
-use Rattle.std.specs.Prelude.{ℕ, ◌-◌, ◌^◌, pos, min, nat_le, List, map, if◌then◌else◌}
+use Rattle.std.specs.Prelude.{ℕ, ◌-◌, ◌^◌, pos, min, List, map}
 use Rattle.fn_expr.specs.declared.interval.Interval.{Interval}
 use Rattle.fn_expr.specs.declared.ranges.Intervals.{Intervals}
 use Rattle.fn_expr.specs.declared.ranges.SideIntervals.{SideIntervals}
@@ -9,9 +9,9 @@ use Rattle.fn_profile.specs.declared.profile.Bounds.{Bounds}
 use Rattle.fn_profile.specs.declared.profile.Sizes.{Sizes}
 use Rattle.fn_profile.specs.declared.profile.FormatSizes.{FormatSizes}
 
--- the numbers that so many bits spell; where they may be more than 64, none is asked for
+-- the numbers that so many bits spell; more than 126 bits are taken as 126, whose numbers pass the limit of ranges too
 abbrev pub value_range : ℕ → Interval
-value_range most = if nat_le most 64 then from_to (pos 0) (pos (2 ^ most - 1)) else from_to (pos 0) (pos 0)
+value_range most = from_to (pos 0) (pos (2 ^ min most 126 - 1))
 
 -- from the least length to the greatest, each taken as 2^64 where it is above that; the greatest alone where the least is above it
 abbrev pub length_range : Bounds → Interval

@@ -11,19 +11,18 @@ use std::alloc::{AllocError, Global};
 /// The greatest length whose values are asked for.
 pub(crate) const WIDEST_VALUE: u128 = 64;
 
+/// Bits that are more than these range as these do, beyond the limit of ranges.
+const WIDEST_RANGE: u128 = 126;
+
 /// The greatest length of a range.
 const GREATEST: u128 = 0x1_0000_0000_0000_0000;
 
 fn value_range(most: u128) -> Interval
     ensures { result ≡ spec.value_range most }
 {
-    if most <= WIDEST_VALUE {
-        Interval {
-            from: 0,
-            to: 2i128.pow(most as u32) - 1,
-        }
-    } else {
-        Interval { from: 0, to: 0 }
+    Interval {
+        from: 0,
+        to: 2i128.pow(most.min(WIDEST_RANGE) as u32) - 1,
     }
 }
 
