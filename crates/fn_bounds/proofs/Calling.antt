@@ -20,7 +20,7 @@ use Rattle.fn_bounds.specs.Fields.{bounds, sides}
 use Rattle.fn_bounds.specs.Passes.{changed, folded}
 use Rattle.fn_bounds.specs.Ranging.{format_ranges}
 use Rattle.fn_bounds.specs.Methods.{formats_hull, CallsMethod, IsOrder, SizedBefore}
-use Rattle.fn_bounds.specs.Parameters.{is_call, calls, with_arguments, with_call, with_format, with_method, with_entry, gathered, settled, parameter_ranges, with_parameters, RangedFrom}
+use Rattle.fn_bounds.specs.Parameters.{is_call, calls, with_arguments, with_call, with_format, with_method, with_entry, gathered, parameter_ranges, with_parameters, RangedFrom}
 use Rattle.fn_bounds.proofs.Places.{changed-next}
 use Rattle.fn_bounds.proofs.Tables.{has-same}
 
@@ -168,9 +168,9 @@ gathered-same methods t j k ps o no-call =
     unequal a b e (inl lt) = absurd (omega arith)
     unequal a b e (inr lt) = absurd (omega arith)
 
-ranges-same : (methods : List Method) (t : List MethodSizes) (j k : ℕ) (ps : List Interval) (q : Method) → ((m : Method) → slice_get methods j ≡ Some m → CallsMethod m k → ⊥)
-    → parameter_ranges methods (changed (with_parameters ps) t j (slice_get t j)) k q ≡ parameter_ranges methods t k q
-ranges-same methods t j k ps q no-call = ap (map settled) (gathered-same methods t j k ps (map (λ p. None) q.parameters) no-call)
+ranges-same : (stand : Interval) (methods : List Method) (t : List MethodSizes) (j k : ℕ) (ps : List Interval) (q : Method) → ((m : Method) → slice_get methods j ≡ Some m → CallsMethod m k → ⊥)
+    → parameter_ranges stand methods (changed (with_parameters ps) t j (slice_get t j)) k q ≡ parameter_ranges stand methods t k q
+ranges-same stand methods t j k ps q no-call = ap (map (λ o. unwrap_or o stand)) (gathered-same methods t j k ps (map (λ p. None) q.parameters) no-call)
 
 -- ---- one place less
 
@@ -182,23 +182,23 @@ uncalled-from methods order n k m is at here i l q le at-i at-l p also calls =
     let same : before.0 ≡ i = is.once before.0 i l (slice_get_within methods l q at-l) before.2 at-i in
     absurd (omega (arith, before.1))
 
-ranged-more : (methods : List Method) (order : List ℕ) (n k : ℕ) (m : Method) (t : List MethodSizes) → IsOrder methods order → slice_get order n ≡ Some k → slice_get methods k ≡ Some m
-    → RangedFrom methods order (n + 1) t → RangedFrom methods order n (changed (with_parameters (parameter_ranges methods t k m)) t k (slice_get t k))
-ranged-more methods order n k m t is at here after =
-    let ps = parameter_ranges methods t k m in
+ranged-more : (stand : Interval) (methods : List Method) (order : List ℕ) (n k : ℕ) (m : Method) (t : List MethodSizes) → IsOrder methods order → slice_get order n ≡ Some k → slice_get methods k ≡ Some m
+    → RangedFrom stand methods order (n + 1) t → RangedFrom stand methods order n (changed (with_parameters (parameter_ranges stand methods t k m)) t k (slice_get t k))
+ranged-more stand methods order n k m t is at here after =
+    let ps = parameter_ranges stand methods t k m in
     let u = changed (with_parameters ps) t k (slice_get t k) in
     record {
       ranged = λ i l q s le at-i at-l in-u.
-          let frame : parameter_ranges methods u l q ≡ parameter_ranges methods t l q = ranges-same methods t k l ps q (uncalled-from methods order n k m is at here i l q le at-i at-l) in
-          elim (cases_order i n) as (λ _. s.parameters ≡ parameter_ranges methods u l q) [
+          let frame : parameter_ranges stand methods u l q ≡ parameter_ranges stand methods t l q = ranges-same stand methods t k l ps q (uncalled-from methods order n k m is at here i l q le at-i at-l) in
+          elim (cases_order i n) as (λ _. s.parameters ≡ parameter_ranges stand methods u l q) [
             | inl e ↦
                 let both : Some k ≡ Some l = sym at ∙ subst (λ j. slice_get order j ≡ Some l) e at-i in
                 let same : k ≡ l = cc in
                 let also : Some m ≡ Some q = sym here ∙ subst (λ j. slice_get methods j ≡ Some q) (sym same) at-l in
                 let same-method : m ≡ q = cc in
                 let set = given (slice_get t k) s (sym (changed-here (with_parameters ps) t k) ∙ subst (λ j. slice_get u j ≡ Some s) (sym same) in-u) in
-                set ∙ ap (λ j. parameter_ranges methods t j m) same ∙ ap (parameter_ranges methods t l) same-method ∙ sym frame
-            | inr o ↦ elim o as (λ _. s.parameters ≡ parameter_ranges methods u l q) [
+                set ∙ ap (λ j. parameter_ranges stand methods t j m) same ∙ ap (parameter_ranges stand methods t l) same-method ∙ sym frame
+            | inr o ↦ elim o as (λ _. s.parameters ≡ parameter_ranges stand methods u l q) [
               | inl less ↦ absurd (omega arith)
               | inr more ↦
                   let ne : l ≢ k = λ e.
@@ -212,50 +212,50 @@ ranged-more methods order n k m t is at here after =
     given None s e = let wrong : None ≡ Some s = e in absurd cc
     given {ps = ps} (Some r) s e = let same : with_parameters ps r ≡ s = cc in sym (ap (λ (x : MethodSizes). x.parameters) same)
 
-ranged-skip : (methods : List Method) (order : List ℕ) (n k : ℕ) (t : List MethodSizes) → slice_get order n ≡ Some k → slice_get methods k ≡ None
-    → RangedFrom methods order (n + 1) t → RangedFrom methods order n t
-ranged-skip methods order n k t at none after = record {
+ranged-skip : (stand : Interval) (methods : List Method) (order : List ℕ) (n k : ℕ) (t : List MethodSizes) → slice_get order n ≡ Some k → slice_get methods k ≡ None
+    → RangedFrom stand methods order (n + 1) t → RangedFrom stand methods order n t
+ranged-skip stand methods order n k t at none after = record {
   ranged = λ i l q s le at-i at-l in-t.
-      elim (cases_order i n) as (λ _. s.parameters ≡ parameter_ranges methods t l q) [
+      elim (cases_order i n) as (λ _. s.parameters ≡ parameter_ranges stand methods t l q) [
         | inl e ↦
             let both : Some k ≡ Some l = sym at ∙ subst (λ j. slice_get order j ≡ Some l) e at-i in
             let same : k ≡ l = cc in
             let wrong : None ≡ Some q = sym none ∙ subst (λ j. slice_get methods j ≡ Some q) (sym same) at-l in
             absurd cc
-        | inr o ↦ elim o as (λ _. s.parameters ≡ parameter_ranges methods t l q) [
+        | inr o ↦ elim o as (λ _. s.parameters ≡ parameter_ranges stand methods t l q) [
           | inl less ↦ absurd (omega arith)
           | inr more ↦ after.ranged i l q s (omega arith) at-i at-l in-t
         ]
       ];
 }
 
-pub ranged-none : (methods : List Method) (order : List ℕ) (t : List MethodSizes) → RangedFrom methods order (length order) t
-ranged-none methods order t = record { ranged = λ i k m s le at here in-t. let lt : i < length order = slice_get_within order i k at in absurd (omega arith) }
+pub ranged-none : (stand : Interval) (methods : List Method) (order : List ℕ) (t : List MethodSizes) → RangedFrom stand methods order (length order) t
+ranged-none stand methods order t = record { ranged = λ i k m s le at here in-t. let lt : i < length order = slice_get_within order i k at in absurd (omega arith) }
 
 -- ---- the steps of the loop from the last place to the first
 
 place-of : (order : List ℕ) (left : ℕ) → 0 < left → left ≤ length order → slice_get order (left - 1) ≡ Some (get_or order (left - 1) 0)
 place-of order left more within = slice_get-get_or order (left - 1) 0 (omega arith)
 
-pub ranged-step : (methods : List Method) (order : List ℕ) (left : ℕ) (m : Method) (t u : List MethodSizes) (ps : List Interval) → IsOrder methods order → 0 < left
-    → Some m ≡ slice_get methods (get_or order (left - 1) 0) → ps ≡ parameter_ranges methods t (get_or order (left - 1) 0) m
+pub ranged-step : (stand : Interval) (methods : List Method) (order : List ℕ) (left : ℕ) (m : Method) (t u : List MethodSizes) (ps : List Interval) → IsOrder methods order → 0 < left
+    → Some m ≡ slice_get methods (get_or order (left - 1) 0) → ps ≡ parameter_ranges stand methods t (get_or order (left - 1) 0) m
     → u ≡ changed (with_parameters ps) t (get_or order (left - 1) 0) (slice_get t (get_or order (left - 1) 0))
-    → (left ≤ length order) × SizedBefore methods order (length order) t × RangedFrom methods order left t
-    → (left - 1 ≤ length order) × SizedBefore methods order (length order) u × RangedFrom methods order (left - 1) u
-ranged-step methods order left m t u ps is more here made write so =
+    → (left ≤ length order) × SizedBefore methods order (length order) t × RangedFrom stand methods order left t
+    → (left - 1 ≤ length order) × SizedBefore methods order (length order) u × RangedFrom stand methods order (left - 1) u
+ranged-step stand methods order left m t u ps is more here made write so =
     let k = get_or order (left - 1) 0 in
     let back : left ≡ (left - 1) + 1 = omega arith in
-    let after = subst (λ n. RangedFrom methods order n t) back so.2 in
-    let ranged = ranged-more methods order (left - 1) k m t is (place-of order left more so.0) (sym here) after in
-    let whole = subst (λ (qs : List Interval). RangedFrom methods order (left - 1) (changed (with_parameters qs) t k (slice_get t k))) (sym made) ranged in (
+    let after = subst (λ n. RangedFrom stand methods order n t) back so.2 in
+    let ranged = ranged-more stand methods order (left - 1) k m t is (place-of order left more so.0) (sym here) after in
+    let whole = subst (λ (qs : List Interval). RangedFrom stand methods order (left - 1) (changed (with_parameters qs) t k (slice_get t k))) (sym made) ranged in (
       omega arith,
       subst (SizedBefore methods order (length order)) (sym write) (still-sized methods order (length order) k ps t so.1),
-      subst (RangedFrom methods order (left - 1)) (sym write) whole,
+      subst (RangedFrom stand methods order (left - 1)) (sym write) whole,
     )
 
-pub ranged-pass : (methods : List Method) (order : List ℕ) (left : ℕ) (t : List MethodSizes) → 0 < left → None ≡ slice_get methods (get_or order (left - 1) 0)
-    → (left ≤ length order) × SizedBefore methods order (length order) t × RangedFrom methods order left t
-    → (left - 1 ≤ length order) × SizedBefore methods order (length order) t × RangedFrom methods order (left - 1) t
-ranged-pass methods order left t more none so =
+pub ranged-pass : (stand : Interval) (methods : List Method) (order : List ℕ) (left : ℕ) (t : List MethodSizes) → 0 < left → None ≡ slice_get methods (get_or order (left - 1) 0)
+    → (left ≤ length order) × SizedBefore methods order (length order) t × RangedFrom stand methods order left t
+    → (left - 1 ≤ length order) × SizedBefore methods order (length order) t × RangedFrom stand methods order (left - 1) t
+ranged-pass stand methods order left t more none so =
     let back : left ≡ (left - 1) + 1 = omega arith in
-    (omega arith, so.1, ranged-skip methods order (left - 1) (get_or order (left - 1) 0) t (place-of order left more so.0) (sym none) (subst (λ n. RangedFrom methods order n t) back so.2))
+    (omega arith, so.1, ranged-skip stand methods order (left - 1) (get_or order (left - 1) 0) t (place-of order left more so.0) (sym none) (subst (λ n. RangedFrom stand methods order n t) back so.2))

@@ -1,7 +1,7 @@
 -- What the earliest fault of a list stands for.
-use Rattle.std.proofs.Common.{◌≡◌, ◌∙◌, ap, sym, refl, ℕ, ◌+◌, ◌<◌, ◌⊎◌, inl, inr, List, [], ◌∷◌, suc, zero, length, Bool, true, false, cond, arith}
+use Rattle.std.proofs.Common.{◌≡◌, ◌∙◌, ap, sym, refl, ℕ, ◌+◌, ◌<◌, ◌⊎◌, inl, inr, List, [], ◌∷◌, suc, zero, length, arith}
 use Rattle.std.specs.Prelude.{slice_get, Some, None, Option}
-use Rattle.std.specs.Option.{option_or}
+use Rattle.std.specs.Option.{unwrap_or}
 use Rattle.std.proofs.lemmas.Option.{slice_get_within}
 use Rattle.fn_profile.specs.declared.profile.FormatSizes.{FormatSizes}
 use Rattle.fn_profile.specs.declared.profile.MethodSizes.{MethodSizes}
@@ -11,10 +11,12 @@ use Rattle.fn_profile.specs.declared.fault.ProfileFault.{ProfileFault}
 use Rattle.fn_profile.specs.Judging.{earlier, Judged}
 use Rattle.fn_bounds.specs.Passes.{folded}
 use Rattle.fn_bounds.specs.Ranging.{format_ranges}
-use Rattle.fn_bounds.specs.Faults.{sized_fault, method_fault, methods_fault, lacks, known_fault, known_faults, format_fault}
+use Rattle.fn_bounds.specs.declared.known.Extent.{Extent}
+use Rattle.fn_bounds.specs.declared.known.Extent.TheVariants.{Whole, Known}
+use Rattle.fn_bounds.specs.Faults.{sized_fault, method_fault, methods_fault, format_fault}
 use Rattle.fn_bounds.specs.Methods.{IsOrder, SizedBefore, IsWithinAt, IsWide}
-use Rattle.fn_bounds.specs.Parameters.{RangedFrom}
-use Rattle.fn_bounds.specs.Outcome.{FormatAt, IsFine, IsFaulty, is_wide, in_format, AreSizes}
+use Rattle.fn_bounds.specs.Parameters.{only_zero, beyond, RangedFrom}
+use Rattle.fn_bounds.specs.Outcome.{FormatAt, IsFine, IsFaulty, is_wide, in_format, AreSizes, Cause, table_faulty, left_faulty}
 use Rattle.fn_bounds.proofs.Folding.{which, neither}
 use Rattle.fn_bounds.proofs.Tables.{all-sized}
 
@@ -58,74 +60,62 @@ some-of {A = A} judge xs f e =
 
 -- ---- of the methods of a table
 
-all-accepted : (methods : List Method) (table : List MethodSizes) → methods_fault methods table ≡ None
-    → (m : Method) (format : Format) (s : MethodSizes) (sizes : FormatSizes) → FormatAt methods table m format s sizes → format_fault format sizes (format_ranges sizes s.parameters) ≡ None
-all-accepted methods table e m format s sizes at =
-    let of-method = none-of (λ i q. method_fault q (slice_get table i)) methods e at.method_place m at.method_at in
-    let here = ap (method_fault m) (sym at.whole_at) ∙ of-method in
-    let of-format = none-of (λ n q. sized_fault s.parameters q (slice_get s.formats n)) m.formats here at.format_place format at.format_at in
-    ap (sized_fault s.parameters format) (sym at.sizes_at) ∙ of-format
+all-accepted : (x : Extent) (methods : List Method) (table : List MethodSizes) → methods_fault x methods table ≡ None
+    → (m : Method) (format : Format) (s : MethodSizes) (sizes : FormatSizes) → FormatAt methods table m format s sizes → format_fault x format sizes (format_ranges sizes s.parameters) ≡ None
+all-accepted x methods table e m format s sizes at =
+    let of-method = none-of (λ i q. method_fault x q (slice_get table i)) methods e at.method_place m at.method_at in
+    let here = ap (method_fault x m) (sym at.whole_at) ∙ of-method in
+    let of-format = none-of (λ n q. sized_fault x s.parameters q (slice_get s.formats n)) m.formats here at.format_place format at.format_at in
+    ap (sized_fault x s.parameters format) (sym at.sizes_at) ∙ of-format
 
-format-in : (methods : List Method) (table : List MethodSizes) (f : ProfileFault) (i : ℕ) (m : Method) → slice_get methods i ≡ Some m → (s : MethodSizes) → slice_get table i ≡ Some s
-    → (n : ℕ) (format : Format) → slice_get m.formats n ≡ Some format → sized_fault s.parameters format (slice_get s.formats n) ≡ Some f → IsFaulty methods table f
-format-in methods table f i m at-i s at-s n format at-n = by (slice_get s.formats n) refl
+format-in : (x : Extent) (methods : List Method) (table : List MethodSizes) (f : ProfileFault) (i : ℕ) (m : Method) → slice_get methods i ≡ Some m → (s : MethodSizes) → slice_get table i ≡ Some s
+    → (n : ℕ) (format : Format) → slice_get m.formats n ≡ Some format → sized_fault x s.parameters format (slice_get s.formats n) ≡ Some f → IsFaulty x methods table f
+format-in x methods table f i m at-i s at-s n format at-n = by (slice_get s.formats n) refl
   where
-    by : (o : Option FormatSizes) → slice_get s.formats n ≡ o → sized_fault s.parameters format o ≡ Some f → IsFaulty methods table f
+    by : (o : Option FormatSizes) → slice_get s.formats n ≡ o → sized_fault x s.parameters format o ≡ Some f → IsFaulty x methods table f
     by None at-o e = let wrong : None ≡ Some f = e in absurd cc
     by (Some sizes) at-o e = in_format record { method_place = i; method_at = at-i; whole_at = at-s; format_place = n; format_at = at-n; sizes_at = at-o } e
 
-method-in : (methods : List Method) (table : List MethodSizes) (f : ProfileFault) (i : ℕ) (m : Method) → slice_get methods i ≡ Some m → method_fault m (slice_get table i) ≡ Some f
-    → IsFaulty methods table f
-method-in methods table f i m at-i = by (slice_get table i) refl
+method-in : (x : Extent) (methods : List Method) (table : List MethodSizes) (f : ProfileFault) (i : ℕ) (m : Method) → slice_get methods i ≡ Some m → method_fault x m (slice_get table i) ≡ Some f
+    → IsFaulty x methods table f
+method-in x methods table f i m at-i = by (slice_get table i) refl
   where
-    by : (o : Option MethodSizes) → slice_get table i ≡ o → method_fault m o ≡ Some f → IsFaulty methods table f
+    by : (o : Option MethodSizes) → slice_get table i ≡ o → method_fault x m o ≡ Some f → IsFaulty x methods table f
     by None at-o e = let wrong : None ≡ Some f = e in absurd cc
     by (Some s) at-o e =
-        let found = some-of (λ n q. sized_fault s.parameters q (slice_get s.formats n)) m.formats f e in
-        format-in methods table f i m at-i s at-o found.0 found.1 found.2 found.3
+        let found = some-of (λ n q. sized_fault x s.parameters q (slice_get s.formats n)) m.formats f e in
+        format-in x methods table f i m at-i s at-o found.0 found.1 found.2 found.3
 
-found-in : (methods : List Method) (table : List MethodSizes) (f : ProfileFault) → methods_fault methods table ≡ Some f → IsFaulty methods table f
-found-in methods table f e =
-    let found = some-of (λ i q. method_fault q (slice_get table i)) methods f e in
-    method-in methods table f found.0 found.1 found.2 found.3
+found-in : (x : Extent) (methods : List Method) (table : List MethodSizes) (f : ProfileFault) → methods_fault x methods table ≡ Some f → IsFaulty x methods table f
+found-in x methods table f e =
+    let found = some-of (λ i q. method_fault x q (slice_get table i)) methods f e in
+    method-in x methods table f found.0 found.1 found.2 found.3
 
-known-in : (methods : List Method) (table : List MethodSizes) (f : ProfileFault) → known_faults methods table ≡ Some f → IsFaulty methods table f
-known-in methods table f e =
-    let found = some-of (known_fault methods table) methods f e in
-    method-in methods table f found.0 found.1 found.2 (asked (lacks methods table found.0 found.1) (method_fault found.1 (slice_get table found.0)) found.3)
-  where
-    asked : (b : Bool) (o : Option ProfileFault) → cond b None o ≡ Some f → o ≡ Some f
-    asked true o e = let wrong : None ≡ Some f = e in absurd cc
-    asked false o e = e
-
-or-cases : (a b : Option ProfileFault) (f : ProfileFault) → option_or a b ≡ Some f → (a ≡ Some f) ⊎ (b ≡ Some f)
-or-cases None b f e = inr e
-or-cases (Some g) b f e = inl e
-
-or-none : (a b : Option ProfileFault) → option_or a b ≡ None → (a ≡ None) × (b ≡ None)
-or-none None b e = (refl, e)
-or-none (Some g) b e = let wrong : Some g ≡ None = e in absurd cc
-
-pub faults-judged : (methods : List Method) (table : List MethodSizes) (wide known all first found : Option ProfileFault)
-    → Judged ((k : ℕ) → k < length methods → IsWithinAt methods table k) (IsWide methods table) wide → known ≡ known_faults methods table → all ≡ methods_fault methods table
-    → first ≡ earlier wide known → found ≡ option_or first all → Judged (IsFine methods table) (IsFaulty methods table) found
-faults-judged methods table wide known all first found limit is-known is-all so-first so = record {
+pub faults-judged : (x : Extent) (methods : List Method) (table : List MethodSizes) (wide all found : Option ProfileFault)
+    → Judged ((k : ℕ) → k < length methods → IsWithinAt methods table k) (IsWide methods table) wide → all ≡ methods_fault x methods table
+    → found ≡ earlier wide all → Judged (IsFine x methods table) (IsFaulty x methods table) found
+faults-judged x methods table wide all found limit is so = record {
   fine = λ e.
-      let both = or-none first all (sym so ∙ e) in
-      let within = limit.fine (neither wide known (sym so-first ∙ both.0)).0 in
-      record { within = λ k m s here at. within k (slice_get_within methods k m here) m s here at; accepted = all-accepted methods table (sym is-all ∙ both.1) };
+      let both = neither wide all (sym so ∙ e) in
+      let within = limit.fine both.0 in
+      record { within = λ k m s here at. within k (slice_get_within methods k m here) m s here at; accepted = all-accepted x methods table (sym is ∙ both.1) };
   cause = λ f e.
-      elim (or-cases first all f (sym so ∙ e)) as (λ _. IsFaulty methods table f) [
-        | inl x ↦ elim (which wide known f (sym so-first ∙ x)) as (λ _. IsFaulty methods table f) [
-          | inl w ↦ is_wide (limit.cause f w)
-          | inr y ↦ known-in methods table f (sym is-known ∙ y)
-        ]
-        | inr y ↦ found-in methods table f (sym is-all ∙ y)
+      elim (which wide all f (sym so ∙ e)) as (λ _. IsFaulty x methods table f) [
+        | inl w ↦ is_wide (limit.cause f w)
+        | inr y ↦ found-in x methods table f (sym is ∙ y)
       ];
 }
 
-pub are-sizes : (methods : List Method) (order : List ℕ) (table : List MethodSizes) → IsOrder methods order → SizedBefore methods order (length order) table → RangedFrom methods order 0 table
-    → IsFine methods table → AreSizes methods table
+-- the fault by the known ranges, or else the other one
+pub one-faulty : (methods : List Method) (order : List ℕ) (table known : List MethodSizes) (f : ProfileFault) (found : Option ProfileFault)
+    → SizedBefore methods order (length order) table → RangedFrom only_zero methods order 0 table → IsFaulty Whole methods table f
+    → SizedBefore methods order (length order) known → RangedFrom beyond methods order 0 known → Judged (IsFine Known methods known) (IsFaulty Known methods known) found
+    → Cause methods order (unwrap_or found f)
+one-faulty methods order table known f None sized ranged faulty also by-known judged = left_faulty sized ranged by-known (judged.fine refl) faulty
+one-faulty methods order table known f (Some g) sized ranged faulty also by-known judged = table_faulty also by-known (judged.cause g refl)
+
+pub are-sizes : (methods : List Method) (order : List ℕ) (table : List MethodSizes) → IsOrder methods order → SizedBefore methods order (length order) table → RangedFrom only_zero methods order 0 table
+    → IsFine Whole methods table → AreSizes methods table
 are-sizes methods order table is sized ranged fine = record {
   each = sized.each;
   sized = all-sized methods order table is sized;

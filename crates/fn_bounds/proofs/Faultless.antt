@@ -28,6 +28,7 @@ use Rattle.fn_profile.specs.declared.profile.Field.{Field}
 use Rattle.fn_profile.specs.declared.profile.Format.{Format}
 use Rattle.fn_profile.specs.declared.fault.ProfileFault.{ProfileFault}
 use Rattle.fn_profile.specs.Judging.{earlier}
+use Rattle.fn_bounds.specs.declared.known.Extent.TheVariants.{Whole}
 use Rattle.fn_bounds.specs.Faults.{is_wide, wide_value, wide_in, wide_in_condition, of_range, expr_fault, condition_fault, earliest, library_fault, encoding_fault, constraint_fault}
 use Rattle.fn_bounds.specs.Laws.{library_exprs, encoding_exprs, StandsIn, in_encoding, in_bracket, IsSound, ConditionIsSound, FaultlessIsSound}
 use Rattle.fn_bounds.proofs.Folding.{neither}
@@ -106,12 +107,12 @@ all-ranged r (Or' s p x q y) e = let both = no-first (fault_in r x) (fault_in r 
 
 -- ---- both
 
-sound-expr : (format : Format) (s : FormatSizes) (r : Ranges) (e : Expr) → expr_fault format s r e ≡ None → IsSound s r e
+sound-expr : (format : Format) (s : FormatSizes) (r : Ranges) (e : Expr) → expr_fault Whole format s r e ≡ None → IsSound s r e
 sound-expr format s r e none =
     let both = neither (wide_in format s e) (option_map of_range (result_err (ranged (bounding_of r) e))) none in
     record { accepted = has-range (ranged (bounding_of r) e) (no-range-fault (result_err (ranged (bounding_of r) e)) both.1); narrow = narrow-expr format s e both.0 }
 
-sound-condition : (format : Format) (s : FormatSizes) (r : Ranges) (c : Cond) → condition_fault format s r c ≡ None → ConditionIsSound s r c
+sound-condition : (format : Format) (s : FormatSizes) (r : Ranges) (c : Cond) → condition_fault Whole format s r c ≡ None → ConditionIsSound s r c
 sound-condition format s r c none =
     let both = neither (wide_in_condition format s c) (option_map of_range (fault_in (bounding_of r) c)) none in
     record { accepted = all-ranged (bounding_of r) c (no-range-fault (fault_in (bounding_of r) c) both.1); narrow = narrow-condition format s c both.0 }
@@ -147,12 +148,12 @@ of-encoding judge (encoding.Call k es) none n e at = none-each judge None es non
 
 pub faultless : FaultlessIsSound
 faultless format s r none =
-    let both = neither (earliest (λ d. encoding_fault (expr_fault format s r) d.encoding) format.fields) (earliest (constraint_fault format s r) format.constraints) none in
-    record { expressions = λ e stands. in-it both.0 both.1 e stands; conditions = λ j c place at. sound-condition format s r c (none-each (constraint_fault format s r) None format.constraints both.1 j (Enforce c place) at) }
+    let both = neither (earliest (λ d. encoding_fault (expr_fault Whole format s r) d.encoding) format.fields) (earliest (constraint_fault Whole format s r) format.constraints) none in
+    record { expressions = λ e stands. in-it both.0 both.1 e stands; conditions = λ j c place at. sound-condition format s r c (none-each (constraint_fault Whole format s r) None format.constraints both.1 j (Enforce c place) at) }
   where
-    in-it : earliest (λ (d : Field). encoding_fault (expr_fault format s r) d.encoding) format.fields ≡ None → earliest (constraint_fault format s r) format.constraints ≡ None
+    in-it : earliest (λ (d : Field). encoding_fault (expr_fault Whole format s r) d.encoding) format.fields ≡ None → earliest (constraint_fault Whole format s r) format.constraints ≡ None
         → (e : Expr) → StandsIn format e → IsSound s r e
     in-it fields constraints e (in_encoding {d = d} i n at here) =
-        sound-expr format s r e (of-encoding (expr_fault format s r) d.encoding (none-each (λ (d : Field). encoding_fault (expr_fault format s r) d.encoding) None format.fields fields i d at) n e here)
+        sound-expr format s r e (of-encoding (expr_fault Whole format s r) d.encoding (none-each (λ (d : Field). encoding_fault (expr_fault Whole format s r) d.encoding) None format.fields fields i d at) n e here)
     in-it fields constraints e (in_bracket {field = field} {side = side} {lengths = lengths} {place = place} j n at here) =
-        sound-expr format s r e (none-each (expr_fault format s r) None lengths (none-each (constraint_fault format s r) None format.constraints constraints j (Bracket field side lengths place) at) n e here)
+        sound-expr format s r e (none-each (expr_fault Whole format s r) None lengths (none-each (constraint_fault Whole format s r) None format.constraints constraints j (Bracket field side lengths place) at) n e here)

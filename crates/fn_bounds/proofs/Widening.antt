@@ -27,7 +27,7 @@ use Rattle.fn_profile.specs.declared.profile.Format.{Format}
 use Rattle.fn_profile.specs.declared.profile.Method.{Method}
 use Rattle.fn_bounds.specs.Passes.{folded}
 use Rattle.fn_bounds.specs.Ranging.{format_ranges}
-use Rattle.fn_bounds.specs.Parameters.{joined, argument_range, with_arguments, with_call, with_fields, with_format, with_method, with_entry, gathered, settled, parameter_ranges}
+use Rattle.fn_bounds.specs.Parameters.{joined, argument_range, with_arguments, with_call, with_fields, with_format, with_method, with_entry, gathered, only_zero, parameter_ranges}
 use Rattle.fn_bounds.specs.Laws.{encoding_exprs, in_encoding}
 use Rattle.fn_bounds.specs.Outcome.{AreSizes, FormatAt}
 use Rattle.fn_bounds.specs.Calling.{IsArgument, LiesWithin, ranges_in, ArgumentsLieInParameters}
@@ -207,26 +207,29 @@ map-length : {A B : Type 0} → (f : A → B) (xs : List A) → length (map f xs
 map-length f [] = refl
 map-length f (x ∷ xs) = ap suc (map-length f xs)
 
-ranges-count : (methods : List Method) (table : List MethodSizes) (k : ℕ) (m : Method) → length (parameter_ranges methods table k m) ≡ length m.parameters
+abbrev zero-if-none : Option Interval → Interval
+zero-if-none o = unwrap_or o only_zero
+
+ranges-count : (methods : List Method) (table : List MethodSizes) (k : ℕ) (m : Method) → length (parameter_ranges only_zero methods table k m) ≡ length m.parameters
 ranges-count methods table k m =
     let start = map (λ p. None) m.parameters in
-    map-length settled (gathered methods table k start)
+    map-length zero-if-none (gathered methods table k start)
     ∙ folded-count (λ i o c. with_entry (slice_get table i) k o c) (λ i o c. entry-count (slice_get table i) k o c) 0 start methods
     ∙ map-length (λ p. None) m.parameters
 
 -- ---- the law
 
-settled-around : (i p : Interval) (o : Option Interval) → Around i o → settled o ≡ p → LiesWithin i p
+settled-around : (i p : Interval) (o : Option Interval) → Around i o → zero-if-none o ≡ p → LiesWithin i p
 settled-around i p o r e =
-    let same : r.interval ≡ p = sym (ap settled r.is) ∙ e in
+    let same : r.interval ≡ p = sym (ap zero-if-none r.is) ∙ e in
     subst (LiesWithin i) same r.within
 
-covered : (found : List (Option Interval)) (q : ℕ) (i p : Interval) → Covers q i found → slice_get (map settled found) q ≡ Some p → LiesWithin i p
-covered found q i p covers at = by (slice_get found q) refl (sym (slice_get-map settled found q) ∙ at)
+covered : (found : List (Option Interval)) (q : ℕ) (i p : Interval) → Covers q i found → slice_get (map zero-if-none found) q ≡ Some p → LiesWithin i p
+covered found q i p covers at = by (slice_get found q) refl (sym (slice_get-map zero-if-none found q) ∙ at)
   where
-    by : (o : Option (Option Interval)) → slice_get found q ≡ o → option_map settled o ≡ Some p → LiesWithin i p
+    by : (o : Option (Option Interval)) → slice_get found q ≡ o → option_map zero-if-none o ≡ Some p → LiesWithin i p
     by None is e = let wrong : None ≡ Some p = e in absurd cc
-    by (Some o) is e = let same : settled o ≡ p = cc in settled-around i p o (covers o is) same
+    by (Some o) is e = let same : zero-if-none o ≡ p = cc in settled-around i p o (covers o is) same
 
 -- the entries of the table are of methods
 method-of : (methods : List Method) (table : List MethodSizes) → AreSizes methods table → (k : ℕ) (t : MethodSizes) → slice_get table k ≡ Some t → (m : Method) × (slice_get methods k ≡ Some m)

@@ -1,9 +1,7 @@
 -- The faults of the expressions of a format.
 pub use Rattle.fn_profile.specs.Judging.{earliest}
-use Rattle.std.specs.Prelude.{ℕ, ◌+◌, ◌-◌, ◌^◌, min, nat_lt, Bool, false, List, length, map, slice_get, is_none, Option, Some, None, if◌then◌else◌}
+use Rattle.std.specs.Prelude.{ℕ, ◌+◌, ◌-◌, ◌^◌, min, nat_lt, Bool, false, List, length, slice_get, Option, Some, None, if◌then◌else◌}
 use Rattle.std.specs.Option.{option_map, unwrap_or}
-use Rattle.std.specs.List.{list_any}
-use Rattle.std.specs.Result.{result_err}
 use Rattle.fn_source.specs.declared.span.Span.{Span}
 use Rattle.fn_expr.specs.declared.expr.Attribute.{Attribute}
 use Rattle.fn_expr.specs.declared.expr.Subject.{Subject}
@@ -21,7 +19,6 @@ use Rattle.fn_expr.specs.declared.fault.RangeFault.{RangeFault}
 use Rattle.fn_expr.specs.declared.fault.RangeFaultKind.{RangeFaultKind}
 use Rattle.fn_expr.specs.declared.fault.RangeFaultKind.TheVariants as range_kinds
 use Rattle.fn_expr.specs.declared.ranges.Ranges.{Ranges}
-use Rattle.fn_expr.specs.Ranged.{ranged, fault_in}
 use Rattle.fn_expr.specs.Bounds.{bounding_of}
 use Rattle.fn_profile.specs.declared.profile.Bounds.{Bounds}
 use Rattle.fn_profile.specs.declared.profile.Sizes.{Sizes}
@@ -44,7 +41,8 @@ use Rattle.fn_profile.specs.declared.profile.MethodSizes.{MethodSizes}
 use Rattle.fn_profile.specs.declared.profile.Method.{Method}
 use Rattle.fn_bounds.specs.Formats.{sizes_at}
 use Rattle.fn_bounds.specs.Ranging.{format_ranges}
-use Rattle.fn_bounds.specs.Parameters.{gathered}
+use Rattle.fn_bounds.specs.declared.known.Extent.{Extent}
+use Rattle.fn_bounds.specs.Known.{range_fault, condition_range_fault}
 use Rattle.fn_bounds.specs.Passes.{folded}
 
 -- ---- values that may be wider than 64 bits
@@ -101,11 +99,11 @@ of_range f = unnamed (range_kind f.kind) f.at
 
 -- ---- both, in an expression, in an encoding, in a constraint, in a format
 
-abbrev pub expr_fault : Format → FormatSizes → Ranges → Expr → Option ProfileFault
-expr_fault format s r e = earlier (wide_in format s e) (option_map of_range (result_err (ranged (bounding_of r) e)))
+abbrev pub expr_fault : Extent → Format → FormatSizes → Ranges → Expr → Option ProfileFault
+expr_fault x format s r e = earlier (wide_in format s e) (option_map of_range (range_fault x (bounding_of r) e))
 
-abbrev pub condition_fault : Format → FormatSizes → Ranges → Cond → Option ProfileFault
-condition_fault format s r c = earlier (wide_in_condition format s c) (option_map of_range (fault_in (bounding_of r) c))
+abbrev pub condition_fault : Extent → Format → FormatSizes → Ranges → Cond → Option ProfileFault
+condition_fault x format s r c = earlier (wide_in_condition format s c) (option_map of_range (condition_range_fault x (bounding_of r) c))
 
 -- crc's data are no expression
 abbrev pub library_fault : (Expr → Option ProfileFault) → Library → Option ProfileFault
@@ -121,35 +119,24 @@ encoding_fault judge encoding.Bare = None
 encoding_fault judge (encoding.Library l) = library_fault judge l
 encoding_fault judge (encoding.Call k arguments) = earliest judge arguments
 
-abbrev pub constraint_fault : Format → FormatSizes → Ranges → Constraint → Option ProfileFault
-constraint_fault format s r (Bracket field side lengths place) = earliest (expr_fault format s r) lengths
-constraint_fault format s r (Enforce condition place) = condition_fault format s r condition
+abbrev pub constraint_fault : Extent → Format → FormatSizes → Ranges → Constraint → Option ProfileFault
+constraint_fault x format s r (Bracket field side lengths place) = earliest (expr_fault x format s r) lengths
+constraint_fault x format s r (Enforce condition place) = condition_fault x format s r condition
 
-abbrev pub format_fault : Format → FormatSizes → Ranges → Option ProfileFault
-format_fault format s r =
-    earlier (earliest (λ d. encoding_fault (expr_fault format s r) d.encoding) format.fields) (earliest (constraint_fault format s r) format.constraints)
+abbrev pub format_fault : Extent → Format → FormatSizes → Ranges → Option ProfileFault
+format_fault x format s r =
+    earlier (earliest (λ d. encoding_fault (expr_fault x format s r) d.encoding) format.fields) (earliest (constraint_fault x format s r) format.constraints)
 
 -- ---- in a method, and in all methods of the table
 
 -- under the ranges that the bounds and the parameters give; none without bounds
-abbrev pub sized_fault : List Interval → Format → Option FormatSizes → Option ProfileFault
-sized_fault parameters format None = None
-sized_fault parameters format (Some s) = format_fault format s (format_ranges s parameters)
+abbrev pub sized_fault : Extent → List Interval → Format → Option FormatSizes → Option ProfileFault
+sized_fault x parameters format None = None
+sized_fault x parameters format (Some s) = format_fault x format s (format_ranges s parameters)
 
-abbrev pub method_fault : Method → Option MethodSizes → Option ProfileFault
-method_fault m None = None
-method_fault m (Some s) = folded (λ n o format. earlier o (sized_fault s.parameters format (slice_get s.formats n))) 0 None m.formats
+abbrev pub method_fault : Extent → Method → Option MethodSizes → Option ProfileFault
+method_fault x m None = None
+method_fault x m (Some s) = folded (λ n o format. earlier o (sized_fault x s.parameters format (slice_get s.formats n))) 0 None m.formats
 
-abbrev pub methods_fault : List Method → List MethodSizes → Option ProfileFault
-methods_fault methods table = folded (λ i o m. earlier o (method_fault m (slice_get table i))) 0 None methods
-
--- a parameter has no range: the method isn't called, or an argument has none
-abbrev pub lacks : List Method → List MethodSizes → ℕ → Method → Bool
-lacks methods table k m = list_any is_none (gathered methods table k (map (λ p. None) m.parameters))
-
--- the fault of a method whose parameters all have ranges
-abbrev pub known_fault : List Method → List MethodSizes → ℕ → Method → Option ProfileFault
-known_fault methods table i m = if lacks methods table i m then None else method_fault m (slice_get table i)
-
-abbrev pub known_faults : List Method → List MethodSizes → Option ProfileFault
-known_faults methods table = folded (λ i o m. earlier o (known_fault methods table i m)) 0 None methods
+abbrev pub methods_fault : Extent → List Method → List MethodSizes → Option ProfileFault
+methods_fault x methods table = folded (λ i o m. earlier o (method_fault x m (slice_get table i))) 0 None methods

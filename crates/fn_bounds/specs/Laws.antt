@@ -18,6 +18,7 @@ use Rattle.fn_profile.specs.declared.profile.Encoding.TheVariants as encoding
 use Rattle.fn_profile.specs.declared.profile.Constraint.TheVariants.{Bracket, Enforce}
 use Rattle.fn_profile.specs.declared.profile.Field.{Field}
 use Rattle.fn_profile.specs.declared.profile.Format.{Format}
+use Rattle.fn_bounds.specs.declared.known.Extent.TheVariants.{Whole}
 use Rattle.fn_bounds.specs.Faults.{is_wide, format_fault}
 
 abbrev pub library_exprs : Library → List Expr
@@ -54,4 +55,4 @@ pub record AllSound (format : Format) (s : FormatSizes) (r : Ranges) : Type 0 wh
   pub conditions : (j : ℕ) (c : Cond) (place : Span) → slice_get format.constraints j ≡ Some (Enforce c place) → ConditionIsSound s r c
 
 abbrev pub FaultlessIsSound : Type 0
-FaultlessIsSound = (format : Format) (s : FormatSizes) (r : Ranges) → format_fault format s r ≡ None → AllSound format s r
+FaultlessIsSound = (format : Format) (s : FormatSizes) (r : Ranges) → format_fault Whole format s r ≡ None → AllSound format s r

@@ -4,6 +4,7 @@ pub mod Passes
 pub mod Formats
 pub mod Methods
 pub mod Ranging
+pub mod Known
 pub mod Faults
 pub mod Parameters
 pub mod Outcome

@@ -1,5 +1,5 @@
 -- The ranges of parameters: the hulls of the ranges of their arguments over all calls.
-use Rattle.std.specs.Prelude.{Bool, false, ◌≡◌, ℕ, ◌≤◌, pos, nat_eq, List, map, fold, slice_get, Option, Some, None, if◌then◌else◌}
+use Rattle.std.specs.Prelude.{Bool, false, ◌≡◌, ℕ, ◌≤◌, ◌^◌, pos, nat_eq, List, map, fold, slice_get, Option, Some, None, if◌then◌else◌}
 use Rattle.std.specs.Int.{int_min, int_max}
 use Rattle.std.specs.List.{list_any}
 use Rattle.std.specs.Option.{option_and_then, unwrap_or}
@@ -70,18 +70,21 @@ with_entry (Some s) k found m = with_method s.formats s.parameters k found m
 abbrev pub gathered : List Method → List MethodSizes → ℕ → List (Option Interval) → List (Option Interval)
 gathered methods table k found = folded (λ i o m. with_entry (slice_get table i) k o m) 0 found methods
 
--- without a range: 0 alone
-abbrev pub settled : Option Interval → Interval
-settled o = unwrap_or o (from_to (pos 0) (pos 0))
+-- what stands for no range: 0 alone in a profile, whose calls all have arguments with ranges; beyond the limit while faults are looked for, so that no part that holds the parameter has a range
+abbrev pub only_zero : Interval
+only_zero = from_to (pos 0) (pos 0)
 
--- the ranges of the parameters of the method k
-abbrev pub parameter_ranges : List Method → List MethodSizes → ℕ → Method → List Interval
-parameter_ranges methods table k m = map settled (gathered methods table k (map (λ p. None) m.parameters))
+abbrev pub beyond : Interval
+beyond = from_to (pos (2 ^ 121)) (pos (2 ^ 121))
+
+-- the ranges of the parameters of the method k, where this interval stands for none
+abbrev pub parameter_ranges : Interval → List Method → List MethodSizes → ℕ → Method → List Interval
+parameter_ranges none methods table k m = map (λ o. unwrap_or o none) (gathered methods table k (map (λ p. None) m.parameters))
 
 abbrev pub with_parameters : List Interval → MethodSizes → MethodSizes
 with_parameters parameters s = record { formats = s.formats; whole = s.whole; parameters = parameters }
 
 -- each method from the place on in the order has the ranges of its parameters in the table
-pub record RangedFrom (methods : List Method) (order : List ℕ) (place : ℕ) (table : List MethodSizes) : Type 0 where
+pub record RangedFrom (none : Interval) (methods : List Method) (order : List ℕ) (place : ℕ) (table : List MethodSizes) : Type 0 where
   pub ranged : (i k : ℕ) (m : Method) (s : MethodSizes) → place ≤ i → slice_get order i ≡ Some k → slice_get methods k ≡ Some m → slice_get table k ≡ Some s →
-      s.parameters ≡ parameter_ranges methods table k m
+      s.parameters ≡ parameter_ranges none methods table k m

@@ -1,26 +1,22 @@
 //! The faults of the expressions of a format: values that may be wider than 64 bits, and parts without a range.
 
-ghost use Rattle.std.specs.Prelude.{◌≡◌, Some, IfOk, is_none};
-ghost use Rattle.std.specs.List.{list_any};
+ghost use Rattle.std.specs.Prelude.{◌≡◌, Some, IfOk};
 ghost use Rattle.std.specs.Option.{option_copied};
 ghost use Rattle.fn_profile.specs.Judging.{earlier};
-ghost use Rattle.fn_bounds.specs.Callers as calling;
 ghost use Rattle.fn_bounds.specs.Faults as spec;
 
-use crate::callers::callers_at;
 use crate::formats::sizes_at;
-use crate::parameters::{gathered, unknown};
+use crate::known::{Extent, condition_range_fault, range_fault};
 use crate::ranging::{WIDEST_VALUE, format_ranges};
 use fn_expr::{
     Attribute, Cond, Expr, Interval, Measure, RangeFault, RangeFaultKind, Ranges, Side, Subject,
-    range,
 };
 use fn_profile::{
     Bounds, Constraint, Encoding, Field, Format, FormatSizes, Library, Method, MethodSizes,
     ProfileFault, ProfileFaultKind, Sizes, earlier,
 };
 use fn_source::Span;
-use sqlite_items::{Items, at};
+use sqlite_items::at;
 use std::alloc::{AllocError, Global};
 
 /// How many octets the word THIS has.
@@ -133,51 +129,55 @@ fn of_range(fault: RangeFault) -> ProfileFault
 }
 
 fn expr_fault(
+    extent: Extent,
     format: &Format,
     sizes: &FormatSizes,
     ranges: &Ranges,
     expr: &Expr,
 ) -> Option<ProfileFault>
-    ensures { result ≡ spec.expr_fault format.now sizes.now ranges.now expr.now }
+    ensures { result ≡ spec.expr_fault extent format.now sizes.now ranges.now expr.now }
 {
     let wide = wide_in(format, sizes, expr);
-    match range(expr, ranges) {
-        Ok(_) => wide,
-        Err(fault) => earlier(wide, Some(of_range(fault))),
+    match range_fault(extent, expr, ranges) {
+        None => wide,
+        Some(fault) => earlier(wide, Some(of_range(fault))),
     }
 }
 
 fn condition_fault(
+    extent: Extent,
     format: &Format,
     sizes: &FormatSizes,
     ranges: &Ranges,
     cond: &Cond,
 ) -> Option<ProfileFault>
-    ensures { result ≡ spec.condition_fault format.now sizes.now ranges.now cond.now }
+    ensures { result ≡ spec.condition_fault extent format.now sizes.now ranges.now cond.now }
 {
     let wide = wide_in_condition(format, sizes, cond);
-    match fn_expr::condition_fault(cond, ranges) {
+    match condition_range_fault(extent, cond, ranges) {
         None => wide,
         Some(fault) => earlier(wide, Some(of_range(fault))),
     }
 }
 
 fn exprs_fault(
+    extent: Extent,
     format: &Format,
     sizes: &FormatSizes,
     ranges: &Ranges,
     exprs: &[Expr],
 ) -> Option<ProfileFault>
-    ensures { result ≡ spec.earliest (spec.expr_fault format.now sizes.now ranges.now) exprs.now }
+    ensures { result ≡ spec.earliest (spec.expr_fault extent format.now sizes.now ranges.now) exprs.now }
 {
     let mut found = None;
     for expr in exprs {
-        found = earlier(found, expr_fault(format, sizes, ranges, expr));
+        found = earlier(found, expr_fault(extent, format, sizes, ranges, expr));
     }
     found
 }
 
 fn pair_fault(
+    extent: Extent,
     format: &Format,
     sizes: &FormatSizes,
     ranges: &Ranges,
@@ -185,124 +185,142 @@ fn pair_fault(
     second: &Expr,
 ) -> Option<ProfileFault>
     ensures { result
-        ≡ earlier (spec.expr_fault format.now sizes.now ranges.now first.now) (spec.expr_fault format.now sizes.now ranges.now second.now) }
+        ≡ earlier (spec.expr_fault extent format.now sizes.now ranges.now first.now) (spec.expr_fault extent format.now sizes.now ranges.now second.now) }
 {
     earlier(
-        expr_fault(format, sizes, ranges, first),
-        expr_fault(format, sizes, ranges, second),
+        expr_fault(extent, format, sizes, ranges, first),
+        expr_fault(extent, format, sizes, ranges, second),
     )
 }
 
 fn library_fault(
+    extent: Extent,
     format: &Format,
     sizes: &FormatSizes,
     ranges: &Ranges,
     library: &Library,
 ) -> Option<ProfileFault>
-    ensures { result ≡ spec.library_fault (spec.expr_fault format.now sizes.now ranges.now) library.now }
+    ensures { result ≡ spec.library_fault (spec.expr_fault extent format.now sizes.now ranges.now) library.now }
 {
     match library {
         Library::UncompressedValue { length, value } => {
-            pair_fault(format, sizes, ranges, length, value)
+            pair_fault(extent, format, sizes, ranges, length, value)
         }
         Library::CompressedValue { length, value } => {
-            pair_fault(format, sizes, ranges, length, value)
+            pair_fault(extent, format, sizes, ranges, length, value)
         }
-        Library::Irregular { length } => expr_fault(format, sizes, ranges, length),
+        Library::Irregular { length } => expr_fault(extent, format, sizes, ranges, length),
         Library::Static => None,
-        Library::Lsb { bits, offset } => pair_fault(format, sizes, ranges, bits, offset),
+        Library::Lsb { bits, offset } => pair_fault(extent, format, sizes, ranges, bits, offset),
         Library::Crc(crc) => earlier(
-            pair_fault(format, sizes, ranges, &crc.bits, &crc.polynomial),
-            pair_fault(format, sizes, ranges, &crc.initial, &crc.length),
+            pair_fault(extent, format, sizes, ranges, &crc.bits, &crc.polynomial),
+            pair_fault(extent, format, sizes, ranges, &crc.initial, &crc.length),
         ),
     }
 }
 
 fn encoding_fault(
+    extent: Extent,
     format: &Format,
     sizes: &FormatSizes,
     ranges: &Ranges,
     encoding: &Encoding,
 ) -> Option<ProfileFault>
-    ensures { result ≡ spec.encoding_fault (spec.expr_fault format.now sizes.now ranges.now) encoding.now }
+    ensures { result ≡ spec.encoding_fault (spec.expr_fault extent format.now sizes.now ranges.now) encoding.now }
 {
     match encoding {
         Encoding::Bare => None,
-        Encoding::Library(library) => library_fault(format, sizes, ranges, library),
+        Encoding::Library(library) => library_fault(extent, format, sizes, ranges, library),
         Encoding::Call { arguments, .. } => {
-            exprs_fault(format, sizes, ranges, arguments.as_slice())
+            exprs_fault(extent, format, sizes, ranges, arguments.as_slice())
         }
     }
 }
 
 fn constraint_fault(
+    extent: Extent,
     format: &Format,
     sizes: &FormatSizes,
     ranges: &Ranges,
     constraint: &Constraint,
 ) -> Option<ProfileFault>
-    ensures { result ≡ spec.constraint_fault format.now sizes.now ranges.now constraint.now }
+    ensures { result ≡ spec.constraint_fault extent format.now sizes.now ranges.now constraint.now }
 {
     match constraint {
         Constraint::Bracket { lengths, .. } => {
-            exprs_fault(format, sizes, ranges, lengths.as_slice())
+            exprs_fault(extent, format, sizes, ranges, lengths.as_slice())
         }
         Constraint::Enforce { condition, .. } => {
-            condition_fault(format, sizes, ranges, condition)
+            condition_fault(extent, format, sizes, ranges, condition)
         }
     }
 }
 
-fn fields_fault(format: &Format, sizes: &FormatSizes, ranges: &Ranges) -> Option<ProfileFault>
+fn fields_fault(
+    extent: Extent,
+    format: &Format,
+    sizes: &FormatSizes,
+    ranges: &Ranges,
+) -> Option<ProfileFault>
     ensures { result
-        ≡ spec.earliest (λ d. spec.encoding_fault (spec.expr_fault format.now sizes.now ranges.now) d.encoding) format.now.fields }
+        ≡ spec.earliest (λ d. spec.encoding_fault (spec.expr_fault extent format.now sizes.now ranges.now) d.encoding) format.now.fields }
 {
     let mut found = None;
     for field in format.fields.as_slice() {
         found = earlier(
             found,
-            encoding_fault(format, sizes, ranges, &field.encoding),
+            encoding_fault(extent, format, sizes, ranges, &field.encoding),
         );
     }
     found
 }
 
-fn constraints_fault(format: &Format, sizes: &FormatSizes, ranges: &Ranges) -> Option<ProfileFault>
-    ensures { result ≡ spec.earliest (spec.constraint_fault format.now sizes.now ranges.now) format.now.constraints }
+fn constraints_fault(
+    extent: Extent,
+    format: &Format,
+    sizes: &FormatSizes,
+    ranges: &Ranges,
+) -> Option<ProfileFault>
+    ensures { result ≡ spec.earliest (spec.constraint_fault extent format.now sizes.now ranges.now) format.now.constraints }
 {
     let mut found = None;
     for constraint in format.constraints.as_slice() {
-        found = earlier(found, constraint_fault(format, sizes, ranges, constraint));
+        found = earlier(
+            found,
+            constraint_fault(extent, format, sizes, ranges, constraint),
+        );
     }
     found
 }
 
 /// The earliest fault in the expressions of a format, under the ranges of its attributes and parameters.
 pub(crate) fn format_fault(
+    extent: Extent,
     format: &Format,
     sizes: &FormatSizes,
     ranges: &Ranges,
 ) -> Option<ProfileFault>
-    ensures { result ≡ spec.format_fault format.now sizes.now ranges.now }
+    ensures { result ≡ spec.format_fault extent format.now sizes.now ranges.now }
 {
     earlier(
-        fields_fault(format, sizes, ranges),
-        constraints_fault(format, sizes, ranges),
+        fields_fault(extent, format, sizes, ranges),
+        constraints_fault(extent, format, sizes, ranges),
     )
 }
 
 fn sized_fault(
     alloc: Global,
+    extent: Extent,
     parameters: &[Interval],
     format: &Format,
     sizes: Option<&FormatSizes>,
 ) -> Result<Option<ProfileFault>, AllocError>
-    ensures { IfOk result (λ o. o ≡ spec.sized_fault parameters.now format.now (option_copied sizes.entry)) }
+    ensures { IfOk result (λ o. o ≡ spec.sized_fault extent parameters.now format.now (option_copied sizes.entry)) }
 {
     match sizes {
         Some(sizes) => {
             let ranges = format_ranges(alloc, sizes, parameters)?;
-            Ok(format_fault(format, sizes, &ranges))
+            Ok(format_fault(extent, format, sizes, &ranges))
         }
         None => Ok(None),
     }
@@ -310,16 +328,17 @@ fn sized_fault(
 
 fn formats_fault(
     alloc: Global,
+    extent: Extent,
     method: &Method,
     sizes: &MethodSizes,
 ) -> Result<Option<ProfileFault>, AllocError>
-    ensures { IfOk result (λ o. o ≡ spec.method_fault method.now (Some sizes.now)) }
+    ensures { IfOk result (λ o. o ≡ spec.method_fault extent method.now (Some sizes.now)) }
 {
     let mut found = None;
     let mut place = 0;
     for format in method.formats.as_slice() {
         let sized = at(sizes.formats.as_slice(), place);
-        let fault = sized_fault(alloc, sizes.parameters.as_slice(), format, sized)?;
+        let fault = sized_fault(alloc, extent, sizes.parameters.as_slice(), format, sized)?;
         found = earlier(found, fault);
         place += 1;
     }
@@ -328,13 +347,14 @@ fn formats_fault(
 
 fn method_fault(
     alloc: Global,
+    extent: Extent,
     method: &Method,
     entry: Option<&MethodSizes>,
 ) -> Result<Option<ProfileFault>, AllocError>
-    ensures { IfOk result (λ o. o ≡ spec.method_fault method.now (option_copied entry.entry)) }
+    ensures { IfOk result (λ o. o ≡ spec.method_fault extent method.now (option_copied entry.entry)) }
 {
     match entry {
-        Some(sizes) => formats_fault(alloc, method, sizes),
+        Some(sizes) => formats_fault(alloc, extent, method, sizes),
         None => Ok(None),
     }
 }
@@ -342,76 +362,16 @@ fn method_fault(
 /// The earliest fault in the expressions of the methods, under the ranges that their bounds and parameters give.
 pub(crate) fn methods_fault(
     alloc: Global,
+    extent: Extent,
     methods: &[Method],
     table: &[MethodSizes],
 ) -> Result<Option<ProfileFault>, AllocError>
-    ensures { IfOk result (λ o. o ≡ spec.methods_fault methods.now table.now) }
+    ensures { IfOk result (λ o. o ≡ spec.methods_fault extent methods.now table.now) }
 {
     let mut found = None;
     let mut place = 0;
     for method in methods {
-        let fault = method_fault(alloc, method, at(table, place))?;
-        found = earlier(found, fault);
-        place += 1;
-    }
-    Ok(found)
-}
-
-fn lacks(
-    alloc: Global,
-    methods: &[Method],
-    table: &[MethodSizes],
-    callers: &[usize],
-    index: usize,
-    method: &Method,
-) -> Result<bool, AllocError>
-    requires { callers.now ≡ calling.callers_of index methods.now }
-    ensures { IfOk result (λ b. b ≡ spec.lacks methods.now table.now index method.now) }
-{
-    let start = unknown(alloc, method.parameters.as_slice())?;
-    let found = gathered(alloc, methods, table, callers, index, start)?;
-    Ok(any_none(found.as_slice()))
-}
-
-fn any_none(found: &[Option<Interval>]) -> bool
-    ensures { result ≡ list_any is_none found.now }
-{
-    found.iter().any(|interval| interval.is_none())
-}
-
-fn known_fault(
-    alloc: Global,
-    methods: &[Method],
-    table: &[MethodSizes],
-    callers: &[usize],
-    index: usize,
-    method: &Method,
-) -> Result<Option<ProfileFault>, AllocError>
-    requires { callers.now ≡ calling.callers_of index methods.now }
-    ensures { IfOk result (λ o. o ≡ spec.known_fault methods.now table.now index method.now) }
-{
-    if lacks(alloc, methods, table, callers, index, method)? {
-        Ok(None)
-    } else {
-        method_fault(alloc, method, at(table, index))
-    }
-}
-
-/// The same over the methods whose parameters all have ranges.
-pub(crate) fn known_faults(
-    alloc: Global,
-    methods: &[Method],
-    table: &[MethodSizes],
-    callers: &[Items<usize>],
-) -> Result<Option<ProfileFault>, AllocError>
-    requires { callers.now ≡ calling.caller_table methods.now }
-    ensures { IfOk result (λ o. o ≡ spec.known_faults methods.now table.now) }
-{
-    let mut found = None;
-    let mut place = 0;
-    for method in methods {
-        let row = callers_at(callers, place);
-        let fault = known_fault(alloc, methods, table, row, place, method)?;
+        let fault = method_fault(alloc, extent, method, at(table, place))?;
         found = earlier(found, fault);
         place += 1;
     }

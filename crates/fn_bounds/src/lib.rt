@@ -10,6 +10,7 @@ pub mod constants;
 mod fields;
 mod formats;
 mod judging;
+mod known;
 pub mod laws;
 pub mod methods;
 mod parameters;

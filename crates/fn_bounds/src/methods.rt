@@ -11,8 +11,10 @@ ghost use Rattle.fn_bounds.specs.Parameters.{RangedFrom};
 use crate::callers::{caller_table, callers_at};
 use crate::fields::NO_BITS;
 use crate::formats::format_sizes;
-use crate::judging::{known_faults, methods_fault};
-use crate::parameters::{parameter_ranges, set_parameters};
+use crate::judging::methods_fault;
+use crate::known::Extent;
+use crate::parameters::{BEYOND, ONLY_ZERO, parameter_ranges, set_parameters};
+use fn_expr::Interval;
 use fn_profile::{
     Bounds, FormatSizes, Method, MethodSizes, ProfileFault, ProfileFaultKind, ResolveError, Sizes,
     earlier,
@@ -149,12 +151,13 @@ fn with_ranges(
     order: &[usize],
     callers: &[Items<usize>],
     sized: Vec<MethodSizes>,
+    none: Interval,
 ) -> Result<Vec<MethodSizes>, AllocError>
     requires callers { callers.now ≡ calling.caller_table methods.now }
     requires order { spec.IsOrder methods.now order.now }
     requires sized { spec.SizedBefore methods.now order.now (length order.now) sized.items }
     ensures sized { IfOk result (λ t. spec.SizedBefore methods.now order.now (length order.now) t.items) }
-    ensures ranged { IfOk result (λ t. RangedFrom methods.now order.now 0 t.items) }
+    ensures ranged { IfOk result (λ t. RangedFrom none methods.now order.now 0 t.items) }
 {
     let mut table = sized;
     let mut left = order.len();
@@ -165,7 +168,8 @@ fn with_ranges(
             continue;
         };
         let row = callers_at(callers, index);
-        let parameters = parameter_ranges(alloc, methods, table.as_slice(), row, index, method)?;
+        let sizes = table.as_slice();
+        let parameters = parameter_ranges(alloc, methods, sizes, row, index, method, none)?;
         set_parameters(&mut table, index, parameters);
     }
     Ok(table)
@@ -201,21 +205,19 @@ fn widest(methods: &[Method], table: &[MethodSizes]) -> Option<ProfileFault>
 
 fn earliest(
     alloc: Global,
+    extent: Extent,
     methods: &[Method],
     table: &[MethodSizes],
-    callers: &[Items<usize>],
 ) -> Result<Option<ProfileFault>, AllocError>
-    requires { callers.now ≡ calling.caller_table methods.now }
-    ensures { IfOk result (Judged (outcome.IsFine methods.now table.now) (outcome.IsFaulty methods.now table.now)) }
+    ensures { IfOk result (Judged (outcome.IsFine extent methods.now table.now) (outcome.IsFaulty extent methods.now table.now)) }
 {
-    let known = known_faults(alloc, methods, table, callers)?;
-    let all = methods_fault(alloc, methods, table)?;
-    Ok(earlier(widest(methods, table), known).or(all))
+    let fault = methods_fault(alloc, extent, methods, table)?;
+    Ok(earlier(widest(methods, table), fault))
 }
 
 /// The bounds of the methods and the ranges of their parameters. Each method comes after those that it calls in the order.
 /// A fault is `TooLarge` of a method whose header may have more than 4,096 bits or whose packed bits may be more than `2^18`,
-/// or that of an expression: `WideValue`, `AboveLimit` or `Power`.
+/// or that of an expression: `WideValue`, `AboveLimit` or `Power`. A part that holds a parameter whose arguments have no range is not judged.
 pub fn sizes(
     alloc: Global,
     methods: &[Method],
@@ -228,9 +230,11 @@ pub fn sizes(
     let sized = filled(alloc, methods, order)?;
     let callers = caller_table(alloc, methods)?;
     let rows = callers.as_slice();
-    let table = with_ranges(alloc, methods, order, rows, sized)?;
-    match earliest(alloc, methods, table.as_slice(), rows)? {
-        Some(fault) => Err(ResolveError::Fault(fault)),
-        None => Ok(Items::from_vec(table)),
-    }
+    let table = with_ranges(alloc, methods, order, rows, sized, ONLY_ZERO)?;
+    let Some(fault) = earliest(alloc, Extent::Whole, methods, table.as_slice())? else {
+        return Ok(Items::from_vec(table));
+    };
+    let known = with_ranges(alloc, methods, order, rows, table, BEYOND)?;
+    let found = earliest(alloc, Extent::Known, methods, known.as_slice())?;
+    Err(ResolveError::Fault(found.unwrap_or(fault)))
 }

@@ -1,7 +1,7 @@
 //! The ranges of parameters.
 
 ghost use Rattle.std.specs.Prelude.{◌≡◌, ◌<◌, None, length, map, slice_get, IfOk};
-ghost use Rattle.std.specs.Option.{option_copied};
+ghost use Rattle.std.specs.Option.{option_copied, unwrap_or};
 ghost use Rattle.fn_bounds.specs.Callers as calling;
 ghost use Rattle.fn_bounds.specs.Parameters as spec;
 ghost use Rattle.fn_bounds.specs.Passes.{changed};
@@ -11,6 +11,15 @@ use fn_expr::{Expr, Interval, Ranges, range};
 use fn_profile::{Encoding, Format, FormatSizes, Method, MethodSizes, Name};
 use sqlite_items::{Items, at};
 use std::alloc::{AllocError, Global};
+
+/// What stands for no range in a profile.
+pub(crate) const ONLY_ZERO: Interval = Interval { from: 0, to: 0 };
+
+/// What stands for no range while faults are looked for: it is beyond the limit of ranges.
+pub(crate) const BEYOND: Interval = Interval {
+    from: 0x200_0000_0000_0000_0000_0000_0000_0000,
+    to: 0x200_0000_0000_0000_0000_0000_0000_0000,
+};
 
 fn joined(found: Option<Interval>, more: Option<Interval>) -> Option<Interval>
     ensures { result ≡ spec.joined found more }
@@ -193,7 +202,7 @@ fn with_caller(
 }
 
 /// The ranges so far, with those of the arguments of all calls of a method, from the methods that call it.
-pub(crate) fn gathered(
+fn gathered(
     alloc: Global,
     methods: &[Method],
     table: &[MethodSizes],
@@ -214,10 +223,7 @@ pub(crate) fn gathered(
     Ok(all)
 }
 
-pub(crate) fn unknown(
-    alloc: Global,
-    parameters: &[Name],
-) -> Result<Items<Option<Interval>>, AllocError>
+fn unknown(alloc: Global, parameters: &[Name]) -> Result<Items<Option<Interval>>, AllocError>
     ensures { IfOk result (λ r. r ≡ map (λ p. None) parameters.now) }
 {
     let mut found = Items::new(alloc);
@@ -227,16 +233,21 @@ pub(crate) fn unknown(
     Ok(found)
 }
 
-fn settled(alloc: Global, found: &[Option<Interval>]) -> Result<Items<Interval>, AllocError>
-    ensures { IfOk result (λ r. r ≡ map spec.settled found.now) }
+fn settled(
+    alloc: Global,
+    found: &[Option<Interval>],
+    none: Interval,
+) -> Result<Items<Interval>, AllocError>
+    ensures { IfOk result (λ r. r ≡ map (λ o. unwrap_or o none) found.now) }
 {
     let mut ranges = Items::new(alloc);
     for interval in found {
-        ranges.push(interval.unwrap_or(Interval { from: 0, to: 0 }))?;
+        ranges.push(interval.unwrap_or(none))?;
     }
     Ok(ranges)
 }
 
+/// The ranges of a method's parameters, where the last interval stands for none.
 pub(crate) fn parameter_ranges(
     alloc: Global,
     methods: &[Method],
@@ -244,13 +255,14 @@ pub(crate) fn parameter_ranges(
     callers: &[usize],
     index: usize,
     method: &Method,
+    none: Interval,
 ) -> Result<Items<Interval>, AllocError>
     requires { callers.now ≡ calling.callers_of index methods.now }
-    ensures { IfOk result (λ r. r ≡ spec.parameter_ranges methods.now table.now index method.now) }
+    ensures { IfOk result (λ r. r ≡ spec.parameter_ranges none methods.now table.now index method.now) }
 {
     let start = unknown(alloc, method.parameters.as_slice())?;
     let found = gathered(alloc, methods, table, callers, index, start)?;
-    settled(alloc, found.as_slice())
+    settled(alloc, found.as_slice(), none)
 }
 
 pub(crate) fn set_parameters(

@@ -7,4 +7,4 @@ use Rattle.fn_bounds.proofs.judging.formats_fault.Given as goal
 
 abbrev pub invariant-loop-format : goal.invariant-loop-format
 invariant-loop-format l = (l.place ≡ l.format-index)
-    × (l.found ≡ folded (λ n o format. earlier o (sized_fault l.sizes.parameters format (slice_get l.sizes.formats n))) 0 None (take l.format-index l.method.formats))
+    × (l.found ≡ folded (λ n o format. earlier o (sized_fault l.extent l.sizes.parameters format (slice_get l.sizes.formats n))) 0 None (take l.format-index l.method.formats))

@@ -7,4 +7,4 @@ use Rattle.fn_bounds.proofs.judging.methods_fault.Given as goal
 
 abbrev pub invariant-loop-method : goal.invariant-loop-method
 invariant-loop-method l = (l.place ≡ l.method-index)
-    × (l.found ≡ folded (λ i o m. earlier o (method_fault m (slice_get l.table i))) 0 None (take l.method-index l.methods))
+    × (l.found ≡ folded (λ i o m. earlier o (method_fault l.extent m (slice_get l.table i))) 0 None (take l.method-index l.methods))
