@@ -1,5 +1,6 @@
 -- The judgements of names and attributes.
-use Rattle.std.proofs.Common.{◌≡◌, ◌∙◌, ap, true, false, Some, None, sym}
+use Rattle.std.proofs.Common.{◌≡◌, ◌∙◌, ap, subst, true, false, Some, None, sym, IfOk, Result, Ok, Err}
+use Rattle.std.specs.Prelude.{IfErr, Option}
 use Rattle.fn_source.specs.declared.span.Span.{Span}
 use Rattle.fn_tree.specs.declared.tree.Attribute.{Attribute as Word}
 use Rattle.fn_tree.specs.declared.tree.Owner.{Owner}
@@ -8,11 +9,17 @@ use Rattle.fn_tree.specs.declared.tree.Expr.TheVariants.{rolls-Name, rolls-Attri
 use Rattle.fn_tree.specs.declared.tree.Expr.TheFolds.{fold-roll-Expr}
 use Rattle.fn_tree.specs.declared.tree.Expr.TheOpen.{Expr-F}
 use Rattle.fn_expr.specs.declared.expr.Expr.{Expr}
+use Rattle.fn_expr.specs.declared.expr.Expr.TheVariants as expr
+use Rattle.fn_expr.specs.declared.expr.Subject.{Subject}
+use Rattle.fn_expr.specs.declared.expr.Side.{Side}
+use Rattle.fn_expr.specs.declared.expr.Measure.{Measure}
 use Rattle.fn_profile.specs.declared.fault.ProfileFault.{ProfileFault}
 use Rattle.fn_terms.specs.declared.term.Kind.TheVariants as kinds
 use Rattle.fn_terms.specs.declared.term.Term.TheVariants.{Number}
-use Rattle.fn_terms.specs.Names.{Names, plain}
-use Rattle.fn_terms.specs.Judged.{Judgement, judged, judge, found, place_of, unless_known, owner_fault, wrong_kind, if_allowed}
+use Rattle.fn_terms.specs.Names.{Names, plain, subject_of, side_of, measure_of}
+use Rattle.fn_terms.specs.Means.{Means, name}
+use Rattle.fn_terms.specs.Ranges.{range_of}
+use Rattle.fn_terms.specs.Judged.{Judgement, judged, judge, found, place_of, unless_known, owner_fault, wrong_kind, if_allowed, range_fault, name_judgement, attribute_range}
 
 name_shape : (s : Names) (at : Span) → judged s (t.Name at) ≡ judge s (Expr-F.Name at)
 name_shape s at = ap (judged s) (sym (rolls-Name at)) ∙ fold-roll-Expr _ _ _
@@ -20,16 +27,32 @@ name_shape s at = ap (judged s) (sym (rolls-Name at)) ∙ fold-roll-Expr _ _ _
 attribute_shape : (s : Names) (at : Span) (owner : Owner) (which : Word) → judged s (t.Attribute at owner which) ≡ judge s (Expr-F.Attribute at owner which)
 attribute_shape s at owner which = ap (judged s) (sym (rolls-Attribute at owner which)) ∙ fold-roll-Expr _ _ _
 
-pub name_right : (s : Names) (at : Span) (e : Expr) → Some e ≡ plain s at → place_of e ≡ at → judged s (t.Name at) ≡ found (Number e)
-name_right s at e is place = name_shape s at ∙ (λ i. record { kind = kinds.Number; place = sym place i; fault = unless_known at (sym is i) })
+named : (s : Names) (at : Span) (o : Option Expr) → o ≡ plain s at → judged s (t.Name at) ≡ name_judgement s at o
+named s at o is = name_shape s at ∙ ap (name_judgement s at) (sym is)
+
+pub name_means : (s : Names) (at : Span) (e : Expr) (r : Result Expr ProfileFault) → Some e ≡ plain s at → IfOk r (λ x. x ≡ e) → IfOk r (λ x. Means s (t.Name at) (Number x))
+name_means s at e (Ok x) is same = subst (λ y. Means s (t.Name at) (Number y)) (sym same) (name (sym is))
+name_means s at e (Err f) is same = tt
+
+pub name_right : (s : Names) (at : Span) (e : Expr) (r : Result Expr ProfileFault) → Some e ≡ plain s at → place_of e ≡ at → IfOk r (λ x. x ≡ e) → IfOk r (λ _. range_fault s (range_of e) ≡ None)
+    → IfOk r (λ x. judged s (t.Name at) ≡ found (Number x))
+name_right s at e (Ok x) is place same right =
+    named s at (Some e) is ∙ (λ i. record { kind = kinds.Number; place = sym place i; fault = right i; range = range_of e }) ∙ ap (λ y. found (Number y)) (sym same)
+name_right s at e (Err f) is place same right = tt
+
+pub name_limited : (s : Names) (at : Span) (e : Expr) (r : Result Expr ProfileFault) → Some e ≡ plain s at → IfErr r (λ f. range_fault s (range_of e) ≡ Some f)
+    → IfErr r (λ f. (judged s (t.Name at)).fault ≡ Some f)
+name_limited s at e (Ok x) is refused = tt
+name_limited s at e (Err f) is refused = ap (λ (j : Judgement). j.fault) (named s at (Some e) is) ∙ refused
 
 pub name_refused : (s : Names) (at : Span) (f : ProfileFault) → None ≡ plain s at → unless_known {A = Expr} at None ≡ Some f → (judged s (t.Name at)).fault ≡ Some f
-name_refused s at f is h = ap (λ (j : Judgement). j.fault) (name_shape s at) ∙ ap (unless_known at) (sym is) ∙ h
+name_refused s at f is h = ap (λ (j : Judgement). j.fault) (named s at None is) ∙ h
 
-pub attribute_right : (s : Names) (at : Span) (owner : Owner) (which : Word) → s.has_attributes ≡ true → owner_fault s owner ≡ None
-    → judged s (t.Attribute at owner which) ≡ record { kind = kinds.Number; place = at; fault = None }
-attribute_right s at owner which has known =
-    attribute_shape s at owner which ∙ (λ i. record { kind = kinds.Number; place = at; fault = if_allowed (has i) at (known i) })
+pub attribute_right : (s : Names) (at : Span) (owner : Owner) (which : Word) (whose : Subject) (sd : Side) (m : Measure) → s.has_attributes ≡ true → owner_fault s owner ≡ None → subject_of s owner ≡ Some whose
+    → sd ≡ side_of which → m ≡ measure_of which → judged s (t.Attribute at owner which) ≡ found (Number (expr.Attribute at record { subject = whose; side = sd; measure = m }))
+attribute_right s at owner which whose sd m has known is side-is measure-is =
+    attribute_shape s at owner which ∙ (λ i. record { kind = kinds.Number; place = at; fault = if_allowed (has i) at (known i); range = attribute_range at which (is i) })
+    ∙ (λ i. found (Number (expr.Attribute at record { subject = whose; side = sym side-is i; measure = sym measure-is i })))
 
 pub attribute_refused : (s : Names) (at : Span) (owner : Owner) (which : Word) (f : ProfileFault) → s.has_attributes ≡ true → owner_fault s owner ≡ Some f
     → (judged s (t.Attribute at owner which)).fault ≡ Some f

@@ -1,4 +1,5 @@
 -- The values of constants (docs/NOTATION.md, Constants).
+pub use Rattle.fn_terms.specs.Ranges.{anything, range_of, kind_of, of_range}
 use Rattle.std.specs.Prelude.{◌≡◌, ◌≢◌, ⊤, ℕ, ℤ, false, List, [], ◌∷◌, ◌++◌, map, Option, Some, None, Result, Ok, Err}
 use Rattle.std.specs.List.{filter_map, AllPairs}
 use Rattle.fn_source.specs.declared.span.Span.{Span}
@@ -10,16 +11,10 @@ use Rattle.fn_tree.specs.Spans.{span_of}
 use Rattle.fn_expr.specs.declared.expr.Expr.{Expr}
 use Rattle.fn_expr.specs.declared.interval.Interval.{Interval}
 use Rattle.fn_expr.specs.declared.known.Known.{Known}
-use Rattle.fn_expr.specs.declared.ranges.Ranges.{Ranges}
 use Rattle.fn_expr.specs.declared.fault.RangeFault.{RangeFault}
-use Rattle.fn_expr.specs.declared.fault.RangeFaultKind.{RangeFaultKind}
-use Rattle.fn_expr.specs.declared.fault.RangeFaultKind.TheVariants as ranges
 use Rattle.fn_expr.specs.Known.{assignment_of, no_numbers}
-use Rattle.fn_expr.specs.Bounds.{bounding_of, every_of_side}
-use Rattle.fn_expr.specs.Ranged.{ranged}
 use Rattle.fn_expr.specs.Values.{val}
 use Rattle.fn_profile.specs.declared.fault.ProfileFault.{ProfileFault}
-use Rattle.fn_profile.specs.declared.fault.ProfileFaultKind.{ProfileFaultKind}
 use Rattle.fn_profile.specs.declared.fault.ProfileFaultKind.TheVariants as f
 use Rattle.fn_profile.specs.declared.fault.ResolveError.{ResolveError}
 use Rattle.fn_profile.specs.declared.fault.ResolveError.TheVariants as errors
@@ -35,25 +30,10 @@ use Rattle.fn_terms.specs.Means.{Means}
 abbrev pub nothing : Known
 nothing = record { fields = []; whole = record { uncompressed = no_numbers; compressed = no_numbers }; parameters = [] }
 
--- and each has every range
-abbrev pub anything : Ranges
-anything = record { fields = []; whole = record { uncompressed = every_of_side; compressed = every_of_side }; parameters = [] }
-
-abbrev pub range_of : Expr → Result Interval RangeFault
-range_of e = ranged (bounding_of anything) e
-
 abbrev pub value_of : Expr → Option ℤ
 value_of e = val (assignment_of nothing) e
 
 -- ---- the constants of a file
-
-abbrev pub kind_of : RangeFaultKind → ProfileFaultKind
-kind_of ranges.AboveLimit = f.AboveLimit
-kind_of ranges.Power = f.Power
-
--- a fault of a range, as one of the profile
-abbrev pub of_range : RangeFault → ProfileFault
-of_range g = unnamed (kind_of g.kind) g.at
 
 abbrev pub evaluated_by : Span → Option ℤ → Result Interval RangeFault → Result ℤ ProfileFault
 evaluated_by at v (Err g) = Err (of_range g)
@@ -70,7 +50,7 @@ pub record IsValue (s : Names) (part : Tree) (v : ℤ) : Type 0 where
   pub means : Means s part (Number expr)
   pub value : evaluated (span_of part) expr ≡ Ok v
 
--- why a part has no value: a fault of its names and kinds, or its meaning has none
+-- why a part has no value: a fault of its names and kinds, in a constant of its ranges too, or its meaning has none
 pub data ValueFault (s : Names) (part : Tree) : ProfileFault → Type 0 where
   ill_formed : {fault : ProfileFault} → fault_of kinds.Number s part ≡ Some fault → ValueFault s part fault
   valueless : {e : Expr} {fault : ProfileFault} → Means s part (Number e) → evaluated (span_of part) e ≡ Err fault → ValueFault s part fault

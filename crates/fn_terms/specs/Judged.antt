@@ -1,13 +1,21 @@
 -- Which fault an expression has: the first one, inner parts first and left to right. A part with a fault inside isn't judged itself.
-use Rattle.std.specs.Prelude.{◌≡◌, ⊤, Bool, true, false, List, [], ◌∷◌, Option, Some, None}
-use Rattle.std.specs.Option.{option_or}
+-- In a constant, where no attribute may stand, the ranges of parts are judged with their names and kinds.
+use Rattle.std.specs.Prelude.{◌≡◌, ⊤, pos, neg_ℤ, Bool, true, false, List, [], ◌∷◌, Option, Some, None, Result, Ok, if◌then◌else◌}
+use Rattle.std.specs.Option.{option_map, option_or}
+use Rattle.std.specs.Result.{result_err}
 use Rattle.fn_source.specs.declared.span.Span.{Span}
 use Rattle.fn_tree.specs.declared.tree.Expr.{Expr as Tree}
 use Rattle.fn_tree.specs.declared.tree.Expr.{fold-Expr}
 use Rattle.fn_tree.specs.declared.tree.Expr.TheOpen.{Expr-F}
 use Rattle.fn_tree.specs.declared.tree.Owner.{Owner}
 use Rattle.fn_tree.specs.declared.tree.Owner.TheVariants as owners
+use Rattle.fn_tree.specs.declared.tree.Attribute.{Attribute as Word}
 use Rattle.fn_expr.specs.declared.expr.Expr.{Expr}
+use Rattle.fn_expr.specs.declared.expr.Subject.{Subject}
+use Rattle.fn_expr.specs.declared.interval.Interval.{Interval}
+use Rattle.fn_expr.specs.declared.fault.RangeFault.{RangeFault}
+use Rattle.fn_expr.specs.Rules.{from_to}
+use Rattle.fn_expr.specs.Ranged.{joined, both_ranged}
 use Rattle.fn_expr.specs.declared.expr.Expr.TheVariants as expr
 use Rattle.fn_expr.specs.declared.expr.Expr.TheVariants.{Parameter, Binary'}
 use Rattle.fn_expr.specs.declared.expr.Cond.{Cond}
@@ -21,14 +29,19 @@ use Rattle.fn_terms.specs.declared.term.Kind.{Kind}
 use Rattle.fn_terms.specs.declared.term.Kind.TheVariants.{Number, Truth}
 use Rattle.fn_terms.specs.declared.term.Term.{Term}
 use Rattle.fn_terms.specs.declared.term.Term.TheVariants as terms
-use Rattle.fn_terms.specs.Names.{Names, plain, subject_of}
-use Rattle.fn_terms.specs.Operators.{meaning_of, operand_kind, outcome_kind}
+use Rattle.fn_terms.specs.declared.term.Meaning.{Meaning}
+use Rattle.fn_terms.specs.declared.term.Meaning.TheVariants as means
+use Rattle.fn_terms.specs.Names.{Names, plain, subject_of, side_of, measure_of}
+use Rattle.fn_terms.specs.Operators.{meaning_of}
+use Rattle.fn_terms.specs.Ranges.{range_of, of_range}
 
 -- what an expression is of, its place without round brackets around it, and the first fault inside it
 pub record Judgement : Type 0 where
   pub kind : Kind
   pub place : Span
   pub fault : Option ProfileFault
+  -- of a whole number without a fault
+  pub range : Result Interval RangeFault
 
 abbrev pub wrong_kind : Span → ProfileFault
 wrong_kind at = unnamed f.WrongKind at
@@ -58,18 +71,44 @@ abbrev pub if_allowed : Bool → Span → Option ProfileFault → Option Profile
 if_allowed true at fault = fault
 if_allowed false at fault = Some (wrong_kind at)
 
+-- what stands for the range of what is no whole number
+abbrev pub no_range : Result Interval RangeFault
+no_range = Ok (from_to (pos 0) (pos 0))
+
+-- the fault of a range, where ranges are judged
+abbrev pub range_fault : Names → Result Interval RangeFault → Option ProfileFault
+range_fault s r = if s.has_attributes then None else option_map of_range (result_err r)
+
+-- a whole number of this range
+abbrev pub numeral : Names → Span → Result Interval RangeFault → Judgement
+numeral s at r = record { kind = Number; place = at; fault = range_fault s r; range = r }
+
+abbrev pub name_judgement : Names → Span → Option Expr → Judgement
+name_judgement s at None = record { kind = Number; place = at; fault = Some (about f.UnknownName at); range = no_range }
+name_judgement s at (Some e) = numeral s at (range_of e)
+
+abbrev pub attribute_range : Span → Word → Option Subject → Result Interval RangeFault
+attribute_range at which None = no_range
+attribute_range at which (Some whose) = range_of (expr.Attribute at record { subject = whose; side = side_of which; measure = measure_of which })
+
+abbrev pub operator_judgement : Names → Span → Meaning → Judgement → Judgement → Judgement
+operator_judgement s at (means.Arithmetic o) x y =
+    let r = both_ranged (joined at o) x.range y.range in
+    record { kind = Number; place = at; fault = option_or (option_or (wanted Number x) (wanted Number y)) (range_fault s r); range = r }
+operator_judgement s at (means.Comparison o) x y = record { kind = Truth; place = at; fault = option_or (wanted Number x) (wanted Number y); range = no_range }
+operator_judgement s at means.And x y = record { kind = Truth; place = at; fault = option_or (wanted Truth x) (wanted Truth y); range = no_range }
+operator_judgement s at means.Or x y = record { kind = Truth; place = at; fault = option_or (wanted Truth x) (wanted Truth y); range = no_range }
+
 abbrev pub judge : Names → Expr-F Judgement → Judgement
-judge s (Expr-F.Number at n) = record { kind = Number; place = at; fault = None }
-judge s (Expr-F.Negative at n) = record { kind = Number; place = at; fault = None }
-judge s (Expr-F.Truth at b) = record { kind = Truth; place = at; fault = None }
-judge s (Expr-F.Name at) = record { kind = Number; place = at; fault = unless_known at (plain s at) }
+judge s (Expr-F.Number at n) = numeral s at (range_of (expr.Number at (pos n)))
+judge s (Expr-F.Negative at n) = numeral s at (range_of (expr.Number at (neg_ℤ (pos n))))
+judge s (Expr-F.Truth at b) = record { kind = Truth; place = at; fault = None; range = no_range }
+judge s (Expr-F.Name at) = name_judgement s at (plain s at)
 judge s (Expr-F.Attribute at owner which) =
-    record { kind = Number; place = at; fault = if_allowed s.has_attributes at (owner_fault s owner) }
+    record { kind = Number; place = at; fault = if_allowed s.has_attributes at (owner_fault s owner); range = attribute_range at which (subject_of s owner) }
 judge s (Expr-F.Group at x) = x
-judge s (Expr-F.Not at x) = record { kind = Truth; place = at; fault = wanted Truth x }
-judge s (Expr-F.Binary at operator sign x y) =
-    let takes = operand_kind (meaning_of operator) in
-    record { kind = outcome_kind (meaning_of operator); place = at; fault = option_or (wanted takes x) (wanted takes y) }
+judge s (Expr-F.Not at x) = record { kind = Truth; place = at; fault = wanted Truth x; range = no_range }
+judge s (Expr-F.Binary at operator sign x y) = operator_judgement s at (meaning_of operator) x y
 
 abbrev pub judged : Names → Tree → Judgement
 judged s = fold-Expr Judgement (judge s)
@@ -104,5 +143,5 @@ condition_place (And' at p x q y) = at
 condition_place (Or' at p x q y) = at
 
 abbrev pub found : Term → Judgement
-found (terms.Number e) = record { kind = Number; place = place_of e; fault = None }
-found (terms.Truth c) = record { kind = Truth; place = condition_place c; fault = None }
+found (terms.Number e) = record { kind = Number; place = place_of e; fault = None; range = range_of e }
+found (terms.Truth c) = record { kind = Truth; place = condition_place c; fault = None; range = no_range }

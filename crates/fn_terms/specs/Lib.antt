@@ -1,5 +1,6 @@
 pub mod Names
 pub mod Operators
+pub mod Ranges
 pub mod Judged
 pub mod Means
 pub mod Conjuncts

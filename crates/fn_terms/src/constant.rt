@@ -3,20 +3,15 @@
 ghost use Rattle.std.specs.Prelude.{◌≡◌, IfOk, IfErr};
 ghost use Rattle.fn_terms.specs.Constants as spec;
 
+use crate::ranges::{anything, of_range};
 use crate::scope::Scope;
 use crate::typing::number;
-use fn_expr::{
-    Expr, Interval, Intervals, Known, Numbers, RangeFault, RangeFaultKind, Ranges, SideIntervals,
-    SideNumbers, range, value,
-};
+use fn_expr::{Expr, Known, Numbers, SideNumbers, range, value};
 use fn_profile::{ProfileFault, ProfileFaultKind, ResolveError};
 use fn_source::Span;
 use fn_tree::tree;
 use sqlite_items::Items;
 use std::alloc::Global;
-
-/// The greatest size of an end point of a range that is accepted.
-const LIMIT: i128 = 0x100_0000_0000_0000_0000_0000_0000_0000;
 
 /// No number is known.
 fn nothing(alloc: Global) -> Known
@@ -34,39 +29,6 @@ fn nothing(alloc: Global) -> Known
         },
         parameters: Items::new(alloc),
     }
-}
-
-/// Each number may be any.
-fn anything(alloc: Global) -> Ranges
-    ensures { result ≡ spec.anything }
-{
-    let every = Interval {
-        from: -LIMIT,
-        to: LIMIT,
-    };
-    let side = Intervals {
-        value: every,
-        length: every,
-    };
-    Ranges {
-        fields: Items::new(alloc),
-        whole: SideIntervals {
-            uncompressed: side,
-            compressed: side,
-        },
-        parameters: Items::new(alloc),
-    }
-}
-
-/// A fault of a range, as one of the profile.
-fn of_range(fault: RangeFault) -> ProfileFault
-    ensures { result ≡ spec.of_range fault }
-{
-    let kind = match fault.kind {
-        RangeFaultKind::AboveLimit => ProfileFaultKind::AboveLimit,
-        RangeFaultKind::Power => ProfileFaultKind::Power,
-    };
-    ProfileFault::at(kind, fault.at)
 }
 
 /// The value of the expression at a place.

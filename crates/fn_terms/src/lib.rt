@@ -12,6 +12,7 @@ pub use typing::{condition, number, numbers};
 pub mod constant;
 pub mod crc_data;
 pub mod enforce;
+mod ranges;
 pub mod scope;
 pub mod table;
 pub mod term;

@@ -6,6 +6,7 @@ ghost use Rattle.fn_terms.specs.Judged as spec;
 ghost use Rattle.fn_terms.specs.Means.{Means};
 ghost use Rattle.fn_tree.specs.declared.tree.Expr.TheVariants as t;
 
+use crate::ranges::within;
 use crate::scope::{Scope, measure, side};
 use crate::term::{Kind, Meaning, Term, meaning_of, wrong_kind};
 use fn_expr::{Attribute, Cond, Expr, Operator};
@@ -26,10 +27,10 @@ pub(crate) fn term(
     ensures refused { IfErr result (spec.Refuses (spec.judged scope.now part.now).fault) }
 {
     match part {
-        tree::Expr::Number(at, n) => Ok(Term::Number(positive(*at, *n))),
-        tree::Expr::Negative(at, n) => Ok(Term::Number(negative(*at, *n))),
+        tree::Expr::Number(at, n) => Ok(Term::Number(within(alloc, scope, positive(*at, *n))?)),
+        tree::Expr::Negative(at, n) => Ok(Term::Number(within(alloc, scope, negative(*at, *n))?)),
         tree::Expr::Truth(at, holds) => Ok(Term::Truth(Cond::Constant(*at, *holds))),
-        tree::Expr::Name(at) => Ok(Term::Number(name(scope, *at)?)),
+        tree::Expr::Name(at) => Ok(Term::Number(name(alloc, scope, *at)?)),
         tree::Expr::Attribute(at, owner, which) => {
             Ok(Term::Number(attribute(scope, *at, *owner, *which)?))
         }
@@ -42,7 +43,8 @@ pub(crate) fn term(
             Meaning::Arithmetic(operator) => {
                 let left = Box::new(alloc, term(alloc, scope, left.get())?.number()?)?;
                 let right = Box::new(alloc, term(alloc, scope, right.get())?.number()?)?;
-                Ok(Term::Number(Expr::Binary(*at, operator, left, right)))
+                let expr = Expr::Binary(*at, operator, left, right);
+                Ok(Term::Number(within(alloc, scope, expr)?))
             }
             Meaning::Comparison(comparison) => {
                 let left = term(alloc, scope, left.get())?.number()?;
@@ -76,13 +78,13 @@ fn negative(at: Span, n: u64) -> Expr
 }
 
 /// What a plain name stands for.
-fn name(scope: &Scope<'_, '_>, at: Span) -> Result<Expr, ProfileFault>
+fn name(alloc: Global, scope: &Scope<'_, '_>, at: Span) -> Result<Expr, ProfileFault>
     ensures means { IfOk result (λ e. Means scope.now (t.Name at) (Term.Number e)) }
     ensures right { IfOk result (λ e. spec.judged scope.now (t.Name at) ≡ spec.found (Term.Number e)) }
     ensures refused { IfErr result (λ f. (spec.judged scope.now (t.Name at)).fault ≡ Some f) }
 {
     match scope.plain(at) {
-        Some(expr) => Ok(expr),
+        Some(expr) => within(alloc, scope, expr),
         None => Err(ProfileFault::about(ProfileFaultKind::UnknownName, at)),
     }
 }

@@ -3,11 +3,11 @@ use Rattle.fn_terms.specs.Means.{number, negative, truth, denial, arithmetic, co
 use Rattle.fn_terms.proofs.Parts.{in_brackets}
 use Rattle.fn_terms.proofs.typing.+term.Goals as goal
 
-pub returns-in-Number-clause-means : goal.returns-in-Number-clause-means
-returns-in-Number-clause-means t c = rw (c.in-Number.is, c.positive.ensures) number
+pub returns-in_ok-within-in-Number-clause-means : goal.returns-in_ok-within-in-Number-clause-means
+returns-in_ok-within-in-Number-clause-means t c = rw (c.in-Number.is, c.in_ok-within-in-Number.ensures.same, c.positive.ensures) number
 
-pub returns-in-Negative-clause-means : goal.returns-in-Negative-clause-means
-returns-in-Negative-clause-means t c = rw (c.in-Negative.is, c.negative.ensures) negative
+pub returns-in_ok-within-in-Negative-clause-means : goal.returns-in_ok-within-in-Negative-clause-means
+returns-in_ok-within-in-Negative-clause-means t c = rw (c.in-Negative.is, c.in_ok-within-in-Negative.ensures.same, c.negative.ensures) negative
 
 pub returns-in-Truth-clause-means : goal.returns-in-Truth-clause-means
 returns-in-Truth-clause-means t c = rw c.in-Truth.is truth
@@ -25,9 +25,9 @@ returns-in_ok-right-in-Comparison-clause-means t c =
     (rw (c.get-in-Comparison.ensures, c.in_ok-left-in-Comparison.ensures) at c.in_ok-term-in-Comparison.ensures.means)
     (rw (c.get-in-Comparison-2.ensures, c.in_ok-right-in-Comparison.ensures) at c.in_ok-term-in-Comparison-2.ensures.means))
 
-pub returns-in_ok-right-in-Arithmetic-clause-means : goal.returns-in_ok-right-in-Arithmetic-clause-means
-returns-in_ok-right-in-Arithmetic-clause-means t c =
-    rw c.in-Binary.is (arithmetic (sym c.in-Arithmetic.ensures)
+pub returns-in_ok-within-in-Arithmetic-clause-means : goal.returns-in_ok-within-in-Arithmetic-clause-means
+returns-in_ok-within-in-Arithmetic-clause-means t c =
+    rw (c.in-Binary.is, c.in_ok-within-in-Arithmetic.ensures.same) (arithmetic (sym c.in-Arithmetic.ensures)
     (rw (c.get-in-Arithmetic.ensures, c.in_ok-number-in-Arithmetic.ensures, sym c.in_ok-left-in-Arithmetic.ensures.ok) at c.in_ok-term-in-Arithmetic.ensures.means)
     (rw (c.get-in-Arithmetic-2.ensures, c.in_ok-number-in-Arithmetic-2.ensures, sym c.in_ok-right-in-Arithmetic.ensures.ok) at c.in_ok-term-in-Arithmetic-2.ensures.means))
 

@@ -18,4 +18,5 @@ returns-clause-means c = rw (c.side.ensures, c.measure.ensures) (attribute (sym 
 
 pub returns-clause-right : goal.returns-clause-right
 returns-clause-right c =
-    attribute_right c.args.scope.now c.args.at c.args.owner c.args.which (sym c.if-not-has_attributes.ensures) c.in_ok-subject.ensures.known
+    attribute_right c.args.scope.now c.args.at c.args.owner c.args.which c.in_ok-subject.subject c.side.result c.measure.result (sym c.if-not-has_attributes.ensures) c.in_ok-subject.ensures.known
+    c.in_ok-subject.ensures.found c.side.ensures c.measure.ensures
