@@ -1,6 +1,8 @@
 -- A filling, level by level: its header, its packed bits and its item.
-use Rattle.std.specs.Prelude.{◌≡◌, ℕ, Bool, true, false, List, [], map, filter, slice_get, Option, Some, None, option_map, option_and_then, unwrap_or}
+use Rattle.std.specs.Prelude.{ℕ, ◌≤◌, ◌^◌, Bool, true, false, List, [], length, map, filter, slice_get, Option, Some, None, option_map, option_and_then, unwrap_or}
 use Rattle.std.specs.List.{flat_map}
+use Rattle.fn_bits.specs.declared.bits.BitsError.{BitsError}
+use Rattle.fn_bits.specs.declared.bits.BitsError.TheVariants.{Full, OutOfMemory}
 use Rattle.fn_profile.specs.declared.profile.Part.{Part}
 use Rattle.fn_profile.specs.declared.profile.Part.TheVariants.{Header, Control, Local}
 use Rattle.fn_profile.specs.declared.profile.Declared.{Declared}
@@ -61,3 +63,8 @@ item f = record { header = header f; asked = asked_values (level f) }
 -- the filling of the field at an index, if it has one
 abbrev pub inner_at : Filling → ℕ → Option Filling
 inner_at f i = option_and_then inner_of (slice_get (fields_of f) i)
+
+-- bits could not be joined: they are above the limit, or memory ran out
+abbrev pub FailsAbove : BitsError → List Bool → Type 0
+FailsAbove Full bits = 2 ^ 31 ≤ length bits
+FailsAbove OutOfMemory bits = Unit {0}
