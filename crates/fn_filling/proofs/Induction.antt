@@ -1,9 +1,9 @@
 -- Induction over fillings, level by level.
 use Rattle.std.proofs.Common.{◌≡◌, refl, sym, ◌∙◌, ap, subst, ℕ, zero, suc, List, [], ◌∷◌, map}
 use Rattle.std.specs.Prelude.{Option, Some, None, slice_get, option_and_then}
-use Rattle.fn_filling.specs.Fillings.{inner_of, inner_at, fields_of}
-use Rattle.fn_filling.specs.declared.filling.Filling.{Filling, out-Filling, roll-Filling, ind-Filling, out-roll-Filling}
-use Rattle.fn_filling.specs.declared.filling.FilledField.{FilledField, out-FilledField, roll-FilledField, out-roll-FilledField, map-FilledField}
+use Rattle.fn_filling.specs.Fillings.{inner_of, inner_at}
+use Rattle.fn_filling.specs.declared.filling.Filling.{Filling, roll-Filling, ind-Filling, out-roll-Filling}
+use Rattle.fn_filling.specs.declared.filling.FilledField.{FilledField, out-roll-FilledField, map-FilledField}
 
 abbrev Inner : (Filling → Type 0) → FilledField → Type 0
 Inner P g = (inner : Filling) → inner_of g ≡ Some inner → P inner
@@ -24,4 +24,4 @@ pub by_levels : (P : Filling → Type 0) → ((f : Filling) → ((i : ℕ) (inne
 by_levels P step = ind-Filling (Inner P) P
     (λ x y is inner e. held P (λ o. (map-FilledField _ _ _ _ (λ e. e.0) (λ e. e.0) (record y { inner = o })).inner) refl (λ s. refl) y.inner inner (ap (λ z. z.inner) is ∙ (ap (λ z. z.inner) (sym (out-roll-FilledField x)) ∙ e)))
     (λ x y is. step (roll-Filling x) (λ i inner at.
-      picked P y.fields i inner (ap (λ z. option_and_then inner_of (slice_get z.fields i)) (is ∙ sym (out-roll-Filling x)) ∙ at)))
+    picked P y.fields i inner (ap (λ z. option_and_then inner_of (slice_get z.fields i)) (is ∙ sym (out-roll-Filling x)) ∙ at)))

@@ -6,7 +6,7 @@ use Rattle.fn_context.specs.Entries.{Entries}
 use Rattle.fn_filling.specs.Fillings.{inner_of, fields_of}
 use Rattle.fn_filling.specs.Entries.{Path, below, own_entry, field_entries, level_entries, inner_entries, entries_below}
 use Rattle.fn_filling.specs.Laws.{entries_at, entries_inside}
-use Rattle.fn_filling.specs.declared.filling.Filling.{Filling, out-Filling, fold_out-Filling}
+use Rattle.fn_filling.specs.declared.filling.Filling.{Filling, fold_out-Filling}
 use Rattle.fn_filling.specs.declared.filling.FilledField.{FilledField, out-FilledField, fold_out-FilledField, fold-FilledField, map-FilledField}
 
 -- m gives the filling inside a field its entries
@@ -19,8 +19,8 @@ field_is g path =
     let here = below path (out-FilledField g).declared.name in
     ap (λ h. h path) (fold_out-FilledField (Path → Entries) (Path → Entries) field_entries level_entries g)
     ∙ ap (λ z. own_entry (out-FilledField g).declared.part here (out-FilledField g).uncompressed ++ z)
-        (inside (λ o. (map-FilledField FilledField Filling (Path → Entries) (Path → Entries) (fold-FilledField (Path → Entries) (Path → Entries) field_entries level_entries) entries_below (record (out-FilledField g) { inner = o })).inner)
-          refl (λ f. refl) (inner_of g) here)
+    (inside (λ o. (map-FilledField FilledField Filling (Path → Entries) (Path → Entries) (fold-FilledField (Path → Entries) (Path → Entries) field_entries level_entries) entries_below (record (out-FilledField g) { inner = o })).inner)
+    refl (λ f. refl) (inner_of g) here)
 
 map_is : (path : Path) (gs : List FilledField) → flat_map (λ h. h path) (map (fold-FilledField (Path → Entries) (Path → Entries) field_entries level_entries) gs) ≡ flat_map (entries_at path) gs
 map_is path [] = refl

@@ -1,10 +1,10 @@
 -- Packed bits that are joined one side after the other.
-use Rattle.std.proofs.Common.{◌≡◌, refl, sym, ◌∙◌, ap, ℕ, ◌+◌, ◌<◌, ◌≤◌, ◌^◌, Bool, List, [], ◌∷◌, ◌++◌, length, map, drop, get_or, append_assoc, length-append, arith, add-one, drop-cons}
+use Rattle.std.proofs.Common.{◌≡◌, refl, sym, ◌∙◌, ap, ℕ, ◌+◌, ◌<◌, ◌≤◌, ◌^◌, Bool, List, [], ◌++◌, length, map, drop, get_or, append_assoc, length-append, arith, add-one, drop-cons}
 use Rattle.std.specs.Prelude.{Option, Some, None, slice_get, option_map, unwrap_or}
 use Rattle.std.proofs.lemmas.Option.{slice_get-map}
 use Rattle.fn_bits.specs.declared.bits.BitsError.{BitsError}
 use Rattle.fn_bits.specs.declared.bits.BitsError.TheVariants.{Full, OutOfMemory}
-use Rattle.fn_filling.specs.Fillings.{Sides, sides_of, packed_bits, FailsAbove}
+use Rattle.fn_filling.specs.Fillings.{sides_of, packed_bits, FailsAbove}
 use Rattle.fn_filling.specs.declared.filling.FilledField.{FilledField}
 
 pub fails_above : (e : BitsError) (whole : List Bool) (n : ℕ) → (e ≡ Full → 2 ^ 31 ≤ n) → n ≤ length whole → FailsAbove e whole

@@ -1,11 +1,11 @@
 -- When two fillings are one.
-use Rattle.std.proofs.Common.{◌≡◌, refl, sym, ◌∙◌, ap, ℕ, zero, suc, List, [], ◌∷◌, length, map, arith}
-use Rattle.std.specs.Prelude.{Option, Some, None, slice_get, option_map, option_and_then}
+use Rattle.std.proofs.Common.{◌≡◌, refl, sym, ◌∙◌, ap, ℕ, zero, suc, List, [], ◌∷◌, length, arith}
+use Rattle.std.specs.Prelude.{Some, slice_get, option_map, option_and_then}
 use Rattle.std.proofs.lemmas.Option.{slice_get-map}
 use Rattle.std.proofs.lemmas.List.{length-map}
 use Rattle.fn_filling.specs.Fillings.{sides_of, inner_of, inner_at, fields_of, listing_of, level}
 use Rattle.fn_filling.specs.declared.filling.Filling.{Filling, out-Filling, roll-Filling, roll-out-Filling}
-use Rattle.fn_filling.specs.declared.filling.FilledField.{FilledField, out-FilledField, roll-FilledField, roll-out-FilledField}
+use Rattle.fn_filling.specs.declared.filling.FilledField.{FilledField, roll-FilledField, roll-out-FilledField}
 
 -- a filling is its format's index, its listing and its fields
 pub filling_same : (f g : Filling) → (out-Filling f).format ≡ (out-Filling g).format → listing_of f ≡ listing_of g → fields_of f ≡ fields_of g → f ≡ g
@@ -31,7 +31,7 @@ also_at (x' ∷ xs) (y ∷ ys) (suc i) x e h = also_at xs ys i x (omega (arith, 
 pub sides_at : (f g : Filling) (i : ℕ) (x y : FilledField) → level f ≡ level g → slice_get (fields_of f) i ≡ Some x → slice_get (fields_of g) i ≡ Some y → sides_of x ≡ sides_of y
 sides_at f g i x y same e e' =
     let both : Some (sides_of x) ≡ Some (sides_of y) =
-        ap (option_map sides_of) (sym e) ∙ (sym (slice_get-map sides_of (fields_of f) i) ∙ (ap (λ z. slice_get z i) same ∙ (slice_get-map sides_of (fields_of g) i ∙ ap (option_map sides_of) e'))) in
+    ap (option_map sides_of) (sym e) ∙ (sym (slice_get-map sides_of (fields_of f) i) ∙ (ap (λ z. slice_get z i) same ∙ (slice_get-map sides_of (fields_of g) i ∙ ap (option_map sides_of) e'))) in
     cc
 
 inner_same : (f g : Filling) (i : ℕ) (x y : FilledField) → inner_at f i ≡ inner_at g i → slice_get (fields_of f) i ≡ Some x → slice_get (fields_of g) i ≡ Some y → inner_of x ≡ inner_of y

@@ -1,5 +1,5 @@
 -- A filling, level by level: its header, its packed bits and its item.
-use Rattle.std.specs.Prelude.{ℕ, ◌≤◌, ◌^◌, Bool, true, false, List, [], length, map, filter, slice_get, Option, Some, None, option_map, option_and_then, unwrap_or}
+use Rattle.std.specs.Prelude.{ℕ, ◌≤◌, ◌^◌, Bool, true, false, List, [], length, map, filter, slice_get, Option, option_map, option_and_then, unwrap_or}
 use Rattle.std.specs.List.{flat_map}
 use Rattle.fn_bits.specs.declared.bits.BitsError.{BitsError}
 use Rattle.fn_bits.specs.declared.bits.BitsError.TheVariants.{Full, OutOfMemory}

@@ -47,13 +47,8 @@ fn add_entries(
 {
     for field in filling.fields.as_slice() {
         let here = below(alloc, path, field.declared.name.as_str())?;
-        add_own(
-            alloc,
-            found,
-            field.declared.part,
-            here.as_str(),
-            &field.uncompressed,
-        )?;
+        let part = field.declared.part;
+        add_own(alloc, found, part, here.as_str(), &field.uncompressed)?;
         if let Some(inner) = &field.inner {
             add_entries(alloc, found, inner, here.as_str())?;
         }

@@ -12,6 +12,6 @@ returns-in_err-append c =
 
 pub loop-i-preserved : goal.loop-i-preserved
 loop-i-preserved c = elim c.match-get.branch [
-    in-Some+in_ok-append w ↦ rw (w.packed-is, w.in_ok-append.ensures.ok) (packed_more _ _ _ _ _ _ c.loop-i-test.true w.in-Some.ensures.value c.loop-i.invariant)
+  | in-Some+in_ok-append w ↦ rw (w.packed-is, w.in_ok-append.ensures.ok) (packed_more _ _ _ _ _ _ c.loop-i-test.true w.in-Some.ensures.value c.loop-i.invariant)
   | in_default w ↦ rw w.packed-is (packed_past _ _ _ _ _ c.loop-i-test.true w.in_default.ensures.value c.loop-i.invariant)
-  ]
+]
