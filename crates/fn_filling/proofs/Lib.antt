@@ -1,0 +1,4 @@
+pub mod Levels
+pub mod Unique
+pub mod Induction
+pub mod Packed

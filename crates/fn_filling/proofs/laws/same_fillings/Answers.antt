@@ -1,0 +1,5 @@
+use Rattle.fn_filling.proofs.Unique.{same}
+use Rattle.fn_filling.proofs.laws.same_fillings.Goals as goal
+
+pub returns : goal.returns
+returns c = same

@@ -1,0 +1,3 @@
+pub mod Fillings
+pub mod Entries
+pub mod Laws

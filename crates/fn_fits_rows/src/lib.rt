@@ -1,0 +1,5 @@
+//! Tests of fillings, and of when they fit.
+#![tactic(auto)]
+
+#[cfg(test)]
+mod fillings;
