@@ -250,7 +250,7 @@ small-table methods table are k m at side =
     let method = there methods k lt in
     small-sides m.whole (are.fine.within k method.0 m method.1 at) side
 
-field-is : (methods : List Method) (table : List MethodSizes) → AreSizes methods table → (m : Method) (format : Format) (s : MethodSizes) (sizes : FormatSizes) → FormatAt methods table m format s sizes
+pub field-is : (methods : List Method) (table : List MethodSizes) → AreSizes methods table → (m : Method) (format : Format) (s : MethodSizes) (sizes : FormatSizes) → FormatAt methods table m format s sizes
     → (i : ℕ) (d : Field) (b : Sizes) → slice_get format.fields i ≡ Some d → slice_get sizes.fields i ≡ Some b → field_sizes table format i d ≡ b
 field-is methods table are m format s sizes at i d b in-format in-sizes =
     let has = are.sized at.method_place m s at.method_at at.whole_at in
@@ -366,7 +366,7 @@ hull-all side (g ∷ gs) zero f at =
     subst (λ (x : FormatSizes). Encloses (side_bounds side (formats_hull (g ∷ gs))) (side_bounds side x.whole)) same (hull-first side g.whole gs)
 hull-all side (g ∷ gs) (suc n) f at = hull-rest side g.whole gs n f at
 
-format-is : (methods : List Method) (table : List MethodSizes) → AreSizes methods table → (m : Method) (format : Format) (s : MethodSizes) (sizes : FormatSizes) → FormatAt methods table m format s sizes
+pub format-is : (methods : List Method) (table : List MethodSizes) → AreSizes methods table → (m : Method) (format : Format) (s : MethodSizes) (sizes : FormatSizes) → FormatAt methods table m format s sizes
     → format_sizes table format ≡ sizes
 format-is methods table are m format s sizes at =
     let has = are.sized at.method_place m s at.method_at at.whole_at in
@@ -383,6 +383,9 @@ by-rules methods table are = record {
   most_by = λ m format s sizes at side i d b in-format in-sizes.
       subst (λ (x : Sizes). Upper table format i d side (side_bounds side x).most) (field-is methods table are m format s sizes at i d b in-format in-sizes)
       (ruled table format i d side (small-table methods table are)).upper;
+  small = λ m format s sizes at side i d b in-format in-sizes.
+      subst (λ (x : Sizes). (side_bounds side x).most ≤ 2 ^ 64) (field-is methods table are m format s sizes at i d b in-format in-sizes)
+      (ruled table format i d side (small-table methods table are)).small;
   least_header = λ m format s sizes at.
       subst (λ (f : FormatSizes). f.whole.uncompressed.least ≡ header_sum (λ b. b.uncompressed.least) format.fields f.fields) (format-is methods table are m format s sizes at)
       (header-of (λ b. b.least) least-adds table format);

@@ -1,5 +1,5 @@
 -- The rule that gives each bound.
-use Rattle.std.specs.Prelude.{◌≡◌, ◌≤◌, ℕ, ◌≤ℤ◌, ℤ, pos, Bool, true, false, List, slice_get, Option, Some, None, ◌+◌, [], ◌∷◌, option_map, unwrap_or, if◌then◌else◌}
+use Rattle.std.specs.Prelude.{◌≡◌, ◌≤◌, ◌^◌, ℕ, ◌≤ℤ◌, ℤ, pos, Bool, true, false, List, slice_get, Option, Some, None, ◌+◌, [], ◌∷◌, option_map, unwrap_or, if◌then◌else◌}
 use Rattle.fn_source.specs.declared.span.Span.{Span}
 use Rattle.fn_expr.specs.declared.expr.Expr.{Expr}
 use Rattle.fn_expr.specs.declared.expr.Side.{Side}
@@ -99,13 +99,15 @@ pub record Encloses (outer inner : Bounds) : Type 0 where
   pub least : outer.least ≤ inner.least
   pub most : inner.most ≤ outer.most
 
--- a rule gives each bound of each field of each format; a format's header is that of its header fields, its packed bits are those of its listed fields,
+-- a rule gives each bound of each field of each format, and none is above 2^64; a format's header is that of its header fields, its packed bits are those of its listed fields,
 -- and a method's bounds enclose those of its formats
 pub record HasBounds (methods : List Method) (table : List MethodSizes) : Type 0 where
   pub least_by : (m : Method) (format : Format) (s : MethodSizes) (sizes : FormatSizes) → FormatAt methods table m format s sizes → (side : Side) (i : ℕ) (d : Field) (b : Sizes) →
       slice_get format.fields i ≡ Some d → slice_get sizes.fields i ≡ Some b → Lower table format i d side (side_bounds side b).least
   pub most_by : (m : Method) (format : Format) (s : MethodSizes) (sizes : FormatSizes) → FormatAt methods table m format s sizes → (side : Side) (i : ℕ) (d : Field) (b : Sizes) →
       slice_get format.fields i ≡ Some d → slice_get sizes.fields i ≡ Some b → Upper table format i d side (side_bounds side b).most
+  pub small : (m : Method) (format : Format) (s : MethodSizes) (sizes : FormatSizes) → FormatAt methods table m format s sizes → (side : Side) (i : ℕ) (d : Field) (b : Sizes) →
+      slice_get format.fields i ≡ Some d → slice_get sizes.fields i ≡ Some b → (side_bounds side b).most ≤ 2 ^ 64
   pub least_header : (m : Method) (format : Format) (s : MethodSizes) (sizes : FormatSizes) → FormatAt methods table m format s sizes →
       sizes.whole.uncompressed.least ≡ header_sum (λ b. b.uncompressed.least) format.fields sizes.fields
   pub most_header : (m : Method) (format : Format) (s : MethodSizes) (sizes : FormatSizes) → FormatAt methods table m format s sizes →
