@@ -1,3 +1,0 @@
-pub mod Fits
-pub mod Fronts
-pub mod Bounded

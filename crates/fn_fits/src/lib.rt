@@ -1,4 +1,0 @@
-//! When a filling fits: the meaning of the notation.
-#![tactic(auto)]
-
-pub mod laws;
