@@ -1,6 +1,6 @@
 use Rattle.fn_expr.specs.Bounds.{bounding_of}
 use Rattle.fn_expr.proofs.Lie.{accepted_at}
-use Rattle.fn_expr.proofs.tests.evaluate.Goals as goal
+use Rattle.fn_rows.proofs.expressions.evaluate.Goals as goal
 
 pub value-requires : goal.value-requires
 value-requires c = record {

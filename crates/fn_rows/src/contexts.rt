@@ -1,6 +1,8 @@
-use crate::path::is_path;
-use crate::{Context, ContextError};
+//! Contexts and their text.
+
 use fn_bits::Bits;
+use fn_context::path::is_path;
+use fn_context::{Context, ContextError};
 use std::alloc::{AllocError, Global};
 use std::process::Abort;
 use std::test::Fail;

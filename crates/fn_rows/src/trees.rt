@@ -1,7 +1,8 @@
-use crate::laws::{few_parts, one_tree, parsed_is_text};
-use crate::parser::parse;
-use crate::tree::{Bracket, Encoding, Expr, File, Item, Operator, Part, Section, SectionKind};
+//! Trees of texts whose tokens have one octet each.
+
 use fn_source::{FaultKind, Kind, Mark, Source, SourceError, Span, Token};
+use fn_tree::laws::{few_parts, one_tree, parsed_is_text};
+use fn_tree::{Bracket, Encoding, Expr, File, Item, Operator, Part, Section, SectionKind, parse};
 use std::alloc::Global;
 use std::process::Abort;
 use std::test::Fail;

@@ -1,15 +1,15 @@
+//! Values and ranges of expressions.
+
 ghost use Rattle.std.specs.Prelude.{IfOk};
 ghost use Rattle.fn_expr.specs.Known.{assignment_of};
 ghost use Rattle.fn_expr.specs.Bounds.{bounding_of};
 ghost use Rattle.fn_expr.specs.Spread.{LieIn};
 
-use crate::expr::{Attribute, Comparison, Cond, Expr, Measure, Operator, Side, Subject};
-use crate::fault::{RangeFault, RangeFaultKind};
-use crate::inputs::{Input, condition_input_at, input_at};
-use crate::interval::Interval;
-use crate::known::{Known, Numbers, SideNumbers};
-use crate::ranges::{Intervals, Ranges, SideIntervals, condition_fault, range};
-use crate::values::{decide, value};
+use fn_expr::{
+    Attribute, Comparison, Cond, Expr, Input, Interval, Intervals, Known, Measure, Numbers,
+    Operator, RangeFault, RangeFaultKind, Ranges, Side, SideIntervals, SideNumbers, Subject,
+    condition_fault, condition_input_at, decide, input_at, range, value,
+};
 use fn_source::Span;
 use sqlite_items::Items;
 use std::alloc::Global;

@@ -1,9 +1,11 @@
-use crate::{
+//! The library methods, in both directions.
+
+use fn_bits::Bits;
+use fn_lib::{
     compressed_value_down, compressed_value_up, crc_down, crc_of, crc_up, irregular_down,
     irregular_up, low_bits, lsb_down, lsb_up, static_down, static_up, uncompressed_value_down,
     uncompressed_value_up,
 };
-use fn_bits::Bits;
 use std::alloc::{AllocError, Global};
 use std::process::Abort;
 use std::test::Fail;

@@ -1,8 +1,10 @@
-use crate::fault::{Fault, FaultKind, SourceError};
-use crate::lexer::lex;
-use crate::source::{MOST_OCTETS, Position, Source, line_column};
-use crate::span::Span;
-use crate::token::{Kind, Mark, is_mark, same_mark};
+//! Texts, their places, tokens and faults.
+
+use fn_source::source::MOST_OCTETS;
+use fn_source::{
+    Fault, FaultKind, Kind, Mark, Position, Source, SourceError, Span, is_mark, lex, line_column,
+    same_mark,
+};
 use std::alloc::Global;
 use std::process::Abort;
 use std::test::Fail;

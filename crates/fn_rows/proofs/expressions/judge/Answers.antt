@@ -1,5 +1,5 @@
 use Rattle.fn_expr.specs.Bounds.{bounding_of}
-use Rattle.fn_expr.proofs.tests.judge.Goals as goal
+use Rattle.fn_rows.proofs.expressions.judge.Goals as goal
 
 pub decide-requires : goal.decide-requires
 decide-requires c = record {

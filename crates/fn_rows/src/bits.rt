@@ -1,5 +1,7 @@
-use crate::lines::lines;
-use crate::{Bits, Cursor, LinesError, TEXT_LIMIT};
+//! Bits, their text, a cursor over them, and lines.
+
+use fn_bits::lines::lines;
+use fn_bits::{Bits, Cursor, LinesError, TEXT_LIMIT};
 use std::alloc::{AllocError, Global};
 use std::test::Fail;
 
