@@ -25,10 +25,20 @@ fn shown(alloc: Global, answer: Option<Bits>) -> Result<String, AllocError> {
     }
 }
 
+// That both methods spell the number where nothing is sent or given.
+fn assert_spelled(rt: &impl Abort, alloc: Global, row: (i128, i128, &str)) -> Result<(), Fail> {
+    let (length, value, spelled) = row;
+    let empty = Bits::new(alloc);
+    let up = uncompressed_value_up(alloc, length, value, &empty)?;
+    assert_eq!(rt; shown(alloc, up)?.as_str(), spelled);
+    let down = compressed_value_down(alloc, length, value, &empty)?;
+    assert_eq!(rt; shown(alloc, down)?.as_str(), spelled);
+    Ok(())
+}
+
 #[test]
 fn spells_values(rt: HostRuntime) -> Result<(), Fail> {
-    let alloc = rt.alloc();
-    for (length, value, spelled) in [
+    for row in [
         (0, 0, "0:"),
         (5, 9, "5:48"),
         (64, 0xffff_ffff_ffff_ffff, ONES),
@@ -39,13 +49,25 @@ fn spells_values(rt: HostRuntime) -> Result<(), Fail> {
         (8, -1, "none"),
         (64, 0x1_0000_0000_0000_0000, "none"),
     ] {
-        let empty = Bits::new(alloc);
-        let up = uncompressed_value_up(alloc, length, value, &empty)?;
-        assert_eq!(rt; shown(alloc, up)?.as_str(), spelled);
-        let down = compressed_value_down(alloc, length, value, &empty)?;
-        assert_eq!(rt; shown(alloc, down)?.as_str(), spelled);
+        assert_spelled(&rt, rt.alloc(), row)?;
     }
-    for (length, value, side, other) in [
+    Ok(())
+}
+
+// That both methods answer the other side where the one that is given spells the number, and else nothing.
+fn assert_known(rt: &impl Abort, alloc: Global, row: (i128, i128, &str, &str)) -> Result<(), Fail> {
+    let (length, value, side, other) = row;
+    let given = bits(rt, alloc, side)?;
+    let down = uncompressed_value_down(alloc, length, value, &given);
+    assert_eq!(rt; shown(alloc, down)?.as_str(), other);
+    let up = compressed_value_up(alloc, length, value, &given);
+    assert_eq!(rt; shown(alloc, up)?.as_str(), other);
+    Ok(())
+}
+
+#[test]
+fn knows_values(rt: HostRuntime) -> Result<(), Fail> {
+    for row in [
         (0, 0, "0:", "0:"),
         (5, 9, "5:48", "0:"),
         (64, 0xffff_ffff_ffff_ffff, ONES, "0:"),
@@ -53,12 +75,9 @@ fn spells_values(rt: HostRuntime) -> Result<(), Fail> {
         (5, 9, "6:24", "none"),
         (65, 0, "65:000000000000000000", "none"),
     ] {
-        let given = bits(&rt, alloc, side)?;
-        let down = uncompressed_value_down(alloc, length, value, &given);
-        assert_eq!(rt; shown(alloc, down)?.as_str(), other);
-        let up = compressed_value_up(alloc, length, value, &given);
-        assert_eq!(rt; shown(alloc, up)?.as_str(), other);
+        assert_known(&rt, rt.alloc(), row)?;
     }
+    let alloc = rt.alloc();
     let one = bits(&rt, alloc, "1:80")?;
     assert!(rt; uncompressed_value_up(alloc, 5, 9, &one)?.is_none());
     assert!(rt; compressed_value_down(alloc, 5, 9, &one)?.is_none());
@@ -117,12 +136,28 @@ fn keeps_the_reference(rt: HostRuntime) -> Result<(), Fail> {
     Ok(())
 }
 
+// That the one side gives the other, up and down.
+fn assert_lsb(
+    rt: &impl Abort,
+    alloc: Global,
+    row: (i128, i128, &str, &str, &str),
+) -> Result<(), Fail> {
+    let (count, offset, kept, u, c) = row;
+    let reference = bits(rt, alloc, kept)?;
+    let sent = bits(rt, alloc, c)?;
+    let up = lsb_up(alloc, count, offset, Some(&reference), &sent)?;
+    assert_eq!(rt; shown(alloc, up)?.as_str(), u);
+    let whole = bits(rt, alloc, u)?;
+    let down = lsb_down(alloc, count, offset, Some(&reference), &whole)?;
+    assert_eq!(rt; shown(alloc, down)?.as_str(), c);
+    Ok(())
+}
+
 // Each line: the bits sent, the offset, the reference, the uncompressed side and the compressed side. With four bits, the
 // offset 1 and the reference ff the interval is fe, ff, 00 .. 0d.
 #[test]
 fn sends_last_bits(rt: HostRuntime) -> Result<(), Fail> {
-    let alloc = rt.alloc();
-    for (count, offset, kept, u, c) in [
+    for row in [
         (4, 1, "8:00", "8:01", "4:10"),
         (4, 1, "8:ff", "8:fe", "4:e0"),
         (4, 1, "8:ff", "8:0d", "4:d0"),
@@ -135,25 +170,26 @@ fn sends_last_bits(rt: HostRuntime) -> Result<(), Fail> {
         (64, 0, "64:0123456789abcdef", ONES, ONES),
         (1, 0, ONES, "64:0000000000000000", "1:00"),
     ] {
-        let reference = bits(&rt, alloc, kept)?;
-        let up = lsb_up(
-            alloc,
-            count,
-            offset,
-            Some(&reference),
-            &bits(&rt, alloc, c)?,
-        )?;
-        assert_eq!(rt; shown(alloc, up)?.as_str(), u);
-        let down = lsb_down(
-            alloc,
-            count,
-            offset,
-            Some(&reference),
-            &bits(&rt, alloc, u)?,
-        )?;
-        assert_eq!(rt; shown(alloc, down)?.as_str(), c);
+        assert_lsb(&rt, rt.alloc(), row)?;
     }
-    for (count, offset, kept, u) in [
+    Ok(())
+}
+
+// Whether a number has last bits to send: the bits sent, the offset, the reference and the uncompressed side.
+fn has_last_bits(
+    rt: &impl Abort,
+    alloc: Global,
+    row: (i128, i128, &str, &str),
+) -> Result<bool, Fail> {
+    let (count, offset, kept, u) = row;
+    let reference = bits(rt, alloc, kept)?;
+    let whole = bits(rt, alloc, u)?;
+    Ok(lsb_down(alloc, count, offset, Some(&reference), &whole)?.is_some())
+}
+
+#[test]
+fn sends_no_last_bits(rt: HostRuntime) -> Result<(), Fail> {
+    for row in [
         (4, 1, "8:ff", "8:0e"),
         (4, 1, "8:ff", "8:fd"),
         (4, -1, "8:ff", "8:ff"),
@@ -163,27 +199,30 @@ fn sends_last_bits(rt: HostRuntime) -> Result<(), Fail> {
         (4, 0, "8:ff", "9:7f80"),
         (4, 0, "65:000000000000000000", "65:000000000000000000"),
     ] {
-        let reference = bits(&rt, alloc, kept)?;
-        assert!(rt;
-            lsb_down(
-                alloc,
-                count,
-                offset,
-                Some(&reference),
-                &bits(&rt, alloc, u)?
-            )?
-            .is_none()
-        );
+        assert!(rt; !has_last_bits(&rt, rt.alloc(), row)?);
     }
-    for (count, kept, c) in [
+    Ok(())
+}
+
+// Whether last bits give a number: the bits sent, the reference and the compressed side.
+fn has_number(rt: &impl Abort, alloc: Global, row: (i128, &str, &str)) -> Result<bool, Fail> {
+    let (count, kept, c) = row;
+    let reference = bits(rt, alloc, kept)?;
+    let sent = bits(rt, alloc, c)?;
+    Ok(lsb_up(alloc, count, 0, Some(&reference), &sent)?.is_some())
+}
+
+#[test]
+fn reads_no_last_bits(rt: HostRuntime) -> Result<(), Fail> {
+    for row in [
         (9, "8:ff", "9:ff80"),
         (4, "8:ff", "5:f8"),
         (-1, "8:ff", "0:"),
         (4, "65:000000000000000000", "4:00"),
     ] {
-        let reference = bits(&rt, alloc, kept)?;
-        assert!(rt; lsb_up(alloc, count, 0, Some(&reference), &bits(&rt, alloc, c)?)?.is_none());
+        assert!(rt; !has_number(&rt, rt.alloc(), row)?);
     }
+    let alloc = rt.alloc();
     let byte = bits(&rt, alloc, "8:80")?;
     assert!(rt; lsb_up(alloc, 8, 0, None, &byte)?.is_none());
     assert!(rt; lsb_down(alloc, 8, 0, None, &byte)?.is_none());
@@ -257,28 +296,42 @@ fn computes_registers(rt: HostRuntime) -> Result<(), Fail> {
     Ok(())
 }
 
+// The text of what is sent for nine octets of digits: by the bits of the register, the polynomial, the first register and
+// the length that is said of them.
+fn checksum(rt: &impl Abort, alloc: Global, row: (i128, i128, i128, i128)) -> Result<String, Fail> {
+    let (count, polynomial, initial, length) = row;
+    let empty = Bits::new(alloc);
+    let digits = bits(rt, alloc, "72:313233343536373839")?;
+    let down = crc_down(alloc, count, polynomial, initial, &digits, length, &empty)?;
+    Ok(shown(alloc, down)?)
+}
+
 #[test]
 fn sends_checksums(rt: HostRuntime) -> Result<(), Fail> {
+    for (row, sum) in [
+        ((3, 0x06, 0x07, 72), "3:c0"),
+        ((7, 0x79, 0x7f, 72), "7:a6"),
+        ((8, 0xe0, 0xff, 72), "8:d0"),
+        ((64, 0, 0, 72), "64:0000000000000000"),
+        ((0, 0, 0, 72), "none"),
+        ((65, 0, 0, 72), "none"),
+        ((-1, 0, 0, 72), "none"),
+        ((3, 0x08, 0x07, 72), "none"),
+        ((3, 0x06, 0x08, 72), "none"),
+        ((3, -1, 0x07, 72), "none"),
+        ((3, 0x06, -1, 72), "none"),
+        ((3, 0x06, 0x07, 80), "none"),
+    ] {
+        assert_eq!(rt; checksum(&rt, rt.alloc(), row)?.as_str(), sum);
+    }
+    Ok(())
+}
+
+#[test]
+fn reads_checksums(rt: HostRuntime) -> Result<(), Fail> {
     let alloc = rt.alloc();
     let empty = Bits::new(alloc);
     let digits = bits(&rt, alloc, "72:313233343536373839")?;
-    for (count, polynomial, initial, length, sum) in [
-        (3, 0x06, 0x07, 72, "3:c0"),
-        (7, 0x79, 0x7f, 72, "7:a6"),
-        (8, 0xe0, 0xff, 72, "8:d0"),
-        (64, 0, 0, 72, "64:0000000000000000"),
-        (0, 0, 0, 72, "none"),
-        (65, 0, 0, 72, "none"),
-        (-1, 0, 0, 72, "none"),
-        (3, 0x08, 0x07, 72, "none"),
-        (3, 0x06, 0x08, 72, "none"),
-        (3, -1, 0x07, 72, "none"),
-        (3, 0x06, -1, 72, "none"),
-        (3, 0x06, 0x07, 80, "none"),
-    ] {
-        let down = crc_down(alloc, count, polynomial, initial, &digits, length, &empty)?;
-        assert_eq!(rt; shown(alloc, down)?.as_str(), sum);
-    }
     let one = bits(&rt, alloc, "1:80")?;
     assert!(rt; crc_down(alloc, 3, 0x06, 0x07, &digits, 72, &one)?.is_none());
     assert!(rt; crc_down(alloc, 3, 0x06, 0x07, &one, 1, &empty)?.is_none());
