@@ -7,6 +7,4 @@ pub use text::ContextError;
 pub mod context;
 pub mod laws;
 pub mod path;
-#[cfg(test)]
-mod tests;
 pub mod text;

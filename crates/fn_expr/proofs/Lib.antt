@@ -1,7 +1,6 @@
 pub mod Agreement
 pub mod ByRules
 pub mod EndPoints
-pub mod Few
 pub mod Fitting
 pub mod Floors
 pub mod Lie

@@ -16,6 +16,4 @@ pub mod interval;
 pub mod known;
 pub mod laws;
 pub mod ranges;
-#[cfg(test)]
-mod tests;
 pub mod values;

@@ -13,5 +13,3 @@ pub mod crc;
 pub mod laws;
 pub mod lsb;
 pub mod plain;
-#[cfg(test)]
-mod tests;

@@ -12,6 +12,4 @@ pub mod laws;
 pub mod lexer;
 pub mod source;
 pub mod span;
-#[cfg(test)]
-mod tests;
 pub mod token;

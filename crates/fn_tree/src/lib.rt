@@ -15,7 +15,5 @@ pub mod parser;
 mod progress;
 mod refusal;
 mod statement;
-#[cfg(test)]
-mod tests;
 mod tokens;
 pub mod tree;

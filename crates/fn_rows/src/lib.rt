@@ -1,0 +1,15 @@
+//! Tests of bits, texts, trees, expressions, library methods and contexts.
+#![tactic(auto)]
+
+#[cfg(test)]
+mod bits;
+#[cfg(test)]
+mod contexts;
+#[cfg(test)]
+mod expressions;
+#[cfg(test)]
+mod library;
+#[cfg(test)]
+mod sources;
+#[cfg(test)]
+mod trees;
