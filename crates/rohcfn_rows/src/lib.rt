@@ -14,4 +14,6 @@ mod samples;
 #[cfg(test)]
 mod show;
 #[cfg(test)]
+mod streams;
+#[cfg(test)]
 mod trees;

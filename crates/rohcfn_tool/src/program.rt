@@ -248,6 +248,3 @@ fn pieces<'a>(alloc: Global, line: &'a str) -> Result<Vec<&'a str>, AllocError>
 {
     line.split(' ').collect(alloc)
 }
-
-#[cfg(test)]
-mod tests;

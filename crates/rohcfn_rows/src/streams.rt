@@ -1,5 +1,7 @@
-use super::{Outcome, run};
-use crate::status::Status;
+//! A run over readers and writers that give or take few octets, fail or stop.
+
+use rohcfn_tool::program::{Outcome, run};
+use rohcfn_tool::status::Status;
 use std::alloc::{AllocError, Global};
 use std::io;
 use std::io::{ErrorKind, Read, Write};
