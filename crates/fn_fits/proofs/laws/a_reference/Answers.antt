@@ -1,0 +1,5 @@
+use Rattle.fn_fits.proofs.Sides.{references}
+use Rattle.fn_fits.proofs.laws.a_reference.Goals as goal
+
+pub returns : goal.returns
+returns c = references

@@ -1,0 +1,5 @@
+use Rattle.fn_fits.proofs.Sides.{splits}
+use Rattle.fn_fits.proofs.laws.front_splits.Goals as goal
+
+pub returns : goal.returns
+returns c = splits

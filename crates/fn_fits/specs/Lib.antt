@@ -1,0 +1,4 @@
+pub mod Fits
+pub mod Fronts
+pub mod Bounded
+pub mod Laws
