@@ -1,0 +1,7 @@
+use Rattle.std.proofs.Common.{◌≡◌, ◌++◌, map, drop}
+use Rattle.fn_filling.specs.Fillings.{level, sides_of}
+use Rattle.fn_holds.specs.Level.{numbers_of}
+use Rattle.fn_holds.proofs.level.known_level.Given as goal
+
+abbrev pub invariant-loop-field : goal.invariant-loop-field
+invariant-loop-field l = l.fields ++ map numbers_of (map sides_of (drop l.field-index l.field-items)) ≡ map numbers_of (level l.filling)

@@ -1,0 +1,152 @@
+//! Library methods with the values of their arguments.
+
+ghost use Rattle.std.specs.Prelude.{◌≡◌, ◌↔◌, IsTrue, IfOk, Some};
+ghost use Rattle.std.specs.Option.{option_copied};
+ghost use Rattle.fn_expr.specs.Known.{assignment_of};
+ghost use Rattle.fn_lib.specs.Methods.{Lib, IsOnly};
+ghost use Rattle.fn_bounds.specs.Laws.{library_exprs};
+ghost use Rattle.fn_holds.specs.Level.{AllRanged};
+ghost use Rattle.fn_holds.specs.Coding as spec;
+
+use fn_bits::Bits;
+use fn_expr::{Known, value};
+use fn_lib::{
+    compressed_value_down, crc_down, irregular_down, lsb_down, static_down, uncompressed_value_down,
+};
+use fn_profile::Library;
+use std::alloc::{AllocError, Global};
+
+/// A library method with the values of its arguments (RFC 4997, section 4.11), without the bits that a crc covers.
+#[derive(Clone, Copy, Debug, PartialEq, Eq)]
+pub enum Coding {
+    UncompressedValue {
+        length: i128,
+        value: i128,
+    },
+    CompressedValue {
+        length: i128,
+        value: i128,
+    },
+    Irregular {
+        length: i128,
+    },
+    Static,
+    Lsb {
+        bits: i128,
+        offset: i128,
+    },
+    Crc {
+        bits: i128,
+        polynomial: i128,
+        initial: i128,
+        length: i128,
+    },
+}
+
+/// The method with the values of its arguments, none where one has no value.
+pub(crate) fn coding_of(library: &Library, known: &Known) -> Option<Coding>
+    requires { AllRanged known.now (library_exprs library.now) }
+    ensures { result ≡ spec.coding_of (assignment_of known.now) library.now }
+{
+    match library {
+        Library::UncompressedValue {
+            length,
+            value: number,
+        } => Some(Coding::UncompressedValue {
+            length: value(length, known)?,
+            value: value(number, known)?,
+        }),
+        Library::CompressedValue {
+            length,
+            value: number,
+        } => Some(Coding::CompressedValue {
+            length: value(length, known)?,
+            value: value(number, known)?,
+        }),
+        Library::Irregular { length } => Some(Coding::Irregular {
+            length: value(length, known)?,
+        }),
+        Library::Static => Some(Coding::Static),
+        Library::Lsb { bits, offset } => Some(Coding::Lsb {
+            bits: value(bits, known)?,
+            offset: value(offset, known)?,
+        }),
+        Library::Crc(crc) => Some(Coding::Crc {
+            bits: value(&crc.bits, known)?,
+            polynomial: value(&crc.polynomial, known)?,
+            initial: value(&crc.initial, known)?,
+            length: value(&crc.length, known)?,
+        }),
+    }
+}
+
+/// Whether the method relates the two sides, where the covered bits of a crc and the reference are these.
+pub(crate) fn is_related(
+    alloc: Global,
+    coding: Coding,
+    covered: &Bits,
+    reference: Option<&Bits>,
+    uncompressed: &Bits,
+    compressed: &Bits,
+) -> Result<bool, AllocError>
+    ensures { IfOk result (λ b. IsTrue b ↔ Lib (spec.with_covered covered.now coding) (option_copied reference.entry) uncompressed.now compressed.now) }
+{
+    let found = compressed_by(alloc, coding, covered, reference, uncompressed)?;
+    Ok(is_found(&found, compressed))
+}
+
+/// The compressed side that the method gives to an uncompressed one, none where it gives none.
+fn compressed_by(
+    alloc: Global,
+    coding: Coding,
+    covered: &Bits,
+    reference: Option<&Bits>,
+    uncompressed: &Bits,
+) -> Result<Option<Bits>, AllocError>
+    ensures { IfOk result (IsOnly (λ c. Lib (spec.with_covered covered.now coding) (option_copied reference.entry) uncompressed.now c)) }
+{
+    match coding {
+        Coding::UncompressedValue { length, value } => Ok(uncompressed_value_down(
+            alloc,
+            length,
+            value,
+            uncompressed,
+        )),
+        Coding::CompressedValue { length, value } => {
+            compressed_value_down(alloc, length, value, uncompressed)
+        }
+        Coding::Irregular { length } => irregular_down(alloc, length, uncompressed),
+        Coding::Static => Ok(static_down(alloc, reference, uncompressed)),
+        Coding::Lsb { bits, offset } => lsb_down(alloc, bits, offset, reference, uncompressed),
+        Coding::Crc {
+            bits,
+            polynomial,
+            initial,
+            length,
+        } => crc_down(
+            alloc,
+            bits,
+            polynomial,
+            initial,
+            covered,
+            length,
+            uncompressed,
+        ),
+    }
+}
+
+/// Whether the found bits are there and are these.
+fn is_found(found: &Option<Bits>, bits: &Bits) -> bool
+    ensures { IsTrue result ↔ (found.now ≡ Some bits.now) }
+{
+    match found {
+        Some(one) => is_same(one, bits),
+        None => false,
+    }
+}
+
+pub(crate) fn is_same(one: &Bits, other: &Bits) -> bool
+    ensures { IsTrue result ↔ (one.now ≡ other.now) }
+{
+    *one == *other
+}

@@ -1,0 +1,93 @@
+//! Whether a field without an encoding, or with a library method, fits.
+
+ghost use Rattle.std.specs.Prelude.{◌≡◌, ◌≤◌, [], ◌↔◌, IsTrue, IfOk, None, length};
+ghost use Rattle.fn_context.specs.Entries.{bits_at};
+ghost use Rattle.fn_expr.specs.Known.{assignment_of};
+ghost use Rattle.fn_expr.specs.declared.expr.Subject.TheVariants as subject;
+ghost use Rattle.fn_bounds.specs.Laws.{library_exprs};
+ghost use Rattle.fn_filling.specs.Fillings as spec;
+ghost use Rattle.fn_filling.specs.Fillings.{sides_of, inner_of, listing_of};
+ghost use Rattle.fn_fits.specs.Fits.{side_of};
+ghost use Rattle.fn_holds.specs.Level.{AllRanged};
+ghost use Rattle.fn_holds.specs.Ready.{IsShown, IsCovered, IsCoded};
+
+use crate::coding::{coding_of, is_related};
+use crate::level::Level;
+use crate::sides::reference_of;
+use fn_bits::Bits;
+use fn_context::Context;
+use fn_expr::{Side, Subject};
+use fn_filling::{FilledField, below};
+use fn_profile::{Field, Library};
+use std::alloc::{AllocError, Global};
+
+/// Whether a field without an encoding fits: it has at most 64 bits, and none is sent.
+pub(crate) fn is_bare(filled: &FilledField) -> bool
+    ensures { IsTrue result ↔ ((length (sides_of filled.now).uncompressed ≤ 64) × ((sides_of filled.now).compressed ≡ []) × (inner_of filled.now ≡ None)) }
+{
+    filled.uncompressed.len() <= 64 && filled.compressed.is_empty() && filled.inner.is_none()
+}
+
+/// Whether the library method relates the two sides of the field.
+pub(crate) fn is_coded(
+    alloc: Global,
+    context: &Context,
+    path: &str,
+    level: &Level<'_>,
+    field: &Field,
+    library: &Library,
+    filled: &FilledField,
+) -> Result<bool, AllocError>
+    requires ranged { AllRanged level.now.known (library_exprs library.now) }
+    requires shown { IsShown level.now.format.now level.now.filling.now level.now.header level.now.packed }
+    ensures { IfOk result (λ b. IsTrue b ↔ IsCoded (bits_at context.now) path.now level.now.filling.now (assignment_of level.now.known) field.now library.now filled.now) }
+{
+    if filled.inner.is_some() {
+        return Ok(false);
+    }
+    let Some(coding) = coding_of(library, &level.known) else {
+        return Ok(false);
+    };
+    let here = below(alloc, path, field.declared.name.as_str())?;
+    let reference = reference_of(context, field, here.as_str());
+    let empty = Bits::new(alloc);
+    let covered = covered_by(level, library, &empty);
+    is_related(
+        alloc,
+        coding,
+        covered,
+        reference,
+        &filled.uncompressed,
+        &filled.compressed,
+    )
+}
+
+/// The bits that a crc covers, those of its side, and no bits for another method.
+fn covered_by<'a>(level: &'a Level<'_>, library: &Library, empty: &'a Bits) -> &'a Bits
+    requires empty { empty.now ≡ [] }
+    requires shown { IsShown level.now.format.now level.now.filling.now level.now.header level.now.packed }
+    ensures { IsCovered level.now.filling.now library.now result.now }
+{
+    let Library::Crc(crc) = library else {
+        return empty;
+    };
+    match (crc.subject, crc.side) {
+        (Subject::This, Side::Uncompressed) => &level.header,
+        (Subject::This, Side::Compressed) => &level.packed,
+        (Subject::Field(index), side) => side_at(level, index, side, empty),
+    }
+}
+
+/// A side of the field at the index, no bits where there is no such field.
+fn side_at<'a>(level: &'a Level<'_>, index: usize, side: Side, empty: &'a Bits) -> &'a Bits
+    requires { empty.now ≡ [] }
+    ensures { result.now ≡ side_of (listing_of level.now.filling.now) (spec.level level.now.filling.now) (subject.Field index) side }
+{
+    let Some(filled) = level.filling.fields.get(index) else {
+        return empty;
+    };
+    match side {
+        Side::Uncompressed => &filled.uncompressed,
+        Side::Compressed => &filled.compressed,
+    }
+}

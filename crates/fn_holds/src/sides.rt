@@ -1,0 +1,75 @@
+//! The two sides of a whole filling, and of what its format covers.
+
+ghost use Rattle.std.specs.Prelude.{◌≡◌, ◌≤◌, ◌^◌, ◌<◌, ◌↔◌, IsTrue, IfOk, MatchOption, length};
+ghost use Rattle.std.specs.Option.{option_copied};
+ghost use Rattle.fn_context.specs.Entries.{bits_at};
+ghost use Rattle.fn_filling.specs.Fillings.{header, packed};
+ghost use Rattle.fn_fits.specs.Fits as spec;
+
+use crate::coding::is_same;
+use fn_bits::{Bits, BitsError};
+use fn_context::Context;
+use fn_filling::Filling;
+use fn_profile::{Field, Part};
+use std::alloc::{AllocError, Global};
+
+/// The header, unless it is above the limit of `Bits`.
+pub(crate) fn header_of(alloc: Global, filling: &Filling) -> Result<Option<Bits>, AllocError>
+    ensures { IfOk result (λ o. MatchOption o (2 ^ 31 ≤ length (header filling.now)) (λ b. b ≡ header filling.now)) }
+{
+    match filling.header(alloc) {
+        Ok(bits) => Ok(Some(bits)),
+        Err(BitsError::Full) => Ok(None),
+        Err(BitsError::OutOfMemory) => Err(AllocError),
+    }
+}
+
+/// The packed bits, unless they are above the limit of `Bits`.
+pub(crate) fn packed_of(alloc: Global, filling: &Filling) -> Result<Option<Bits>, AllocError>
+    ensures { IfOk result (λ o. MatchOption o (2 ^ 31 ≤ length (packed filling.now)) (λ b. b ≡ packed filling.now)) }
+{
+    match filling.packed(alloc) {
+        Ok(bits) => Ok(Some(bits)),
+        Err(BitsError::Full) => Ok(None),
+        Err(BitsError::OutOfMemory) => Err(AllocError),
+    }
+}
+
+/// Whether these bits are the header of the filling.
+pub(crate) fn is_header(alloc: Global, bits: &Bits, filling: &Filling) -> Result<bool, AllocError>
+    ensures { IfOk result (λ b. IsTrue b ↔ (bits.now ≡ header filling.now)) }
+{
+    let _limit = bits.len();
+    let Some(found) = header_of(alloc, filling)? else {
+        return Ok(false);
+    };
+    Ok(is_same(bits, &found))
+}
+
+/// Whether these bits are the packed bits of the filling.
+pub(crate) fn is_packed(alloc: Global, bits: &Bits, filling: &Filling) -> Result<bool, AllocError>
+    ensures { IfOk result (λ b. IsTrue b ↔ (bits.now ≡ packed filling.now)) }
+{
+    let _limit = bits.len();
+    let Some(found) = packed_of(alloc, filling)? else {
+        return Ok(false);
+    };
+    Ok(is_same(bits, &found))
+}
+
+/// The reference of a field at its path: the context's bits, else the value of INITIAL. A local field has none.
+pub(crate) fn reference_of<'a>(
+    context: &'a Context,
+    field: &'a Field,
+    path: &str,
+) -> Option<&'a Bits>
+    ensures { option_copied result ≡ spec.reference_of field.now.declared.part (bits_at context.now) path.now field.now.initial }
+{
+    match field.declared.part {
+        Part::Local => None,
+        Part::Header | Part::Control => match context.get(path) {
+            Some(bits) => Some(bits),
+            None => field.initial.as_ref(),
+        },
+    }
+}
