@@ -1,73 +1,46 @@
 //! What fillings show and what they leave in the context, on fillings that are built by hand.
 
+use crate::building::{field, level, two};
 use fn_bits::Bits;
 use fn_context::Context;
-use fn_filling::{FilledField, Filling, Item, advance, below};
-use fn_profile::{Declared, Name, Part};
+use fn_filling::{Filling, Item, advance, below};
+use fn_profile::Part;
 use sqlite_items::Items;
 use std::alloc::{AllocError, Global};
 use std::process::Abort;
 use std::test::Fail;
 
-/// A field's name, its part, whether it is asked, and the texts of its uncompressed and its compressed side.
-type Row<'a> = (&'a str, Part, bool, &'a str, &'a str);
-
-fn bits(rt: &impl Abort, alloc: Global, text: &str) -> Result<Bits, AllocError> {
-    Ok(Bits::read_text(alloc, text)?.expect(rt, text))
-}
-
-fn field(
-    rt: &impl Abort,
-    alloc: Global,
-    row: Row<'_>,
-    inner: Option<Filling>,
-) -> Result<FilledField, AllocError> {
-    let (name, part, asked, uncompressed, compressed) = row;
-    Ok(FilledField {
-        declared: Declared {
-            name: Name::new(alloc, name)?,
-            part,
-            asked,
-        },
-        uncompressed: bits(rt, alloc, uncompressed)?,
-        compressed: bits(rt, alloc, compressed)?,
-        inner,
-    })
-}
-
-/// A filling of one field, which is listed.
-fn filling_of_one(alloc: Global, only: FilledField) -> Result<Filling, AllocError> {
-    let mut fields = Items::new(alloc);
-    fields.push(only)?;
-    Ok(Filling {
-        format: 0,
-        listing: Items::from_slice(alloc, &[0])?,
-        fields,
-    })
-}
-
 /// The profile `opt` of examples/opt-show.bundle at the header `8:41`, where the flag is 1.
 fn opt(rt: &impl Abort, alloc: Global) -> Result<Filling, AllocError> {
-    let field_row = ("field", Part::Header, false, "8:41", "8:41");
-    let inner = filling_of_one(alloc, field(rt, alloc, field_row, None)?)?;
-    let mut fields = Items::new(alloc);
+    let inner = level(
+        rt,
+        alloc,
+        0,
+        &[0],
+        &[("field", Part::Header, false, "8:41", "8:41")],
+    )?;
     let ttl = ("ttl", Part::Header, false, "8:41", "8:41");
-    fields.push(field(rt, alloc, ttl, Some(inner))?)?;
-    let flag = ("flag", Part::Local, false, "0:", "1:80");
-    fields.push(field(rt, alloc, flag, None)?)?;
-    Ok(Filling {
-        format: 0,
-        listing: Items::from_slice(alloc, &[1, 0])?,
-        fields,
-    })
+    let flag = ("flag", Part::Local, false, "1:80", "1:80");
+    two(
+        alloc,
+        &[1, 0],
+        field(rt, alloc, ttl, Some(inner))?,
+        field(rt, alloc, flag, None)?,
+    )
 }
 
 /// A control field that is asked and one that is not, and a local field with two levels inside it.
 fn mixed(rt: &impl Abort, alloc: Global) -> Result<Filling, AllocError> {
     let low = ("low", Part::Control, true, "2:c0", "0:");
-    let lowest = filling_of_one(alloc, field(rt, alloc, low, None)?)?;
+    let lowest = level(rt, alloc, 0, &[0], &[low])?;
     let middle = ("mid", Part::Control, false, "3:20", "5:08");
-    let inner = filling_of_one(alloc, field(rt, alloc, middle, Some(lowest))?)?;
+    let mut inside = Items::new(alloc);
+    inside.push(field(rt, alloc, middle, Some(lowest))?)?;
+    let inner = Filling {
+        format: 0,
+        listing: Items::from_slice(alloc, &[0])?,
+        fields: inside,
+    };
     let mut fields = Items::new(alloc);
     fields.push(field(rt, alloc, ("sn", Part::Header, false, "4:10", "4:30"), None)?)?;
     fields.push(field(
