@@ -1,2 +1,6 @@
-pub mod Fill
-pub mod Walk
+pub mod Following
+pub mod Walking
+pub mod Writing
+pub mod Fronts
+pub mod Marks
+pub mod Planned

@@ -1,14 +1,17 @@
 //! From packed bits to a header.
 
-ghost use Rattle.std.specs.Prelude.{◌≡◌, ℕ, ◌<◌, length, IfOk, IfErr, OnErr};
+ghost use Rattle.std.specs.Prelude.{◌≡◌, ◌∷◌, ℕ, length, IfOk, IfErr, OnErr, IsTrue, ◌↔◌, slice_get, Some};
 ghost use Rattle.fn_bits.specs.Cursor.{Advances};
-ghost use Rattle.fn_model.specs.NormalForm.{IsFragment, field_in};
-ghost use Rattle.fn_model.specs.Fillings.{header, packed, filled_in};
-ghost use Rattle.fn_model.specs.Fits.{Fits};
-ghost use Rattle.fn_engine.specs.Faults.{Blames, BlamesField, IsRead, IsBlank, IsWalked};
+ghost use Rattle.fn_filling.specs.Fillings.{sides_of, header, packed, item};
+ghost use Rattle.fn_engine.specs.Faults.{Blames, BlamesField, FitsAlways, IsRead, IsWalked, header_item, width, upward};
+ghost use Rattle.fn_engine.specs.Fragment.{IsPlan};
 
+use crate::fragment::{Fragment, Step};
 use fn_bits::{Bits, BitsError, Cursor};
-use fn_model::{Encoding, Field, FilledField, Filling, Profile, holds};
+use fn_context::Context;
+use fn_filling::{FilledField, Filling};
+use fn_holds::holds;
+use fn_profile::{Declared, Name, Part};
 use sqlite_items::Items;
 use std::alloc::{AllocError, AllocFailed, Global};
 use thiserror::Error;
@@ -51,49 +54,71 @@ impl<T: Drop> From<AllocFailed<T>> for UnpackFault {
 /// What was read: the header, how many bits its packet took, and the filling that it belongs to.
 #[derive(Debug, Drop)]
 pub struct Read {
-    pub item: Bits,
+    pub header: Bits,
     pub bits: usize,
     pub filling: Filling,
 }
 
 /// Reads the header whose packed bits are at the cursor's place. A refusal leaves the cursor as it was.
 ///
-/// All listed fields are taken first, and then the encodings are tested, so bits that are both too few and
-/// wrong are `Truncated`.
+/// All listed fields are taken first, and then the filling is judged, so bits that are both too few and wrong are
+/// `Truncated`.
 pub fn unpack(
     alloc: Global,
-    profile: &Profile,
+    fragment: &Fragment<'_>,
     cursor: &mut Cursor<'_>,
 ) -> Result<Read, UnpackFault>
-    ensures found { IfOk result (λ r. Fits profile.now r.filling × Advances cursor.old cursor.new (packed r.filling)) }
-    ensures item { IfOk result (λ r. r.item ≡ header r.filling) }
+    ensures found { IfOk result (λ r. FitsAlways fragment.now.profile r.filling × Advances cursor.old cursor.new (packed r.filling)) }
+    ensures item { IfOk result (λ r. item r.filling ≡ header_item r.header) }
     ensures bits { IfOk result (λ r. r.bits ≡ length (packed r.filling)) }
     // Truncated: no filling is at the front of the bits. Refused: nor is one with any further bits.
-    ensures fault { IfErr result (λ e. Blames e profile.now cursor.old.left) }
+    ensures fault { IfErr result (λ e. Blames e fragment.now.profile cursor.old.left) }
     ensures err { OnErr result (cursor.new ≡ cursor.old) }
 {
     let mut ahead = cursor.fork();
-    let filling = walk(alloc, profile, &mut ahead)?;
-    if !holds(profile, &filling) {
+    let filling = walk(alloc, fragment, &mut ahead)?;
+    if !fits(alloc, fragment, &filling)? {
         return Err(UnpackFault::Refused);
     }
-    let item = header_of(alloc, profile, &filling)?;
+    let header = header_of(alloc, fragment, &filling)?;
     let bits = ahead.used() - cursor.used();
     *cursor = ahead;
     Ok(Read {
-        item,
+        header,
         bits,
         filling,
     })
 }
 
-/// The header of a fitting filling, which is below the limit of `Bits`.
-#[tactic(auto, using(crate::proofs::Walk::short_header))]
-fn header_of(alloc: Global, profile: &Profile, filling: &Filling) -> Result<Bits, AllocError>
-    requires { Fits profile.now filling.now }
-    ensures { IfOk result (λ b. b ≡ header filling.now) }
+/// Whether the filling fits the top of the profile, in one context as in every other: nothing in the fragment refers to it.
+pub(crate) fn fits(
+    alloc: Global,
+    fragment: &Fragment<'_>,
+    filling: &Filling,
+) -> Result<bool, AllocError>
+    ensures judged { IfOk result (λ b. IsTrue b ↔ FitsAlways fragment.now.profile filling.now) }
+    ensures plan { IsPlan fragment.now }
 {
-    let _fields = profile.fields();
+    let profile = fragment.profile();
+    profile.keeps();
+    let context = Context::new(alloc);
+    holds(
+        alloc,
+        profile,
+        &context,
+        profile.top(),
+        [].as_slice(),
+        "",
+        filling,
+    )
+}
+
+/// The header of a fitting filling, which is below the limit of `Bits`.
+fn header_of(alloc: Global, fragment: &Fragment<'_>, filling: &Filling) -> Result<Bits, AllocError>
+    requires { FitsAlways fragment.now.profile filling.now }
+    ensures { IfOk result (λ b. item filling.now ≡ header_item b) }
+{
+    fragment.profile().keeps();
     match filling.header(alloc) {
         Ok(header) => Ok(header),
         Err(BitsError::Full) => unreachable!(),
@@ -102,35 +127,46 @@ fn header_of(alloc: Global, profile: &Profile, filling: &Filling) -> Result<Bits
 }
 
 /// Takes the listed fields one after the other, and tests nothing.
-fn walk(alloc: Global, profile: &Profile, cursor: &mut Cursor<'_>) -> Result<Filling, UnpackFault>
-    ensures fragment { IsFragment profile.now }
-    ensures found { IfOk result (λ f. IsWalked profile.now cursor.old cursor.new f) }
-    ensures fault { IfErr result (λ e. Blames e profile.now cursor.old.left) }
+fn walk(
+    alloc: Global,
+    fragment: &Fragment<'_>,
+    cursor: &mut Cursor<'_>,
+) -> Result<Filling, UnpackFault>
+    ensures found { IfOk result (λ f. IsWalked fragment.now.profile cursor.old cursor.new f) }
+    ensures fault { IfErr result (λ e. Blames e fragment.now.profile cursor.old.left) }
     ensures untested { IfErr result (λ e. e ≡ UnpackFault.Refused → ⊥) }
 {
-    let fields = profile.fields();
-    let listing = profile.listing();
-    let mut filled = blank(alloc, fields)?;
+    let format = fragment.format();
+    let fields = format.fields.as_slice();
+    let listing = format.listing.as_slice();
+    let steps = fragment.steps();
+    let mut filled = blank(alloc, steps.len())?;
     for i in listing {
-        let field = read_field(alloc, &fields[*i], cursor)?;
+        let field = read_field(alloc, &fields[*i].declared, &steps[*i], cursor)?;
         filled.set(*i, field);
     }
     Ok(Filling {
+        format: 0,
         listing: Items::from_slice(alloc, listing)?,
         fields: filled,
     })
 }
 
-/// The declared fields, without bits.
-fn blank(alloc: Global, fields: &[Field]) -> Result<Items<FilledField>, AllocError>
-    ensures { IfOk result (λ filled. IsBlank fields.now filled) }
+/// So many fields, each of which is still to be read.
+fn blank(alloc: Global, count: usize) -> Result<Items<FilledField>, AllocError>
+    ensures { IfOk result (λ filled. length filled ≡ count) }
 {
     let mut filled = Items::new(alloc);
-    for field in fields {
+    for _i in 0..count {
         filled.push(FilledField {
-            declared: field.declared,
+            declared: Declared {
+                name: Name::new(alloc, "")?,
+                part: Part::Local,
+                asked: false,
+            },
             uncompressed: Bits::new(alloc),
             compressed: Bits::new(alloc),
+            inner: None,
         })?;
     }
     Ok(filled)
@@ -139,33 +175,49 @@ fn blank(alloc: Global, fields: &[Field]) -> Result<Items<FilledField>, AllocErr
 /// Takes the compressed side of a field, whatever its bits are, and gives the field both.
 fn read_field(
     alloc: Global,
-    field: &Field,
+    declared: &Declared,
+    step: &Step,
     cursor: &mut Cursor<'_>,
 ) -> Result<FilledField, UnpackFault>
-    ensures found { IfOk result (λ s. IsRead field.now s × Advances cursor.old cursor.new s.compressed) }
-    ensures fault { IfErr result (λ e. BlamesField e field.now cursor.old.left) }
+    ensures found { IfOk result (λ g. IsRead declared.now step.now g × Advances cursor.old cursor.new (sides_of g).compressed) }
+    ensures fault { IfErr result (λ e. BlamesField e step.now cursor.old.left) }
 {
-    match &field.encoding {
-        Encoding::CompressedValue(bits) => {
-            let Some(compressed) = cursor.take(alloc, bits.len())? else {
-                return Err(UnpackFault::Truncated);
-            };
-            Ok(FilledField {
-                declared: field.declared,
-                uncompressed: Bits::new(alloc),
-                compressed,
-            })
-        }
-        Encoding::Irregular(count) => {
-            let Some(compressed) = cursor.take(alloc, *count)? else {
-                return Err(UnpackFault::Truncated);
-            };
-            let uncompressed = compressed.copy(alloc)?;
-            Ok(FilledField {
-                declared: field.declared,
-                uncompressed,
-                compressed,
-            })
-        }
+    let Some(compressed) = cursor.take(alloc, width_of(step))? else {
+        return Err(UnpackFault::Truncated);
+    };
+    let uncompressed = upward_of(alloc, step, &compressed)?;
+    Ok(FilledField {
+        declared: copy_of(alloc, declared)?,
+        uncompressed,
+        compressed,
+        inner: None,
+    })
+}
+
+fn width_of(step: &Step) -> usize
+    ensures { result ≡ width step.now }
+{
+    match step {
+        Step::Sent(count) => *count,
+        Step::Given(bits) => bits.len(),
     }
+}
+
+fn upward_of(alloc: Global, step: &Step, compressed: &Bits) -> Result<Bits, AllocError>
+    ensures { IfOk result (λ b. b ≡ upward step.now compressed.now) }
+{
+    match step {
+        Step::Sent(_) => compressed.copy(alloc),
+        Step::Given(_) => Ok(Bits::new(alloc)),
+    }
+}
+
+pub(crate) fn copy_of(alloc: Global, declared: &Declared) -> Result<Declared, AllocError>
+    ensures { IfOk result (λ d. d ≡ declared.now) }
+{
+    Ok(Declared {
+        name: Name::new(alloc, declared.name.as_str())?,
+        part: declared.part,
+        asked: declared.asked,
+    })
 }

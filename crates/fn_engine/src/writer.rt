@@ -1,13 +1,15 @@
 //! From a header to packed bits.
 
-ghost use Rattle.std.specs.Prelude.{◌≡◌, ◌<◌, length, IfOk, IfErr};
+ghost use Rattle.std.specs.Prelude.{◌≡◌, ◌<◌, length, IfOk, IfErr, Err, List, Bool};
 ghost use Rattle.fn_bits.specs.Cursor.{Advances};
-ghost use Rattle.fn_model.specs.Fillings.{header, packed};
-ghost use Rattle.fn_model.specs.Fits.{Fills, Fits};
-ghost use Rattle.fn_engine.specs.Faults.{BlamesItem, LacksField};
+ghost use Rattle.fn_filling.specs.Fillings.{sides_of, header, packed, item};
+ghost use Rattle.fn_engine.specs.Faults.{BlamesItem, LacksField, FitsAlways, IsWritten, IsFilled, header_item, taken, downward};
 
+use crate::fragment::{Fragment, Step};
+use crate::reader::{copy_of, fits};
 use fn_bits::{Bits, BitsError, Cursor};
-use fn_model::{Encoding, Field, FilledField, Filling, Profile};
+use fn_filling::{FilledField, Filling};
+use fn_profile::Declared;
 use sqlite_items::Items;
 use std::alloc::{AllocError, AllocFailed, Global};
 use thiserror::Error;
@@ -57,29 +59,31 @@ pub struct Written {
     pub filling: Filling,
 }
 
-/// Writes the packed bits of an item, which is a header.
-pub fn pack(alloc: Global, profile: &Profile, item: &Bits) -> Result<Written, PackFault>
-    ensures found { IfOk result (λ w. Fits profile.now w.filling × (header w.filling ≡ item.now)) }
+/// Writes the packed bits of an item, which is a header, since in the fragment no value is asked for.
+pub fn pack(alloc: Global, fragment: &Fragment<'_>, header: &Bits) -> Result<Written, PackFault>
+    ensures found { IfOk result (λ w. FitsAlways fragment.now.profile w.filling × (item w.filling ≡ header_item header.now)) }
     ensures packed_bits { IfOk result (λ w. w.packed ≡ packed w.filling) }
-    // HeaderLength: the header is above 4,096 bits. NoFormat: no filling has it.
-    ensures fault { IfErr result (λ e. BlamesItem e profile.now item.now) }
-    ensures long { 4096 < length item.now → result ≡ Err PackFault.HeaderLength }
+    // HeaderLength: the header is above 4,096 bits. NoFormat: no filling has it as its item.
+    ensures fault { IfErr result (λ e. BlamesItem e fragment.now.profile header.now) }
+    ensures long { 4096 < length header.now → result ≡ Err PackFault.HeaderLength }
 {
-    if item.len() > HEADER_LIMIT {
+    if header.len() > HEADER_LIMIT {
         return Err(PackFault::HeaderLength);
     }
-    let filling = fill(alloc, profile, item)?;
-    let packed = packed_of(alloc, profile, &filling)?;
+    let filling = fill(alloc, fragment, header)?;
+    if !fits(alloc, fragment, &filling)? {
+        return Err(PackFault::NoFormat);
+    }
+    let packed = packed_of(alloc, fragment, &filling)?;
     Ok(Written { packed, filling })
 }
 
 /// The packed bits of a fitting filling, which are below the limit of `Bits`.
-#[tactic(auto, using(crate::proofs::Walk::short_packed))]
-fn packed_of(alloc: Global, profile: &Profile, filling: &Filling) -> Result<Bits, AllocError>
-    requires { Fits profile.now filling.now }
+fn packed_of(alloc: Global, fragment: &Fragment<'_>, filling: &Filling) -> Result<Bits, AllocError>
+    requires { FitsAlways fragment.now.profile filling.now }
     ensures { IfOk result (λ b. b ≡ packed filling.now) }
 {
-    let _fields = profile.fields();
+    fragment.profile().keeps();
     match filling.packed(alloc) {
         Ok(packed) => Ok(packed),
         Err(BitsError::Full) => unreachable!(),
@@ -87,23 +91,27 @@ fn packed_of(alloc: Global, profile: &Profile, filling: &Filling) -> Result<Bits
     }
 }
 
-/// Gives each field its sides, those of the header from the item.
-fn fill(alloc: Global, profile: &Profile, item: &Bits) -> Result<Filling, PackFault>
-    ensures found { IfOk result (λ f. Fits profile.now f × (header f ≡ item.now)) }
-    ensures fault { IfErr result (λ e. BlamesItem e profile.now item.now) }
+/// Gives each field its sides, those of the header from these bits, and judges nothing.
+fn fill(alloc: Global, fragment: &Fragment<'_>, header: &Bits) -> Result<Filling, PackFault>
+    ensures found { IfOk result (λ f. IsFilled fragment.now.profile header.now f) }
+    ensures fault { IfErr result (λ e. BlamesItem e fragment.now.profile header.now) }
     ensures short { IfErr result (λ e. e ≡ PackFault.HeaderLength → ⊥) }
 {
-    let mut cursor = Cursor::new(item);
-    let fields = profile.fields();
+    let mut cursor = Cursor::new(header);
+    let format = fragment.format();
+    let fields = format.fields.as_slice();
+    let steps = fragment.steps();
     let mut filled = Items::new(alloc);
-    for field in fields {
-        filled.push(write_field(alloc, field, &mut cursor)?)?;
+    for i in 0..steps.len() {
+        let field = write_field(alloc, &fields[i].declared, &steps[i], &mut cursor)?;
+        filled.push(field)?;
     }
     if cursor.rest() > 0 {
         return Err(PackFault::NoFormat);
     }
     Ok(Filling {
-        listing: Items::from_slice(alloc, profile.listing())?,
+        format: 0,
+        listing: Items::from_slice(alloc, format.listing.as_slice())?,
         fields: filled,
     })
 }
@@ -111,31 +119,39 @@ fn fill(alloc: Global, profile: &Profile, item: &Bits) -> Result<Filling, PackFa
 /// Takes the uncompressed side of a field, and gives the field both.
 fn write_field(
     alloc: Global,
-    field: &Field,
+    declared: &Declared,
+    step: &Step,
     cursor: &mut Cursor<'_>,
 ) -> Result<FilledField, PackFault>
-    ensures found { IfOk result (λ s. Fills field.now s × Advances cursor.old cursor.new s.uncompressed) }
-    ensures fault { IfErr result (λ e. LacksField e field.now cursor.old.left) }
+    ensures found { IfOk result (λ g. IsWritten declared.now step.now g × Advances cursor.old cursor.new (sides_of g).uncompressed) }
+    ensures fault { IfErr result (λ e. LacksField e step.now cursor.old.left) }
 {
-    match &field.encoding {
-        Encoding::CompressedValue(bits) => {
-            let compressed = bits.copy(alloc)?;
-            Ok(FilledField {
-                declared: field.declared,
-                uncompressed: Bits::new(alloc),
-                compressed,
-            })
-        }
-        Encoding::Irregular(count) => {
-            let Some(uncompressed) = cursor.take(alloc, *count)? else {
-                return Err(PackFault::NoFormat);
-            };
-            let compressed = uncompressed.copy(alloc)?;
-            Ok(FilledField {
-                declared: field.declared,
-                uncompressed,
-                compressed,
-            })
-        }
+    let Some(uncompressed) = cursor.take(alloc, taken_of(step))? else {
+        return Err(PackFault::NoFormat);
+    };
+    let compressed = downward_of(alloc, step, &uncompressed)?;
+    Ok(FilledField {
+        declared: copy_of(alloc, declared)?,
+        uncompressed,
+        compressed,
+        inner: None,
+    })
+}
+
+fn taken_of(step: &Step) -> usize
+    ensures { result ≡ taken step.now }
+{
+    match step {
+        Step::Sent(count) => *count,
+        Step::Given(_) => 0,
+    }
+}
+
+fn downward_of(alloc: Global, step: &Step, uncompressed: &Bits) -> Result<Bits, AllocError>
+    ensures { IfOk result (λ b. b ≡ downward step.now uncompressed.now) }
+{
+    match step {
+        Step::Sent(_) => uncompressed.copy(alloc),
+        Step::Given(bits) => bits.copy(alloc),
     }
 }

@@ -2,6 +2,8 @@
 
 use crate::running::{bundle, check};
 use crate::samples::PLAIN;
+use std::alloc::Global;
+use std::process::Abort;
 use std::test::Fail;
 
 #[test]
@@ -89,14 +91,34 @@ fn profile_faults(rt: HostRuntime) -> Result<(), Fail> {
             "profile:1:1: E27 no such top method without parameters\n",
         ),
         (
-            "a large header",
-            "\n plain { UNCOMPRESSED { a [4000]; b [97]; } COMPRESSED { } }\n",
-            "profile:2:2: E34 profile is too large\n",
+            "a field that is listed twice",
+            "plain { UNCOMPRESSED { a [4]; } COMPRESSED { a =:= irregular(4) [4];\n a =:= irregular(4) [4]; } }\n",
+            "profile:2:2: E24 field a has a second encoding\n",
         ),
         (
-            "a header at the limit",
-            "plain { UNCOMPRESSED { a [4000]; b [96]; } COMPRESSED { } }\n",
-            "prove: P3 Limit\n",
+            "one name twice",
+            "plain { UNCOMPRESSED { a [4];\n a [4]; } COMPRESSED { a =:= irregular(4) [4]; } }\n",
+            "profile:2:2: E21 name a is defined twice\n",
+        ),
+        (
+            "one local name twice",
+            "plain { UNCOMPRESSED { } COMPRESSED { d =:= '1' [1];\n d =:= '1' [1]; } }\n",
+            "profile:2:2: E24 field d has a second encoding\n",
+        ),
+        (
+            "no section",
+            "\n plain { }\n",
+            "profile:2:2: E29 method plain lacks one UNCOMPRESSED or named formats\n",
+        ),
+        (
+            "another section",
+            "\n plain { CONTROL { } }\n",
+            "profile:2:2: E29 method plain lacks one UNCOMPRESSED or named formats\n",
+        ),
+        (
+            "an unknown method",
+            "plain { UNCOMPRESSED { a [4]; } COMPRESSED { a =:= regular(4) [4]; } }\n",
+            "profile:1:52: E20 name regular is not known\n",
         ),
     ];
     for (name, profile, output) in rows {
@@ -106,7 +128,7 @@ fn profile_faults(rt: HostRuntime) -> Result<(), Fail> {
     Ok(())
 }
 
-// Each differs by one thing from a profile of the fragment.
+// Each differs by one thing from a profile of the fragment, and is outside.
 #[test]
 fn outside_the_fragment(rt: HostRuntime) -> Result<(), Fail> {
     let alloc = rt.alloc();
@@ -116,25 +138,80 @@ fn outside_the_fragment(rt: HostRuntime) -> Result<(), Fail> {
             "a [4]; b [4];",
             "a =:= irregular(4) [4];",
         ),
-        (
-            "a field that is listed twice",
-            "a [4];",
-            "a =:= irregular(4) [4]; a =:= irregular(4) [4];",
-        ),
-        ("another argument", "a [4];", "a =:= irregular(5) [4];"),
-        ("another bracket", "a [4];", "a =:= irregular(4) [5];"),
-        ("another length", "a [5];", "a =:= irregular(4) [4];"),
         ("65 bits", "a [65];", "a =:= irregular(65) [65];"),
-        ("a bit text of another count", "", "d =:= '10' [3];"),
         ("a header field of bits", "a [2];", "a =:= '10' [2];"),
         ("an irregular local field", "", "d =:= irregular(2) [2];"),
-        ("one name twice", "a [4]; a [4];", "a =:= irregular(4) [4];"),
-        ("one local name twice", "", "d =:= '1' [1]; d =:= '1' [1];"),
         ("another encoding", "a [4];", "a =:= static [0];"),
+        (
+            "a length by another field",
+            "a [4]; b [4];",
+            "a =:= irregular(4) [4]; b =:= irregular(a.UVALUE);",
+        ),
+    ];
+    for (name, header, listed) in rows {
+        let row = Row {
+            name,
+            header,
+            listed,
+            item: "0:",
+        };
+        packs(&rt, alloc, &row, 1, "prove: P3 Limit\n")?;
+    }
+    Ok(())
+}
+
+// Each differs by one thing from another profile of the fragment: no filling keeps its constraints.
+#[test]
+fn unfit_profiles(rt: HostRuntime) -> Result<(), Fail> {
+    let alloc = rt.alloc();
+    let rows = [
+        (
+            "another argument",
+            "a [4];",
+            "a =:= irregular(5) [4];",
+            "5:a8",
+        ),
+        (
+            "another bracket",
+            "a [4];",
+            "a =:= irregular(4) [5];",
+            "4:a0",
+        ),
+        (
+            "another length",
+            "a [5];",
+            "a =:= irregular(4) [4];",
+            "4:a0",
+        ),
+        ("a bit text of another count", "", "d =:= '10' [3];", "0:"),
+        (
+            "a condition",
+            "a [4]; ENFORCE(a.UVALUE == 9);",
+            "a =:= irregular(4) [4];",
+            "4:a0",
+        ),
+    ];
+    for (name, header, listed, item) in rows {
+        let row = Row {
+            name,
+            header,
+            listed,
+            item,
+        };
+        packs(&rt, alloc, &row, 1, "item 1: F3 NoFormat\n")?;
+    }
+    Ok(())
+}
+
+// Each is written in another way than `plain`, and packs four bits as they are.
+#[test]
+fn other_brackets(rt: HostRuntime) -> Result<(), Fail> {
+    let alloc = rt.alloc();
+    let rows = [
         (
             "a bracket of two lengths",
             "a [4];",
-            "a =:= irregular(4) [4, 5];",
+            "a =:= irregular(4) [5, 4];",
         ),
         ("a sum as a length", "a [4];", "a =:= irregular(4) [2 + 2];"),
         (
@@ -145,34 +222,63 @@ fn outside_the_fragment(rt: HostRuntime) -> Result<(), Fail> {
         ("no bracket", "a [4];", "a =:= irregular(4);"),
         (
             "a condition",
-            "a [4]; ENFORCE(true);",
+            "a [4]; ENFORCE(a.UVALUE == 10);",
             "a =:= irregular(4) [4];",
         ),
     ];
     for (name, header, listed) in rows {
-        let profile = format!(in alloc;
-            "plain {{ UNCOMPRESSED {{ {header} }} COMPRESSED {{ {listed} }} }}\n"
-        )?;
-        let input = bundle(alloc, "pack --top plain", profile.as_str(), "items", "0:\n")?;
-        check(&rt, alloc, name, input.as_bytes(), 1, "prove: P3 Limit\n");
+        let row = Row {
+            name,
+            header,
+            listed,
+            item: "4:a0",
+        };
+        packs(&rt, alloc, &row, 0, "4:a0\n")?;
     }
     Ok(())
 }
 
-// Whole profiles with that top method, each with a part that the fragment doesn't have.
+// A profile by what stands in its two sections, and an item.
+#[derive(Drop)]
+struct Row<'a> {
+    name: &'a str,
+    header: &'a str,
+    listed: &'a str,
+    item: &'a str,
+}
+
+// What the program prints for the item of a row.
+fn packs(
+    rt: &impl Abort,
+    alloc: Global,
+    row: &Row<'_>,
+    status: u8,
+    output: &str,
+) -> Result<(), Fail> {
+    let (header, listed, item) = (row.header, row.listed, row.item);
+    let profile = format!(in alloc;
+        "plain {{ UNCOMPRESSED {{ {header} }} COMPRESSED {{ {listed} }} }}\n"
+    )?;
+    let items = format!(in alloc; "{item}\n")?;
+    let input = bundle(
+        alloc,
+        "pack --top plain",
+        profile.as_str(),
+        "items",
+        items.as_str(),
+    )?;
+    check(rt, alloc, row.name, input.as_bytes(), status, output);
+    Ok(())
+}
+
+// Profiles of the fragment, with parts that no packet shows.
 #[test]
 fn other_profiles(rt: HostRuntime) -> Result<(), Fail> {
     let alloc = rt.alloc();
     let rows = [
-        ("no section", "plain { }\n"),
-        ("another section", "plain { CONTROL { } }\n"),
         (
             "a section more",
             "plain { UNCOMPRESSED { } CONTROL { } COMPRESSED { } }\n",
-        ),
-        (
-            "a named format",
-            "plain { UNCOMPRESSED { } COMPRESSED f { } }\n",
         ),
         (
             "the format first",
@@ -185,6 +291,27 @@ fn other_profiles(rt: HostRuntime) -> Result<(), Fail> {
         (
             "another method",
             "a { UNCOMPRESSED { } COMPRESSED { } } plain { UNCOMPRESSED { } COMPRESSED { } }\n",
+        ),
+    ];
+    for (name, profile) in rows {
+        let input = bundle(alloc, "pack --top plain", profile, "items", "0:\n")?;
+        check(&rt, alloc, name, input.as_bytes(), 0, "0:\n");
+    }
+    Ok(())
+}
+
+// A format with a name, and two formats.
+#[test]
+fn named_formats(rt: HostRuntime) -> Result<(), Fail> {
+    let alloc = rt.alloc();
+    let rows = [
+        (
+            "a named format",
+            "plain { UNCOMPRESSED { } COMPRESSED f { } }\n",
+        ),
+        (
+            "two formats",
+            "plain { UNCOMPRESSED { } COMPRESSED f { } COMPRESSED g { d =:= '1'; } }\n",
         ),
     ];
     for (name, profile) in rows {

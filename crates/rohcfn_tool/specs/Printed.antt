@@ -13,10 +13,10 @@ use Rattle.fn_reading.specs.Readings.{HasCause, IsTextFault, Reads}
 use Rattle.fn_show.specs.Shown as listing
 use Rattle.fn_show.specs.Texts.{fault_words}
 use Rattle.fn_source.specs.Places.{line_of, column_of}
-use Rattle.fn_model.specs.declared.filling.Filling.{Filling}
-use Rattle.fn_model.specs.NormalForm.{NormalForm}
-use Rattle.fn_model.specs.Fillings.{header, packed}
-use Rattle.fn_model.specs.Fits.{Fits, InFronts}
+use Rattle.fn_filling.specs.declared.filling.Filling.{Filling}
+use Rattle.fn_filling.specs.Fillings.{header, packed, item}
+use Rattle.fn_fits.specs.Fits.{Context}
+use Rattle.fn_fits.specs.Fronts.{InFronts}
 use Rattle.rohcfn_bundle.specs.declared.bundle.Parts.{Parts}
 use Rattle.fn_engine.specs.declared.reader.UnpackFault.{UnpackFault}
 use Rattle.fn_engine.specs.declared.reader.UnpackFault.TheVariants.{Truncated, Refused, OutOfMemory}
@@ -33,9 +33,8 @@ use Rattle.rohcfn_tool.specs.declared.inputs.BadLine.{BadLine}
 use Rattle.rohcfn_tool.specs.declared.inputs.BadLine.TheVariants as bad
 use Rattle.rohcfn_tool.specs.declared.replies.Printed.{Printed}
 use Rattle.rohcfn_tool.specs.declared.replies.Printed.TheVariants as printed
-use Rattle.fn_engine.specs.Faults.{Blames, BlamesItem}
-use Rattle.fn_fragment.specs.Meaning.{StandsFor}
-use Rattle.fn_fragment.specs.Refusals as refusals
+use Rattle.fn_engine.specs.Faults.{Blames, BlamesItem, FitsAlways, header_item}
+use Rattle.fn_engine.specs.Fragment.{IsFragment}
 
 -- ---- the lines that go in
 
@@ -67,11 +66,12 @@ BlamesLine bad.OutOfMemory octets = Unit {0}
 
 -- ---- the lines that go out
 
--- For an item, the packed bits of a filling that fits and has it. For a packet, the header of a filling that fits and whose
--- packed bits are at its front, and how many bits that takes.
-abbrev pub IsLine : Direction → NormalForm → List Bool → List ℕ → Type 0
-IsLine Pack p item text = (f : Filling) × Fits p f × (header f ≡ item) × IsText text (packed f)
-IsLine Unpack p packet text = (f : Filling) × InFronts p packet f × ((front : List ℕ) × IsText front (header f) × (text ≡ front ++ codes " took " ++ decimal (length (packed f))))
+-- For a header, the packed bits of a filling that fits and has it as its item. For a packet, the header of a filling that fits and
+-- whose packed bits are at its front, and how many bits that takes; the header is the whole item. Both are so in every context.
+abbrev pub IsLine : Direction → Resolved → List Bool → List ℕ → Type 0
+IsLine Pack p bits text = (f : Filling) × FitsAlways p f × (item f ≡ header_item bits) × IsText text (packed f)
+IsLine Unpack p packet text = (f : Filling) × ((ctx : Context) → InFronts p.methods p.top ctx packet f) × (item f ≡ header_item (header f))
+    × ((front : List ℕ) × IsText front (header f) × (text ≡ front ++ codes " took " ++ decimal (length (packed f))))
 
 -- a refused item, by its number from 1
 abbrev pub IsItemFault : PackFault → ℕ → List ℕ → Type 0
@@ -86,12 +86,12 @@ IsPacketFault Refused top n text = text ≡ codes "packet " ++ decimal n ++ code
 IsPacketFault OutOfMemory top n text = ⊥
 
 -- the line of a refusal, which is true of the item or the packet
-abbrev pub IsFault : Direction → List ℕ → NormalForm → ℕ → List Bool → List ℕ → Type 0
+abbrev pub IsFault : Direction → List ℕ → Resolved → ℕ → List Bool → List ℕ → Type 0
 IsFault Pack top p n item text = (e : PackFault) × BlamesItem e p item × IsItemFault e n text
 IsFault Unpack top p n packet text = (e : UnpackFault) × Blames e p packet × IsPacketFault e top n text
 
 -- What is printed for items or packets, counted from n: a line for each, up to the first that is refused.
-pub data Prints (direction : Direction) (top : List ℕ) (p : NormalForm) : ℕ → List (List Bool) → Status → List ℕ → Type 0 where
+pub data Prints (direction : Direction) (top : List ℕ) (p : Resolved) : ℕ → List (List Bool) → Status → List ℕ → Type 0 where
   done : {n : ℕ} → Prints direction top p n [] status.Done []
   line : {n : ℕ} {x : List Bool} {xs : List (List Bool)} {s : Status} (text rest : List ℕ) → IsLine direction p x text → Prints direction top p (n + 1) xs s rest
       → Prints direction top p n (x ∷ xs) s (text ++ 10 ∷ rest)
@@ -125,27 +125,35 @@ pub record IsProfileFault (octets : List ℕ) (fault : Fault) (text : List ℕ) 
 abbrev pub cause_line : List ℕ → ProfileFault → List ℕ
 cause_line octets f = profile_line octets f.at.from (profiles.code_of f.kind) (fault_words octets f)
 
+-- The line of the fault for which the octets of a profile have no normal form.
+pub data IsFaultLine (top octets : List ℕ) : List ℕ → Type 0 where
+  -- the octets have no tree
+  text_fault : (fault : Fault) (text : List ℕ) → IsTextFault octets fault → IsProfileFault octets fault text → IsFaultLine top octets text
+  -- their tree has no normal form
+  profile_fault : (fault : ProfileFault) → HasCause octets top fault → IsFaultLine top octets (cause_line octets fault)
+
 -- What is answered to `show`, by the octets of a profile.
 pub data ShownBy (top octets : List ℕ) : Status → List ℕ → Type 0 where
-  -- the octets have no tree
-  text_fault : (fault : Fault) (text : List ℕ) → IsTextFault octets fault → IsProfileFault octets fault text → ShownBy top octets status.Refused (text ++ 10 ∷ [])
-  -- their tree has no normal form
-  profile_fault : (fault : ProfileFault) → HasCause octets top fault → ShownBy top octets status.Refused (cause_line octets fault ++ 10 ∷ [])
+  -- the profile is at fault
+  no_listing : (text : List ℕ) → IsFaultLine top octets text → ShownBy top octets status.Refused (text ++ 10 ∷ [])
   -- the methods, bounds and constraints of the normal form
   listed : (p : Resolved) → Reads octets top p → ShownBy top octets status.Done (listing.shown octets p.methods p.sizes)
+
+-- What is answered in a direction, by a profile and the octets of items or packets.
+pub data AnsweredFor (direction : Direction) (top : List ℕ) (p : Resolved) (input : List ℕ) : Status → List ℕ → Type 0 where
+  -- the profile is outside the fragment
+  outside : (IsFragment p → ⊥) → AnsweredFor direction top p input status.Refused (codes "prove: P3 Limit" ++ 10 ∷ [])
+  -- it is of the fragment, and a line can't be read
+  bad_line : (n : ℕ) → IsFragment p → IsBadLine input n → AnsweredFor direction top p input status.Refused ((input_name direction ++ codes ":" ++ decimal n ++ bad_line_words direction) ++ 10 ∷ [])
+  -- a line for each item or packet
+  answered : {s : Status} {output : List ℕ} (inputs : List (List Bool)) → IsFragment p → HasTexts input inputs → Prints direction top p 1 inputs s output → AnsweredFor direction top p input s output
 
 -- What is answered in a direction, by the octets of a profile and of items or packets.
 pub data AnsweredBy (direction : Direction) (top profile input : List ℕ) : Status → List ℕ → Type 0 where
   -- the profile is at fault
-  at_fault : (fault : Fault) (text : List ℕ) → refusals.IsFault profile top fault → IsProfileFault profile fault text → AnsweredBy direction top profile input status.Refused (text ++ 10 ∷ [])
-  -- the profile is outside the fragment
-  outside : refusals.IsOutside profile top → AnsweredBy direction top profile input status.Refused (codes "prove: P3 Limit" ++ 10 ∷ [])
-  -- the profile is read, and a line can't be
-  bad_line : (p : NormalForm) (n : ℕ) → StandsFor profile top p → IsBadLine input n
-      → AnsweredBy direction top profile input status.Refused (input_name direction ++ codes ":" ++ decimal n ++ bad_line_words direction ++ 10 ∷ [])
-  -- a line for each item or packet, by the profile that the octets stand for
-  answered : {s : Status} {output : List ℕ} (p : NormalForm) (inputs : List (List Bool)) → StandsFor profile top p → HasTexts input inputs
-      → Prints direction top p 1 inputs s output → AnsweredBy direction top profile input s output
+  at_fault : (text : List ℕ) → IsFaultLine top profile text → AnsweredBy direction top profile input status.Refused (text ++ 10 ∷ [])
+  -- by the profile that the octets stand for
+  by_profile : {s : Status} {output : List ℕ} (p : Resolved) → Reads profile top p → AnsweredFor direction top p input s output → AnsweredBy direction top profile input s output
 
 -- What is answered in a direction, by the octets of a profile and the parts.
 pub data AnsweredRun (direction : Direction) (top profile : List ℕ) (parts : Parts) : Status → List ℕ → Type 0 where
@@ -172,6 +180,9 @@ AnswersRun direction top profile parts a = AnsweredRun direction top profile par
 abbrev pub Shows : List ℕ → List ℕ → Answer → Type 0
 Shows top octets a = ShownBy top octets a.status (string_bytes a.output)
 
+abbrev pub AnswersFor : Direction → List ℕ → Resolved → List ℕ → Answer → Type 0
+AnswersFor direction top p input a = AnsweredFor direction top p input a.status (string_bytes a.output)
+
 abbrev pub AnswersBy : Direction → List ℕ → List ℕ → List ℕ → Answer → Type 0
 AnswersBy direction top profile input a = AnsweredBy direction top profile input a.status (string_bytes a.output)
 
@@ -181,6 +192,6 @@ pub record IsRefusal (text : List ℕ) (a : Answer) : Type 0 where
   pub line_is : string_bytes a.output ≡ text ++ 10 ∷ []
 
 -- a line for an item or a packet, or the line of its refusal
-abbrev pub IsPrinted : Direction → List ℕ → NormalForm → ℕ → List Bool → Printed → Type 0
+abbrev pub IsPrinted : Direction → List ℕ → Resolved → ℕ → List Bool → Printed → Type 0
 IsPrinted direction top p n input (printed.Line text) = IsLine direction p input (string_bytes text)
 IsPrinted direction top p n input (printed.Fault text) = IsFault direction top p n input (string_bytes text)

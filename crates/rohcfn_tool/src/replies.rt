@@ -1,17 +1,17 @@
 //! What is printed for an order and the parts of the input.
 
 ghost use Rattle.std.specs.Prelude.{◌≡◌, ◌∷◌, ◌++◌, [], ℕ, List, IfOk, OnOk, codes, decimal, string_bytes};
-ghost use Rattle.fn_fragment.specs.Refusals.{Refuses};
-ghost use Rattle.rohcfn_tool.specs.Printed.{IsPrinted, IsProfileFault, IsRefusal, Prints, Answers, AnswersBy, AnswersRun, input_name, bad_line_words};
+ghost use Rattle.fn_engine.specs.Fragment.{IsFragment};
+ghost use Rattle.rohcfn_tool.specs.Printed.{IsPrinted, IsProfileFault, IsRefusal, Prints, Answers, AnswersBy, AnswersFor, AnswersRun, input_name, bad_line_words};
 
 use crate::inputs::{BadLine, read_inputs};
-use crate::showing::answer_listing;
+use crate::showing::{answer_listing, error_line};
 use crate::status::{Answer, Status};
 use crate::words::{Command, Direction, Order};
 use fn_bits::{Bits, Cursor};
-use fn_engine::{PackFault, Read, UnpackFault, Written, pack, unpack};
-use fn_fragment::{ProfileError, read_profile};
-use fn_model::Profile;
+use fn_engine::{Fragment, PackFault, Read, UnpackFault, Written, pack, unpack};
+use fn_names::Profile;
+use fn_reading::read;
 use fn_source::{Fault, line_column};
 use rohcfn_bundle::Parts;
 use std::alloc::{AllocError, Global};
@@ -74,31 +74,35 @@ fn answer_lines(
 ) -> Result<Answer, AllocError>
     ensures { IfOk result (AnswersBy direction top.now profile.now input.now) }
 {
-    let normal = match read_profile(alloc, profile, top) {
-        Ok(normal) => normal,
-        Err(error) => return profile_refusal(alloc, profile, error),
+    match read(alloc, profile, top.as_bytes()) {
+        Ok(normal) => answer_for(alloc, direction, top, &normal, input),
+        Err(error) => {
+            let line = error_line(alloc, profile, error)?;
+            refusal(alloc, line.as_str())
+        }
+    }
+}
+
+/// The answer in a direction, by a profile and the octets of items or packets.
+fn answer_for(
+    alloc: Global,
+    direction: Direction,
+    top: &str,
+    profile: &Profile,
+    input: &[u8],
+) -> Result<Answer, AllocError>
+    ensures { IfOk result (AnswersFor direction top.now profile.now input.now) }
+{
+    let Some(fragment) = Fragment::of(alloc, profile)? else {
+        return refusal(alloc, "prove: P3 Limit");
     };
     match read_inputs(alloc, input) {
-        Ok(inputs) => print_all(alloc, direction, top, &normal, inputs.as_slice()),
+        Ok(inputs) => print_all(alloc, direction, top, &fragment, inputs.as_slice()),
         Err(BadLine::Number(number)) => {
             let line = bad_line(alloc, direction, number)?;
             refusal(alloc, line.as_str())
         }
         Err(BadLine::OutOfMemory) => Err(AllocError),
-    }
-}
-
-/// The line of a profile that is refused.
-fn profile_refusal(alloc: Global, octets: &[u8], error: ProfileError) -> Result<Answer, AllocError>
-    ensures { (direction : Direction) (top input : List ℕ) → Refuses octets.now top error → IfOk result (AnswersBy direction top octets.now input) }
-{
-    match error {
-        ProfileError::Fault(fault) => {
-            let line = profile_line(alloc, octets, fault)?;
-            refusal(alloc, line.as_str())
-        }
-        ProfileError::Limit => refusal(alloc, "prove: P3 Limit"),
-        ProfileError::OutOfMemory => Err(AllocError),
     }
 }
 
@@ -153,14 +157,14 @@ fn print_all(
     alloc: Global,
     direction: Direction,
     top: &str,
-    profile: &Profile,
+    fragment: &Fragment<'_>,
     inputs: &[Bits],
 ) -> Result<Answer, AllocError>
-    ensures { IfOk result (λ a. Prints direction top.now profile.now 1 inputs.now a.status (string_bytes a.output)) }
+    ensures { IfOk result (λ a. Prints direction top.now fragment.now.profile 1 inputs.now a.status (string_bytes a.output)) }
 {
     let mut output = String::new(alloc);
     for (i, input) in inputs.iter().enumerate() {
-        match print_one(alloc, direction, top, profile, i + 1, input)? {
+        match print_one(alloc, direction, top, fragment, i + 1, input)? {
             Printed::Line(line) => push_line(&mut output, line.as_str())?,
             Printed::Fault(line) => {
                 push_line(&mut output, line.as_str())?;
@@ -189,28 +193,28 @@ fn print_one(
     alloc: Global,
     direction: Direction,
     top: &str,
-    profile: &Profile,
+    fragment: &Fragment<'_>,
     number: usize,
     input: &Bits,
 ) -> Result<Printed, AllocError>
-    ensures { IfOk result (IsPrinted direction top.now profile.now number input.now) }
+    ensures { IfOk result (IsPrinted direction top.now fragment.now.profile number input.now) }
 {
     match direction {
-        Direction::Pack => print_packed(alloc, profile, number, input),
-        Direction::Unpack => print_read(alloc, top, profile, number, input),
+        Direction::Pack => print_packed(alloc, fragment, number, input),
+        Direction::Unpack => print_read(alloc, top, fragment, number, input),
     }
 }
 
 /// The packed bits of an item.
 fn print_packed(
     alloc: Global,
-    profile: &Profile,
+    fragment: &Fragment<'_>,
     number: usize,
     item: &Bits,
 ) -> Result<Printed, AllocError>
-    ensures { (top : List ℕ) → IfOk result (IsPrinted Direction.Pack top profile.now number item.now) }
+    ensures { (top : List ℕ) → IfOk result (IsPrinted Direction.Pack top fragment.now.profile number item.now) }
 {
-    match pack(alloc, profile, item) {
+    match pack(alloc, fragment, item) {
         Ok(Written { packed, filling: _ }) => Ok(Printed::Line(packed.print_text(alloc)?)),
         Err(PackFault::HeaderLength) => {
             Ok(Printed::Fault(format!(in alloc; "item {number}: F1 HeaderLength")?))
@@ -226,22 +230,22 @@ fn print_packed(
 fn print_read(
     alloc: Global,
     top: &str,
-    profile: &Profile,
+    fragment: &Fragment<'_>,
     number: usize,
     packet: &Bits,
 ) -> Result<Printed, AllocError>
-    ensures { IfOk result (IsPrinted Direction.Unpack top.now profile.now number packet.now) }
+    ensures { IfOk result (IsPrinted Direction.Unpack top.now fragment.now.profile number packet.now) }
 {
     let mut cursor = Cursor::new(packet);
-    match unpack(alloc, profile, &mut cursor) {
+    match unpack(alloc, fragment, &mut cursor) {
         Ok(
             Read {
-                item,
+                header,
                 bits,
                 filling: _,
             },
         ) => {
-            let item = item.print_text(alloc)?;
+            let item = header.print_text(alloc)?;
             Ok(Printed::Line(format!(in alloc; "{item} took {bits}")?))
         }
         Err(UnpackFault::Truncated) => {

@@ -3,7 +3,7 @@
 ghost use Rattle.std.specs.Prelude.{◌≡◌, ℕ, List, IfOk, string_bytes};
 ghost use Rattle.fn_reading.specs.Readings.{Refuses};
 ghost use Rattle.fn_show.specs.Shown as listing;
-ghost use Rattle.rohcfn_tool.specs.Printed.{Shows, cause_line};
+ghost use Rattle.rohcfn_tool.specs.Printed.{IsFaultLine, Shows, cause_line};
 
 use crate::replies::{fault_line, profile_line, refusal};
 use crate::status::{Answer, Status};
@@ -27,7 +27,10 @@ pub(crate) fn answer_listing(alloc: Global, top: &str, octets: &[u8]) -> Result<
                 output,
             })
         }
-        Err(error) => listing_refusal(alloc, octets, error),
+        Err(error) => {
+            let line = error_line(alloc, octets, error)?;
+            refusal(alloc, line.as_str())
+        }
     }
 }
 
@@ -38,19 +41,17 @@ fn listing(alloc: Global, octets: &[u8], profile: &Profile) -> Result<String, Al
     show(alloc, octets, profile.methods(), profile.sizes())
 }
 
-/// The line of a profile that has no listing.
-fn listing_refusal(alloc: Global, octets: &[u8], error: ReadError) -> Result<Answer, AllocError>
-    ensures { (top : List ℕ) → Refuses octets.now top error → IfOk result (Shows top octets.now) }
+/// The line of a profile that has no normal form.
+pub(crate) fn error_line(
+    alloc: Global,
+    octets: &[u8],
+    error: ReadError,
+) -> Result<String, AllocError>
+    ensures { (top : List ℕ) → Refuses octets.now top error → IfOk result (λ text. IsFaultLine top octets.now (string_bytes text)) }
 {
     match error {
-        ReadError::Text(fault) => {
-            let line = profile_line(alloc, octets, fault)?;
-            refusal(alloc, line.as_str())
-        }
-        ReadError::Profile(fault) => {
-            let line = cause_line(alloc, octets, &fault)?;
-            refusal(alloc, line.as_str())
-        }
+        ReadError::Text(fault) => profile_line(alloc, octets, fault),
+        ReadError::Profile(fault) => cause_line(alloc, octets, &fault),
         ReadError::OutOfMemory => Err(AllocError),
     }
 }

@@ -1,6 +1,5 @@
-use Rattle.fn_engine.specs.Faults.{IsBlank}
-use Rattle.std.proofs.Common.{take}
+use Rattle.std.proofs.Common.{◌≡◌, length}
 use Rattle.fn_engine.proofs.reader.blank.Given as goal
 
-abbrev pub invariant-loop-field : goal.invariant-loop-field
-invariant-loop-field l = IsBlank (take l.field-index l.fields) l.filled
+abbrev pub invariant-loop-i : goal.invariant-loop-i
+invariant-loop-i l = length l.filled ≡ l._i

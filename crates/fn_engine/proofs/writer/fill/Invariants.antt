@@ -1,5 +1,5 @@
-use Rattle.fn_engine.proofs.Fill.{Filled}
+use Rattle.fn_engine.proofs.Writing.{Written}
 use Rattle.fn_engine.proofs.writer.fill.Given as goal
 
-abbrev pub invariant-loop-field : goal.invariant-loop-field
-invariant-loop-field l = Filled l.profile l.initial.cursor l.cursor l.field-index l.filled
+abbrev pub invariant-loop-i : goal.invariant-loop-i
+invariant-loop-i l = Written l.fragment l.initial.cursor l.cursor l.i l.filled

@@ -4,4 +4,4 @@ use Rattle.rohcfn_tool.proofs.replies.print_all.Given as goal
 
 -- the lines so far, and those for what is left
 abbrev pub invariant-loop-i : goal.invariant-loop-i
-invariant-loop-i l = SoFar l.direction l.top l.profile l.inputs l.i (string_bytes l.output)
+invariant-loop-i l = SoFar l.direction l.top l.fragment.profile l.inputs l.i (string_bytes l.output)

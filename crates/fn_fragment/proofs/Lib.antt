@@ -1,4 +1,0 @@
-pub mod Walks
-pub mod Listing
-pub mod Lacking
-pub mod Refusing

@@ -1,3 +1,0 @@
-pub mod Fragment
-pub mod Meaning
-pub mod Refusals

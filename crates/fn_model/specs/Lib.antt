@@ -1,3 +1,0 @@
-pub mod NormalForm
-pub mod Fillings
-pub mod Fits
