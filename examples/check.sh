@@ -1,5 +1,5 @@
 #!/usr/bin/env bash
-# Runs each example through the built program and compares what it prints; then the cases of faults/.
+# Runs each example through the built program and compares what it prints; then the cases of cases/ and of built.py.
 set -u
 cd "$(dirname "$0")"
 passed=0
@@ -14,5 +14,5 @@ for bundle in *.bundle; do
   fi
 done
 echo "examples: $passed passed, $failed failed"
-./faults.py || failed=1
+./cases.py || failed=1
 [ "$failed" -eq 0 ]

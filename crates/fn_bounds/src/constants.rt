@@ -10,7 +10,7 @@ use sqlite_items::Items;
 use std::alloc::Global;
 
 /// The value of a constant: an expression without attributes and parameters, which has a range and a value. It takes no memory.
-pub fn constant_of(alloc: Global, expr: &Expr) -> Option<i128>
+pub(crate) fn constant_of(alloc: Global, expr: &Expr) -> Option<i128>
     ensures { result ≡ spec.constant expr.now }
 {
     let ranges = no_ranges(alloc);

@@ -1,9 +1,7 @@
 //! Bounds on the lengths of fields, formats and methods, and the ranges of parameters.
 #![tactic(auto)]
 
-pub use constants::constant_of;
 pub use methods::sizes;
-pub use ranging::format_ranges;
 
 mod callers;
 pub mod constants;

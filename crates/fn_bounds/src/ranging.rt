@@ -64,7 +64,7 @@ fn fields_ranges(alloc: Global, sizes: &[Sizes]) -> Result<Items<SideIntervals>,
 }
 
 /// The ranges in a format, from its bounds and from the ranges of the method's parameters.
-pub fn format_ranges(
+pub(crate) fn format_ranges(
     alloc: Global,
     sizes: &FormatSizes,
     parameters: &[Interval],

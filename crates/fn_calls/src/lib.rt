@@ -1,7 +1,7 @@
 //! Graphs of calls: which method reaches which, an order in which a method comes after those that it calls, and what is counted in that order.
 #![tactic(auto)]
 
-pub use ordering::{calls_decide, leads_back, order, rank, ranks_fall, table};
+pub use ordering::{calls_decide, leads_back, order, ranks_fall, table};
 pub use reach::reached;
 pub use weight::{WEIGHT_CAP, weights};
 

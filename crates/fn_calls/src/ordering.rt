@@ -22,7 +22,7 @@ pub fn table(alloc: Global, calls: &[Items<usize>]) -> Result<Items<Items<bool>>
 }
 
 /// How many methods are marked.
-pub fn rank(marks: &[bool]) -> usize
+pub(crate) fn rank(marks: &[bool]) -> usize
     ensures count { result ≡ marked marks.now }
     ensures within { result ≤ length marks.now }
 {

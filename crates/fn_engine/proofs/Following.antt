@@ -26,10 +26,10 @@ use Rattle.fn_filling.specs.declared.filling.FilledField.{FilledField}
 use Rattle.fn_filling.specs.Fillings.{sides_of, inner_of, fields_of, listing_of}
 use Rattle.fn_filling.specs.Entries.{Path, below}
 use Rattle.fn_filling.proofs.Unique.{field_same, also_at}
-use Rattle.fn_fits.specs.Fits.{Context, Fits, FieldFits, format_at, side_of, assigned, method_of, two_values, reference_of}
+use Rattle.fn_fits.specs.Fits.{Context, Fits, FieldFits, format_at, side_of, assigned, method_of, reference_of}
 use Rattle.fn_fits.specs.Fits as fit
 use Rattle.fn_fits.specs.Fronts.{FitsTop}
-use Rattle.fn_fits.proofs.Sized.{one_value, map_some}
+use Rattle.fn_fits.proofs.Sized.{one_value, map_some, two_parts}
 use Rattle.fn_fits.proofs.Inverted.{parts, length-fields}
 use Rattle.fn_holds.proofs.Judged.{placed, fitting}
 use Rattle.fn_holds.proofs.Shapes.{declared_at}
@@ -70,11 +70,6 @@ number_value a (Parameter at i) n e = absurd (cc)
 number_value a (expr.Attribute at t) n e = absurd (cc)
 number_value a (Binary' at op p x q y) n e = absurd (cc)
 
-two_apart : (make : ℤ → ℤ → lib.Method) (o q : Option ℤ) (m : lib.Method) → two_values make o q ≡ Some m → (x : ℤ) × (y : ℤ) × (o ≡ Some x) × (q ≡ Some y) × (make x y ≡ m)
-two_apart make (Some x) (Some y) m e = (x, y, refl, refl, cc)
-two_apart make (Some x) None m e = absurd (cc)
-two_apart make None q m e = absurd (cc)
-
 sent_related : (n : ℕ) (ref : Option (List Bool)) (u c : List Bool) → Lib (lib.irregular (pos n)) ref u c → Related (Sent n) u c
 sent_related n ref u c h =
     let l : length u ≡ n = same_pos (length u) n h.1 in
@@ -94,7 +89,7 @@ related part (library.Irregular len) s side a m ref u c sends is h =
     let method : m ≡ lib.irregular (pos sends.count) = sym one.2 ∙ ap lib.irregular n in
     subst (λ z. Related z u c) (sym sends.step_is) (sent_related sends.count ref u c (subst (λ z. Lib z ref u c) method h))
 related part (library.CompressedValue len value) s side a m ref u c sends is h =
-    let two = two_apart lib.compressed_value (val a len) (val a value) m is in
+    let two = two_parts lib.compressed_value (val a len) (val a value) m is in
     let n : two.0 ≡ sends.count = one_value (val a len) two.0 sends.count two.2 (number_value a len sends.count sends.length_is) in
     let v : two.1 ≡ sends.number = one_value (val a value) two.1 sends.number two.3 (number_value a value sends.number sends.value_is) in
     let method : m ≡ lib.compressed_value sends.count sends.number = sym two.4 ∙ ap (λ z. lib.compressed_value z two.1) n ∙ ap (λ z. lib.compressed_value sends.count z) v in
@@ -163,7 +158,7 @@ unreferred part (library.Irregular len) s side a m ref other u c sends is h =
     let one = map_some lib.irregular (val a len) m is in
     subst (λ z. Lib z other u c) one.2 (subst (λ z. Lib z ref u c) (sym one.2) h)
 unreferred part (library.CompressedValue len value) s side a m ref other u c sends is h =
-    let two = two_apart lib.compressed_value (val a len) (val a value) m is in
+    let two = two_parts lib.compressed_value (val a len) (val a value) m is in
     subst (λ z. Lib z other u c) two.4 (subst (λ z. Lib z ref u c) (sym two.4) h)
 unreferred part (library.UncompressedValue len value) s side a m ref other u c sends is h = absurd sends
 unreferred part library.Static s side a m ref other u c sends is h = absurd sends

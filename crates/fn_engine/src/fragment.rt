@@ -71,7 +71,7 @@ impl<'a> Fragment<'a> {
     }
 
     /// The whole profile.
-    pub fn profile(&self) -> &'a Profile
+    pub(crate) fn profile(&self) -> &'a Profile
         ensures value { result.now ≡ self.now.profile }
         ensures plan { IsPlan self.now }
     {

@@ -27,7 +27,7 @@ pub(crate) const EVERY: Interval = Interval {
 
 impl Interval {
     /// Whether both end points are from `-2^120` to `2^120`.
-    pub fn is_limited(self) -> bool
+    pub(crate) fn is_limited(self) -> bool
         ensures { result ≡ rules.is_limited self }
     {
         is_within(self.from) && is_within(self.to)

@@ -50,7 +50,7 @@ pub map_some : {A B : Type 0} → (f : A → B) (o : Option A) (y : B) → optio
 map_some f None y e = absurd (cc)
 map_some f (Some x) y e = (x, refl, cc)
 
-two_parts : (make : ℤ → ℤ → Method) (o q : Option ℤ) (m : Method) → two_values make o q ≡ Some m → (x : ℤ) × (y : ℤ) × (o ≡ Some x) × (q ≡ Some y) × (make x y ≡ m)
+pub two_parts : (make : ℤ → ℤ → Method) (o q : Option ℤ) (m : Method) → two_values make o q ≡ Some m → (x : ℤ) × (y : ℤ) × (o ≡ Some x) × (q ≡ Some y) × (make x y ≡ m)
 two_parts make (Some x) (Some y) m e = (x, y, refl, refl, cc)
 two_parts make (Some x) None m e = absurd (cc)
 two_parts make None q m e = absurd (cc)

@@ -25,7 +25,7 @@ pub struct Constraints {
 
 /// The constraints of a format's statements: those of UNCOMPRESSED, of CONTROL, of DEFAULT as far as they encode its fields, and its own.
 /// For each field the statement that encodes it is chosen.
-pub fn format_constraints(
+pub(crate) fn format_constraints(
     alloc: Global,
     scope: &Scope<'_, '_>,
     sections: &[Section],

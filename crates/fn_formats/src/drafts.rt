@@ -46,7 +46,7 @@ pub struct Draft<'t> {
 }
 
 /// The parts of the format of a COMPRESSED section, which is the method's section of this number.
-pub fn draft_format<'t>(
+pub(crate) fn draft_format<'t>(
     alloc: Global,
     setting: &Setting<'_, 't>,
     number: usize,

@@ -23,7 +23,7 @@ pub struct Encodings {
 }
 
 /// The encodings of the fields whose encoding statements these are.
-pub fn field_encodings(
+pub(crate) fn field_encodings(
     alloc: Global,
     scope: &Scope<'_, '_>,
     methods: &Methods<'_>,

@@ -13,7 +13,7 @@ use std::alloc::{AllocError, Global};
 use std::str::from_utf8;
 
 /// The fields of a format with their encodings, in field order.
-pub fn joined_fields(
+pub(crate) fn joined_fields(
     alloc: Global,
     setting: &Setting<'_, '_>,
     mentions: &[Mention],

@@ -1,10 +1,10 @@
 //! The formats of a method: their fields with encodings, and their numbered constraints.
 #![tactic(auto)]
 
-pub use constraints::{Constraints, format_constraints};
-pub use drafts::{Draft, Setting, draft_format};
-pub use encodings::{Encodings, fault_of, field_encodings};
-pub use fields::{joined_fields, name_of};
+pub use constraints::Constraints;
+pub use drafts::{Draft, Setting};
+pub use encodings::{Encodings, fault_of};
+pub use fields::name_of;
 pub use formats::{Resolved, section_format};
 
 pub mod constraints;

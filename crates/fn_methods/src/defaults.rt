@@ -17,7 +17,7 @@ use std::alloc::{AllocError, Global};
 use std::slice::from_ref;
 
 /// The earliest fault in the statements of DEFAULT, where a field may be any that some format of the method has.
-pub fn default_fault(
+pub(crate) fn default_fault(
     alloc: Global,
     setting: &Setting<'_, '_>,
 ) -> Result<Option<ProfileFault>, AllocError>

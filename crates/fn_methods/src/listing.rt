@@ -23,7 +23,10 @@ pub struct Formats {
 }
 
 /// The formats of the method of this setting.
-pub fn listed_formats(alloc: Global, setting: &Setting<'_, '_>) -> Result<Formats, AllocError>
+pub(crate) fn listed_formats(
+    alloc: Global,
+    setting: &Setting<'_, '_>,
+) -> Result<Formats, AllocError>
     ensures { IsTable setting.now.text.now (drafts.base setting.now) setting.now.base.now → IsTable setting.now.text.now (drafts.default setting.now) setting.now.default.now → IfOk result (λ all. Judged (spec.AreFormats setting.now 0 setting.now.sections.now all.found) (spec.FormatCause setting.now) all.fault) }
 {
     let mut all = Formats {

@@ -11,7 +11,7 @@ use sqlite_items::Items;
 use std::alloc::{AllocError, Global};
 
 /// The table of the parameters' names.
-pub fn parameter_table<'t>(
+pub(crate) fn parameter_table<'t>(
     alloc: Global,
     text: &'t [u8],
     parameters: &[Span],
@@ -26,7 +26,7 @@ pub fn parameter_table<'t>(
 }
 
 /// The parameters' names in their order.
-pub fn parameter_names(
+pub(crate) fn parameter_names(
     alloc: Global,
     text: &[u8],
     parameters: &[Span],

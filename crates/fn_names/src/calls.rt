@@ -67,7 +67,7 @@ fn push_calls(
 }
 
 /// The calls of a method in the order of the text, by all that its sections bind, INITIAL left out.
-pub fn calls_from(
+pub(crate) fn calls_from(
     alloc: Global,
     text: &[u8],
     methods: &Words<'_>,
@@ -93,7 +93,7 @@ fn callees(alloc: Global, calls: &[CallSite]) -> Result<Items<usize>, AllocError
 }
 
 /// For each method of the file those that it calls.
-pub fn graph(
+pub(crate) fn graph(
     alloc: Global,
     text: &[u8],
     methods: &Words<'_>,

@@ -25,7 +25,11 @@ pub struct Head<'a> {
 
 /// The head of a file, or the fault of the first name that is defined twice; where none is, that of the first constant without
 /// a value.
-pub fn head_of<'a>(alloc: Global, text: &'a [u8], parts: &[Part]) -> Result<Head<'a>, ResolveError>
+pub(crate) fn head_of<'a>(
+    alloc: Global,
+    text: &'a [u8],
+    parts: &[Part],
+) -> Result<Head<'a>, ResolveError>
     ensures tables { IfOk result (λ h. AreTables text.now parts.now h.names.constants h.names.methods) }
     ensures names { IfOk result (λ h. h.constants.names ≡ constant_names text.now parts.now) }
     ensures values { IfOk result (λ h. AreValues text.now (constant_names text.now parts.now) (constants_of parts.now) h.constants.values) }

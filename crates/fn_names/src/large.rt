@@ -24,7 +24,7 @@ pub const WEIGHT_LIMIT: usize = 4096;
 
 /// The earliest fault of sizes: calls deeper than 16 methods from the top, a format of more than 128 fields (of any method),
 /// more than 4,096 fields on all paths from the top.
-pub fn too_large(
+pub(crate) fn too_large(
     alloc: Global,
     parts: &[Part],
     methods: &[Method],

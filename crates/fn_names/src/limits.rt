@@ -18,7 +18,7 @@ pub const DEPTH_LIMIT: usize = 16;
 
 /// The fault of the first method whose depth from the top is one above the limit. Where none is, no chain of calls is longer
 /// than the limit.
-pub fn deep_call(
+pub(crate) fn deep_call(
     alloc: Global,
     parts: &[Part],
     calls: &[Items<usize>],
@@ -35,7 +35,7 @@ pub fn deep_call(
 }
 
 /// For each method how many methods the longest chain of calls from the top to it has, and 0 for one that no chain leads to.
-pub fn depths_from(
+pub(crate) fn depths_from(
     alloc: Global,
     calls: &[Items<usize>],
     order: &[usize],

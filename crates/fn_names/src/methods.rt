@@ -26,7 +26,7 @@ pub struct Drafts {
 }
 
 /// The methods of a file with this head, or the earliest fault in them. The top is a place among the methods, if there is one.
-pub fn resolved_methods(
+pub(crate) fn resolved_methods(
     alloc: Global,
     text: &[u8],
     parts: &[Part],

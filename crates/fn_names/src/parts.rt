@@ -11,7 +11,7 @@ use fn_tree::Part;
 use std::alloc::Global;
 
 /// Whether a library method has this name.
-pub fn is_library(name: &[u8]) -> bool
+pub(crate) fn is_library(name: &[u8]) -> bool
     ensures { result ≡ spec.is_library name.now }
 {
     name == b"uncompressed_value".as_slice()
@@ -31,7 +31,7 @@ pub struct FileNames<'a> {
 
 /// The tables of a file, or the fault of the first name that is defined twice: of constants, of methods, or by a method with a
 /// library method's name.
-pub fn tables<'a>(
+pub(crate) fn tables<'a>(
     alloc: Global,
     text: &'a [u8],
     parts: &[Part],

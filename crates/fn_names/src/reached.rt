@@ -11,7 +11,7 @@ use sqlite_items::Items;
 use std::alloc::{AllocError, Global};
 
 /// The methods with formats for those alone that the top reaches. The formats of the others are let go.
-pub fn reached_methods(
+pub(crate) fn reached_methods(
     alloc: Global,
     methods: Items<Method>,
     top: usize,

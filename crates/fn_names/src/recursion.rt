@@ -25,7 +25,7 @@ pub struct CallOrder {
 }
 
 /// The calls of a file in order, or the fault of the first call that leads back to its caller.
-pub fn ordered(
+pub(crate) fn ordered(
     alloc: Global,
     text: &[u8],
     methods: &Words<'_>,

@@ -16,7 +16,7 @@ fn is_top(text: &[u8], name: &[u8], method: &Method) -> bool
 }
 
 /// The place among the methods of the first one that has the name and no parameters.
-pub fn top(text: &[u8], parts: &[Part], name: &[u8]) -> Option<usize>
+pub(crate) fn top(text: &[u8], parts: &[Part], name: &[u8]) -> Option<usize>
     ensures place { result ≡ position (spec.is_top text.now name.now) (methods_of parts.now) }
     ensures within { IfSome result (λ k. k < length (methods_of parts.now)) }
 {
@@ -39,7 +39,7 @@ fn first_top(text: &[u8], parts: &[Part], name: &[u8]) -> Option<usize>
 }
 
 /// The fault of a file that has no such method.
-pub fn no_top() -> ProfileFault
+pub(crate) fn no_top() -> ProfileFault
     ensures { result ≡ spec.no_top }
 {
     ProfileFault::at(ProfileFaultKind::NoTop, Span { from: 0, to: 0 })

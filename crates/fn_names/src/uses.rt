@@ -38,7 +38,7 @@ fn method_uses(alloc: Global, method: &Method) -> Result<Items<Items<Option<usiz
 }
 
 /// For each method, for each format, for each field the method that encodes it.
-pub fn uses_of(
+pub(crate) fn uses_of(
     alloc: Global,
     methods: &[Method],
 ) -> Result<Items<Items<Items<Option<usize>>>>, AllocError>
@@ -73,7 +73,10 @@ fn used_methods(alloc: Global, method: &Method) -> Result<Items<usize>, AllocErr
 }
 
 /// For each method those that its formats call.
-pub fn used_graph(alloc: Global, methods: &[Method]) -> Result<Items<Items<usize>>, AllocError>
+pub(crate) fn used_graph(
+    alloc: Global,
+    methods: &[Method],
+) -> Result<Items<Items<usize>>, AllocError>
     ensures { IfOk result (λ graph. graph ≡ spec.used_graph methods.now) }
 {
     let mut graph = Items::new(alloc);

@@ -3,12 +3,21 @@
 use fn_bits::lines::lines;
 use fn_bits::{Bits, Cursor, LinesError, TEXT_LIMIT};
 use std::alloc::{AllocError, Global};
+use std::process::Abort;
 use std::test::Fail;
+
+// That a text is read as bits of that value, and printed so.
+fn assert_read(rt: &impl Abort, alloc: Global, row: (&str, &str, u64)) -> Result<(), AllocError> {
+    let (text, printed, value) = row;
+    let bits = Bits::read_text(alloc, text)?.expect(rt, text);
+    assert_eq!(rt; bits.print_text(alloc)?.as_str(), printed);
+    assert_eq!(rt; bits.value(), Some(value), "{text}");
+    Ok(())
+}
 
 #[test]
 fn reads_and_prints_text(rt: HostRuntime) -> Result<(), Fail> {
-    let alloc = rt.alloc();
-    for (text, printed, value) in [
+    for row in [
         ("16:5abc", "16:5abc", 0x5abc),
         ("16:5ABC", "16:5abc", 0x5abc),
         ("15:5abc", "15:5abc", 0x2d5e),
@@ -16,10 +25,13 @@ fn reads_and_prints_text(rt: HostRuntime) -> Result<(), Fail> {
         ("0:", "0:", 0),
         ("64:ffffffffffffffff", "64:ffffffffffffffff", u64::MAX),
     ] {
-        let bits = Bits::read_text(alloc, text)?.expect(&rt, text);
-        assert_eq!(rt; bits.print_text(alloc)?.as_str(), printed);
-        assert_eq!(rt; bits.value(), Some(value), "{text}");
+        assert_read(&rt, rt.alloc(), row)?;
     }
+    Ok(())
+}
+
+#[test]
+fn reads_no_other_text(rt: HostRuntime) -> Result<(), Fail> {
     for text in [
         "",
         ":",
@@ -39,19 +51,25 @@ fn reads_and_prints_text(rt: HostRuntime) -> Result<(), Fail> {
         "00:",
         "16:5abc\n",
     ] {
-        assert!(rt; Bits::read_text(alloc, text)?.is_none(), "{text}");
+        assert!(rt; Bits::read_text(rt.alloc(), text)?.is_none(), "{text}");
     }
-    for (front, digits, is_read) in [("65536:", 16_384, true), ("65537:", 16_386, false)] {
-        let mut text = String::from_str(alloc, front)?;
-        for _ in 0..digits {
-            text.push('0')?;
-        }
-        let read = Bits::read_text(alloc, text.as_str())?;
-        assert_eq!(rt;
-            read.map(|b| b.len()),
-            if is_read { Some(TEXT_LIMIT) } else { None }
-        );
+    Ok(())
+}
+
+// How many bits are read of a text with that front and so many digits.
+fn read_len(alloc: Global, front: &str, digits: usize) -> Result<Option<usize>, AllocError> {
+    let mut text = String::from_str(alloc, front)?;
+    for _ in 0..digits {
+        text.push('0')?;
     }
+    Ok(Bits::read_text(alloc, text.as_str())?.map(|bits| bits.len()))
+}
+
+#[test]
+fn reads_up_to_the_limit(rt: HostRuntime) -> Result<(), Fail> {
+    let most = read_len(rt.alloc(), "65536:", 16_384)?;
+    assert_eq!(rt; most, Some(TEXT_LIMIT));
+    assert_eq!(rt; read_len(rt.alloc(), "65537:", 16_386)?, None);
     Ok(())
 }
 

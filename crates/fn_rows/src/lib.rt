@@ -1,4 +1,4 @@
-//! Tests of bits, texts, trees, expressions, library methods and contexts.
+//! Tests of bits, texts, expressions, library methods and contexts.
 #![tactic(auto)]
 
 #[cfg(test)]
@@ -11,5 +11,3 @@ mod expressions;
 mod library;
 #[cfg(test)]
 mod sources;
-#[cfg(test)]
-mod trees;

@@ -84,10 +84,20 @@ fn knows_values(rt: HostRuntime) -> Result<(), Fail> {
     Ok(())
 }
 
+// That both directions answer the other side.
+fn assert_whole(rt: &impl Abort, alloc: Global, row: (i128, &str, &str)) -> Result<(), Fail> {
+    let (length, side, other) = row;
+    let given = bits(rt, alloc, side)?;
+    let up = irregular_up(alloc, length, &given)?;
+    assert_eq!(rt; shown(alloc, up)?.as_str(), other);
+    let down = irregular_down(alloc, length, &given)?;
+    assert_eq!(rt; shown(alloc, down)?.as_str(), other);
+    Ok(())
+}
+
 #[test]
 fn sends_whole(rt: HostRuntime) -> Result<(), Fail> {
-    let alloc = rt.alloc();
-    for (length, side, other) in [
+    for row in [
         (0, "0:", "0:"),
         (9, "9:a080", "9:a080"),
         (64, ONES, ONES),
@@ -95,39 +105,40 @@ fn sends_whole(rt: HostRuntime) -> Result<(), Fail> {
         (-1, "0:", "none"),
         (65, "65:000000000000000000", "none"),
     ] {
-        let given = bits(&rt, alloc, side)?;
-        assert_eq!(rt;
-            shown(alloc, irregular_up(alloc, length, &given)?)?.as_str(),
-            other
-        );
-        assert_eq!(rt;
-            shown(alloc, irregular_down(alloc, length, &given)?)?.as_str(),
-            other
-        );
+        assert_whole(&rt, rt.alloc(), row)?;
     }
+    Ok(())
+}
+
+// What is read of no bits, and what is sent of the reference itself.
+fn assert_kept(rt: &impl Abort, alloc: Global, row: (&str, &str, &str)) -> Result<(), Fail> {
+    let (kept, up, down) = row;
+    let reference = bits(rt, alloc, kept)?;
+    let empty = Bits::new(alloc);
+    let read = static_up(alloc, Some(&reference), &empty)?;
+    assert_eq!(rt; shown(alloc, read)?.as_str(), up);
+    let sent = static_down(alloc, Some(&reference), &reference);
+    assert_eq!(rt; shown(alloc, sent)?.as_str(), down);
     Ok(())
 }
 
 #[test]
 fn keeps_the_reference(rt: HostRuntime) -> Result<(), Fail> {
-    let alloc = rt.alloc();
-    let empty = Bits::new(alloc);
-    for (kept, up, down) in [
+    for row in [
         ("0:", "0:", "0:"),
         ("9:a080", "9:a080", "0:"),
         (ONES, ONES, "0:"),
         ("65:000000000000000000", "none", "none"),
     ] {
-        let reference = bits(&rt, alloc, kept)?;
-        assert_eq!(rt;
-            shown(alloc, static_up(alloc, Some(&reference), &empty)?)?.as_str(),
-            up
-        );
-        assert_eq!(rt;
-            shown(alloc, static_down(alloc, Some(&reference), &reference))?.as_str(),
-            down
-        );
+        assert_kept(&rt, rt.alloc(), row)?;
     }
+    Ok(())
+}
+
+#[test]
+fn keeps_nothing_else(rt: HostRuntime) -> Result<(), Fail> {
+    let alloc = rt.alloc();
+    let empty = Bits::new(alloc);
     let one = bits(&rt, alloc, "1:80")?;
     assert!(rt; static_up(alloc, None, &empty)?.is_none());
     assert!(rt; static_up(alloc, Some(&one), &one)?.is_none());

@@ -8,7 +8,7 @@ use fn_profile::{ProfileFault, ProfileFaultKind};
 use fn_source::Span;
 
 /// The span that starts later.
-pub fn later(one_span: Span, other: Span) -> Span
+pub(crate) fn later(one_span: Span, other: Span) -> Span
     ensures { result ≡ spec.later one_span other }
 {
     if one_span.from < other.from {
@@ -19,7 +19,7 @@ pub fn later(one_span: Span, other: Span) -> Span
 }
 
 /// What a second statement on a name is.
-pub fn second_kind(first: Mention, second: Mention) -> ProfileFaultKind
+pub(crate) fn second_kind(first: Mention, second: Mention) -> ProfileFaultKind
     ensures { result ≡ spec.second_kind first second }
 {
     if first.section == second.section && first.is_encoded && second.is_encoded {
@@ -30,7 +30,7 @@ pub fn second_kind(first: Mention, second: Mention) -> ProfileFaultKind
 }
 
 /// The fault of a second statement on a name.
-pub fn second_statement(first: Mention, second: Mention) -> ProfileFault
+pub(crate) fn second_statement(first: Mention, second: Mention) -> ProfileFault
     ensures { result ≡ spec.second_statement first second }
 {
     ProfileFault::about(second_kind(first, second), second.name)

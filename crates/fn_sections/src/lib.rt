@@ -2,7 +2,7 @@
 #![tactic(auto)]
 
 pub use fields::{encoding_at, encodings, in_order, listing, mentions_point};
-pub use mention::{Group, Mention, all_listed, encoded, mentions, of_section};
+pub use mention::{Group, Mention, encoded, mentions, of_section};
 pub use names::judge;
 pub use table::Table;
 

@@ -22,7 +22,7 @@ fn defined_before(text: &[u8], table: &Table<'_>, mention: Mention) -> Option<Pr
 }
 
 /// The mentions' first fault of being defined in the table as well.
-pub fn all_defined_before(
+pub(crate) fn all_defined_before(
     text: &[u8],
     table: &Table<'_>,
     mentions: &[Mention],
@@ -49,7 +49,7 @@ fn encoded_before(text: &[u8], table: &Table<'_>, mention: Mention) -> Option<Pr
 }
 
 /// The first fault of the mentions, which give encodings: that the table has one as well.
-pub fn all_encoded_before(
+pub(crate) fn all_encoded_before(
     text: &[u8],
     table: &Table<'_>,
     mentions: &[Mention],
@@ -81,7 +81,7 @@ fn not_found(
 }
 
 /// The first fault of names that are in neither table.
-pub fn all_not_found(
+pub(crate) fn all_not_found(
     text: &[u8],
     table: &Table<'_>,
     more: &Table<'_>,
@@ -113,7 +113,7 @@ fn not_encoded(
 }
 
 /// The first fault of mentions without an encoding, whose names are in neither table.
-pub fn all_not_encoded(
+pub(crate) fn all_not_encoded(
     text: &[u8],
     table: &Table<'_>,
     more: &Table<'_>,
@@ -139,7 +139,11 @@ fn not_kept(text: &[u8], table: &Table<'_>, mention: Mention) -> Option<ProfileF
 }
 
 /// The first fault of mentions with `static` or `lsb` whose names aren't in the table.
-pub fn all_not_kept(text: &[u8], table: &Table<'_>, mentions: &[Mention]) -> Option<ProfileFault>
+pub(crate) fn all_not_kept(
+    text: &[u8],
+    table: &Table<'_>,
+    mentions: &[Mention],
+) -> Option<ProfileFault>
     ensures { result ≡ spec.earliest (spec.not_kept text.now (find_in table.now)) mentions.now }
 {
     let mut found = None;

@@ -163,7 +163,7 @@ pub fn listed(name: Span) -> Mention
 }
 
 /// The names of such a list.
-pub fn all_listed(alloc: Global, names: &[Span]) -> Result<Items<Mention>, AllocError>
+pub(crate) fn all_listed(alloc: Global, names: &[Span]) -> Result<Items<Mention>, AllocError>
     ensures { IfOk result (λ found. found ≡ map spec.listed names.now) }
 {
     let mut found = Items::new(alloc);

@@ -29,7 +29,7 @@ pub struct Lists {
 }
 
 /// The lists of these sections.
-pub fn split(alloc: Global, text: &[u8], sections: &[Section]) -> Result<Lists, AllocError>
+pub(crate) fn split(alloc: Global, text: &[u8], sections: &[Section]) -> Result<Lists, AllocError>
     ensures { IfOk result (λ lists. lists ≡ spec.lists_of text.now sections.now) }
 {
     Ok(Lists {
@@ -41,7 +41,7 @@ pub fn split(alloc: Global, text: &[u8], sections: &[Section]) -> Result<Lists, 
 }
 
 /// A parameter that is a second one of its name, or has a constant's name.
-pub fn judge_parameters(
+pub(crate) fn judge_parameters(
     alloc: Global,
     text: &[u8],
     constants: &Table<'_>,
@@ -68,7 +68,10 @@ fn format_name(section: &Section) -> Option<Mention>
 }
 
 /// The names of a method's formats.
-pub fn format_names(alloc: Global, sections: &[Section]) -> Result<Items<Mention>, AllocError>
+pub(crate) fn format_names(
+    alloc: Global,
+    sections: &[Section],
+) -> Result<Items<Mention>, AllocError>
     ensures { IfOk result (λ names. names ≡ filter_map spec.format_name sections.now) }
 {
     let mut names = Items::new(alloc);
@@ -81,7 +84,7 @@ pub fn format_names(alloc: Global, sections: &[Section]) -> Result<Items<Mention
 }
 
 /// A second encoding in a format or in DEFAULT of a field that has one for all formats.
-pub fn judge_encodings(
+pub(crate) fn judge_encodings(
     alloc: Global,
     text: &[u8],
     lists: &Lists,
@@ -98,7 +101,7 @@ pub fn judge_encodings(
 }
 
 /// A name that must be a header or control field, or a listed one, and isn't.
-pub fn judge_known(
+pub(crate) fn judge_known(
     alloc: Global,
     text: &[u8],
     lists: &Lists,
@@ -114,7 +117,7 @@ pub fn judge_known(
 }
 
 /// A local field with `static` or `lsb`.
-pub fn judge_contexts(
+pub(crate) fn judge_contexts(
     alloc: Global,
     text: &[u8],
     lists: &Lists,
@@ -128,7 +131,7 @@ pub fn judge_contexts(
 }
 
 /// The first mentions, then the second.
-pub fn joined(
+pub(crate) fn joined(
     alloc: Global,
     first: &[Mention],
     second: &[Mention],
@@ -141,7 +144,7 @@ pub fn joined(
 }
 
 /// A second statement on a name in a section for some formats or contexts, or a listed field that has no encoding.
-pub fn judge_section(
+pub(crate) fn judge_section(
     alloc: Global,
     text: &[u8],
     shared: &Table<'_>,
@@ -165,7 +168,7 @@ pub fn judge_section(
 }
 
 /// Such a fault of any section.
-pub fn judge_sections(
+pub(crate) fn judge_sections(
     alloc: Global,
     text: &[u8],
     shared: &Table<'_>,

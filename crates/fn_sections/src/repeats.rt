@@ -10,7 +10,7 @@ use fn_profile::{ProfileFault, word};
 use std::alloc::{AllocError, Global};
 
 /// The first mention of a name that an earlier one has.
-pub fn second(
+pub(crate) fn second(
     alloc: Global,
     text: &[u8],
     mentions: &[Mention],

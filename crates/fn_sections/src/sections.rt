@@ -17,7 +17,7 @@ fn count_in(sections: &[Section], group: Group) -> usize
 }
 
 /// Whether there is one UNCOMPRESSED, and one format or several that are named.
-pub fn are_complete(sections: &[Section]) -> bool
+pub(crate) fn are_complete(sections: &[Section]) -> bool
     ensures { result ≡ spec.are_complete sections.now }
 {
     let formats = count_in(sections, Group::Formats);
@@ -26,7 +26,7 @@ pub fn are_complete(sections: &[Section]) -> bool
 }
 
 /// A method that lacks one UNCOMPRESSED or named formats.
-pub fn incomplete(method: &Method) -> Option<ProfileFault>
+pub(crate) fn incomplete(method: &Method) -> Option<ProfileFault>
     ensures { result ≡ spec.incomplete method.now }
 {
     if are_complete(method.sections.as_slice()) {

@@ -3,7 +3,6 @@
 
 pub use fault_texts::fault_text;
 pub use listing::show;
-pub use places::Places;
 
 pub mod fault_texts;
 pub mod listing;

@@ -26,7 +26,7 @@ fn wrong_count(name: Span) -> ResolveError
 }
 
 /// No arguments, of the method at a name.
-pub fn no_arguments(name: Span, arguments: &[tree::Expr]) -> Result<(), ResolveError>
+pub(crate) fn no_arguments(name: Span, arguments: &[tree::Expr]) -> Result<(), ResolveError>
     ensures means { IfOk result (λ _. spec.AreNone arguments.now) }
     ensures right { IfOk result (λ _. spec.count_fault name 0 arguments.now ≡ None) }
     ensures refused { IfErr result (Refuses (spec.count_fault name 0 arguments.now)) }
@@ -38,7 +38,7 @@ pub fn no_arguments(name: Span, arguments: &[tree::Expr]) -> Result<(), ResolveE
 }
 
 /// One argument, of the method at a name.
-pub fn one_argument(
+pub(crate) fn one_argument(
     alloc: Global,
     scope: &Scope<'_, '_>,
     name: Span,
@@ -55,7 +55,7 @@ pub fn one_argument(
 }
 
 /// Two arguments, of the method at a name.
-pub fn two_arguments(
+pub(crate) fn two_arguments(
     alloc: Global,
     scope: &Scope<'_, '_>,
     name: Span,
@@ -76,7 +76,7 @@ pub fn two_arguments(
 }
 
 /// The arguments of a crc at a name.
-pub fn of_crc(
+pub(crate) fn of_crc(
     alloc: Global,
     scope: &Scope<'_, '_>,
     name: Span,
@@ -124,7 +124,7 @@ fn five(
 }
 
 /// So many arguments, of the method at a name.
-pub fn several(
+pub(crate) fn several(
     alloc: Global,
     scope: &Scope<'_, '_>,
     name: Span,

@@ -50,7 +50,7 @@ fn library(name: &[u8]) -> Option<Callee>
 
 impl<'a> Methods<'a> {
     /// What a name stands for: a library method or one of the file.
-    pub fn callee(&self, name: &[u8]) -> Option<Callee>
+    pub(crate) fn callee(&self, name: &[u8]) -> Option<Callee>
         ensures { result ≡ spec.callee self.now name.now }
     {
         match library(name) {
@@ -63,7 +63,7 @@ impl<'a> Methods<'a> {
     }
 
     /// How many arguments it takes.
-    pub fn arity(&self, callee: Callee) -> usize
+    pub(crate) fn arity(&self, callee: Callee) -> usize
         ensures { result ≡ spec.arity self.now callee }
     {
         match callee {

@@ -7,7 +7,7 @@ pub use enforce::conjuncts;
 pub use scope::Scope;
 pub use table::Constants;
 pub use term::{Kind, Meaning, Term};
-pub use typing::{condition, number, numbers};
+pub use typing::{number, numbers};
 
 pub mod constant;
 pub mod crc_data;

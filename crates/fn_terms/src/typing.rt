@@ -125,7 +125,7 @@ pub fn number(alloc: Global, scope: &Scope<'_, '_>, part: &tree::Expr) -> Result
 }
 
 /// The meaning of an expression where a truth is wanted.
-pub fn condition(
+pub(crate) fn condition(
     alloc: Global,
     scope: &Scope<'_, '_>,
     part: &tree::Expr,

@@ -7,7 +7,7 @@ use crate::tree::{Part, SectionKind};
 use fn_source::Mark;
 
 /// The sections of a method so far, and how many more formats may come.
-#[derive(Clone, Copy, Debug, PartialEq, Eq)]
+#[derive(Clone, Copy)]
 pub struct Seen {
     pub control: bool,
     pub initial: bool,
@@ -16,14 +16,14 @@ pub struct Seen {
 }
 
 /// How many more parts may come.
-#[derive(Clone, Copy, Debug, PartialEq, Eq)]
+#[derive(Clone, Copy)]
 pub struct Tally {
     pub constants_left: usize,
     pub methods_left: usize,
 }
 
 /// Whether the word begins a section that may stand only once, and is there.
-pub fn is_repeated(word: Mark, seen: Seen) -> bool
+pub(crate) fn is_repeated(word: Mark, seen: Seen) -> bool
     ensures { result ≡ spec.is_repeated word seen }
 {
     match word {
@@ -35,7 +35,7 @@ pub fn is_repeated(word: Mark, seen: Seen) -> bool
 }
 
 /// With one more section.
-pub fn with_section(kind: SectionKind, seen: Seen) -> Seen
+pub(crate) fn with_section(kind: SectionKind, seen: Seen) -> Seen
     ensures { result ≡ spec.with_section kind seen }
 {
     match kind {
@@ -60,7 +60,7 @@ pub fn with_section(kind: SectionKind, seen: Seen) -> Seen
 }
 
 /// With one more part.
-pub fn with_part(part: &Part, tally: Tally) -> Tally
+pub(crate) fn with_part(part: &Part, tally: Tally) -> Tally
     ensures { result ≡ spec.with_part part.now tally }
 {
     match part {

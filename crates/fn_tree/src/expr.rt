@@ -25,14 +25,14 @@ const MOST_NESTING: usize = 64;
 const MOST_OPERATORS: usize = 256;
 
 /// An expression, and the progress after it.
-#[derive(Debug, Drop)]
+#[derive(Drop)]
 pub struct Counted {
     pub expr: Expr,
     pub after: Progress,
 }
 
 /// From the start of the one to the end of the other.
-pub fn cover(first: Span, last: Span) -> Span
+pub(crate) fn cover(first: Span, last: Span) -> Span
     ensures { result ≡ spans.cover first last }
 {
     Span {
@@ -346,7 +346,7 @@ fn operations(
 
 /// A whole expression.
 #[tactic(auto, unfolding(crate::specs::Expr::whole))]
-pub fn whole(alloc: Global, tokens: &mut Tokens<'_>) -> Result<Expr, ParseError>
+pub(crate) fn whole(alloc: Global, tokens: &mut Tokens<'_>) -> Result<Expr, ParseError>
     ensures { Reads (spec.whole all tokens.old) result tokens.new }
 {
     let start = Progress {

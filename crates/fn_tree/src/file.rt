@@ -26,7 +26,7 @@ const MOST_PARAMETERS: usize = 32;
 const MOST_FORMATS: usize = 64;
 
 /// The first words of a section.
-#[derive(Clone, Copy, Debug, PartialEq, Eq)]
+#[derive(Clone, Copy)]
 pub struct Head {
     pub word: Span,
     pub kind: SectionKind,
@@ -281,7 +281,7 @@ fn part(alloc: Global, tokens: &mut Tokens<'_>, tally: Tally) -> Result<Part, Pa
     }
 }
 
-pub fn parts(alloc: Global, tokens: &mut Tokens<'_>) -> Result<Items<Part>, ParseError>
+pub(crate) fn parts(alloc: Global, tokens: &mut Tokens<'_>) -> Result<Items<Part>, ParseError>
     ensures { Reads (spec.parts all tokens.old) result tokens.new }
 {
     let mut found = Items::new(alloc);

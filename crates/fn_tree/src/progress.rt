@@ -7,7 +7,7 @@ use crate::tree::Operator;
 use fn_source::{Kind, Mark, Span};
 
 /// The integer operators of a sum so far.
-#[derive(Clone, Copy, Debug, PartialEq, Eq)]
+#[derive(Clone, Copy)]
 pub enum Sum {
     Empty,
     /// Some, and none is `%`.
@@ -17,7 +17,7 @@ pub enum Sum {
 }
 
 /// The operators so far: of the whole expression, and of the sum.
-#[derive(Clone, Copy, Debug, PartialEq, Eq)]
+#[derive(Clone, Copy)]
 pub struct Progress {
     pub operators: usize,
     pub sum: Sum,
@@ -59,7 +59,7 @@ fn operator_of(mark: Mark) -> Option<Operator>
 }
 
 /// The operator of the tier that the token is.
-pub fn operator(tier: usize, next: Option<Kind>) -> Option<Operator>
+pub(crate) fn operator(tier: usize, next: Option<Kind>) -> Option<Operator>
     ensures { result ≡ spec.operator tier next }
 {
     match next {
@@ -82,7 +82,7 @@ fn is_integer(operator: Operator) -> bool
 }
 
 /// Whether the operator is a `%` after others.
-pub fn is_late(operator: Operator, sum: Sum) -> bool
+pub(crate) fn is_late(operator: Operator, sum: Sum) -> bool
     ensures { result ≡ spec.is_late operator sum }
 {
     match operator {
@@ -95,7 +95,7 @@ pub fn is_late(operator: Operator, sum: Sum) -> bool
 }
 
 /// Whether the operator is an integer operator after a `%`.
-pub fn follows(operator: Operator, sum: Sum) -> bool
+pub(crate) fn follows(operator: Operator, sum: Sum) -> bool
     ensures { result ≡ spec.follows operator sum }
 {
     match sum {
@@ -138,7 +138,7 @@ fn after(operator: Operator, at: Span, sum: Sum) -> Sum
 }
 
 /// The progress after an operator at its place.
-pub fn step(operator: Operator, at: Span, progress: Progress) -> Progress
+pub(crate) fn step(operator: Operator, at: Span, progress: Progress) -> Progress
     requires { progress.operators < 2 ^ 32 }
     ensures { result ≡ spec.step operator at progress }
 {
@@ -149,7 +149,7 @@ pub fn step(operator: Operator, at: Span, progress: Progress) -> Progress
 }
 
 /// In round brackets another sum begins.
-pub fn inside(progress: Progress) -> Progress
+pub(crate) fn inside(progress: Progress) -> Progress
     ensures { result ≡ spec.inside progress }
 {
     Progress {
@@ -159,7 +159,7 @@ pub fn inside(progress: Progress) -> Progress
 }
 
 /// After round brackets the sum goes on.
-pub fn outside(before: Progress, after: Progress) -> Progress
+pub(crate) fn outside(before: Progress, after: Progress) -> Progress
     ensures { result ≡ spec.outside before after }
 {
     Progress {

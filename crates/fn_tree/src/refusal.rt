@@ -4,21 +4,21 @@ use fn_source::{FaultKind, Span};
 use std::alloc::{AllocError, AllocFailed};
 
 /// A token, or the end of the text.
-#[derive(Clone, Copy, Debug, PartialEq, Eq)]
+#[derive(Clone, Copy)]
 pub enum Place {
     At(Span),
     End,
 }
 
 /// A fault at its place.
-#[derive(Clone, Copy, Debug, PartialEq, Eq)]
+#[derive(Clone, Copy)]
 pub struct Refusal {
     pub kind: FaultKind,
     pub at: Place,
 }
 
 /// Why there is no tree.
-#[derive(Clone, Copy, Debug, PartialEq, Eq)]
+#[derive(Clone, Copy)]
 pub enum ParseError {
     Memory,
     Refused(Refusal),

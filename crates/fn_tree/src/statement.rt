@@ -22,21 +22,21 @@ const MOST_VALUES: usize = 32;
 const MOST_STATEMENTS: usize = 128;
 
 /// Whether as many are there as may be.
-pub fn is_full(most: usize, count: usize) -> bool
+pub(crate) fn is_full(most: usize, count: usize) -> bool
     ensures { result ≡ rules.is_full all most count }
 {
     most <= count
 }
 
 /// Whether no more may come.
-pub fn is_out(left: usize) -> bool
+pub(crate) fn is_out(left: usize) -> bool
     ensures { result ≡ rules.is_out all left }
 {
     left == 0
 }
 
 #[tactic(auto, unfolding(crate::specs::File::name))]
-pub fn name(tokens: &mut Tokens<'_>) -> Result<Span, ParseError>
+pub(crate) fn name(tokens: &mut Tokens<'_>) -> Result<Span, ParseError>
     ensures { Reads (spec.name tokens.old) result tokens.new }
 {
     match tokens.peek() {
@@ -45,7 +45,7 @@ pub fn name(tokens: &mut Tokens<'_>) -> Result<Span, ParseError>
     }
 }
 
-pub fn is_name(next: Option<Kind>) -> bool
+pub(crate) fn is_name(next: Option<Kind>) -> bool
     ensures { result ≡ spec.is_name next }
 {
     match next {
@@ -308,7 +308,7 @@ fn statement(
 }
 
 /// The statements of a section; INITIAL and DEFAULT hold bound fields alone.
-pub fn statements(
+pub(crate) fn statements(
     alloc: Global,
     tokens: &mut Tokens<'_>,
     only_bound: bool,

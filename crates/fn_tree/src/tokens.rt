@@ -29,14 +29,14 @@ impl<'a> Model for Tokens<'a> {
 }
 
 impl<'a> Tokens<'a> {
-    pub fn new(rest: &'a [Token]) -> Tokens<'a>
+    pub(crate) fn new(rest: &'a [Token]) -> Tokens<'a>
         ensures { result ≡ rest.now }
     {
         Tokens { rest }
     }
 
     /// The kind of the next token.
-    pub fn peek(&self) -> Option<Kind>
+    pub(crate) fn peek(&self) -> Option<Kind>
         ensures { result ≡ spec.kind_at self.now }
     {
         match self.rest {
@@ -55,7 +55,7 @@ impl<'a> Tokens<'a> {
     }
 
     /// A fault at the next token.
-    pub fn stops(&self, kind: FaultKind) -> ParseError
+    pub(crate) fn stops(&self, kind: FaultKind) -> ParseError
         ensures { result ≡ ParseError.Refused (spec.refusal_of kind (spec.place self.now)) }
     {
         ParseError::Refused(Refusal {
@@ -65,14 +65,14 @@ impl<'a> Tokens<'a> {
     }
 
     /// Why no rule reads the next token.
-    pub fn refusal(&self) -> ParseError
+    pub(crate) fn refusal(&self) -> ParseError
         ensures { result ≡ ParseError.Refused (spec.refusal_of kinds.Unexpected (spec.place self.now)) }
     {
         self.stops(FaultKind::Unexpected)
     }
 
     /// Takes the next token, whatever it is.
-    pub fn take(&mut self) -> Result<Span, ParseError>
+    pub(crate) fn take(&mut self) -> Result<Span, ParseError>
         ensures { Reads (spec.take self.old) result self.new }
     {
         match self.rest {
@@ -85,13 +85,13 @@ impl<'a> Tokens<'a> {
         }
     }
 
-    pub fn has_more(&self) -> bool
+    pub(crate) fn has_more(&self) -> bool
         ensures { result ≡ spec.is_there (spec.kind_at self.now) }
     {
         !self.rest.is_empty()
     }
 
-    pub fn sees(&self, mark: Mark) -> bool
+    pub(crate) fn sees(&self, mark: Mark) -> bool
         ensures { result ≡ spec.is_next mark (spec.kind_at self.now) }
     {
         match self.rest {
@@ -101,7 +101,7 @@ impl<'a> Tokens<'a> {
     }
 
     /// Takes this mark.
-    pub fn expect(&mut self, mark: Mark) -> Result<Span, ParseError>
+    pub(crate) fn expect(&mut self, mark: Mark) -> Result<Span, ParseError>
         ensures { Reads (spec.expect mark self.old) result self.new }
     {
         if self.sees(mark) {
@@ -113,7 +113,7 @@ impl<'a> Tokens<'a> {
 }
 
 /// A fault at an earlier place.
-pub fn stops_at(kind: FaultKind, at: Span) -> ParseError
+pub(crate) fn stops_at(kind: FaultKind, at: Span) -> ParseError
     ensures { result ≡ ParseError.Refused (spec.refusal_of kind (Place.At at)) }
 {
     ParseError::Refused(Refusal {

@@ -1,19 +1,5 @@
-//! Tests that cross the crates: whole inputs through the program.
+//! Tests of a run of the program over readers and writers.
 #![tactic(auto)]
 
 #[cfg(test)]
-mod faults;
-#[cfg(test)]
-mod limits;
-#[cfg(test)]
-mod rows;
-#[cfg(test)]
-mod running;
-#[cfg(test)]
-mod samples;
-#[cfg(test)]
-mod show;
-#[cfg(test)]
 mod streams;
-#[cfg(test)]
-mod trees;

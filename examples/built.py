@@ -1,0 +1,131 @@
+"""Cases that are built by repetition: the limits, at and above them, and the fronts of a profile.
+
+The places are counted here from the parts that the text is built of, by docs/FORMATS.md; none is taken from the program."""
+import re
+
+PLAIN = b"plain\n{\n  UNCOMPRESSED { a [4]; b [12]; }\n  COMPRESSED {\n    d =:= '10' [2];\n    a =:= irregular(4) [4];\n    b =:= irregular(12) [12];\n  }\n}\n"
+
+TICK = """tick
+{
+  UNCOMPRESSED {
+    sn [8];
+  }
+  COMPRESSED short {
+    d =:= '0' [1];
+    sn =:= lsb(4, 1) [4];
+    c =:= crc(3, 0x06, 0x07, THIS.UVALUE, THIS.ULENGTH) [3];
+  }
+  COMPRESSED full {
+    d =:= '1' [1];
+    sn =:= irregular(8) [8];
+  }
+}
+"""
+
+NO_TOP = b"profile:1:1: E27 no such top method without parameters\n"
+
+NO_SECTIONS = b"profile:1:1: E29 method m lacks one UNCOMPRESSED or named formats\n"
+
+AT_THE_END = b"profile:2:1: E10 unexpected token\n"
+
+
+def bundle(words, profile, part=b""):
+    """The command words, a profile and a part with its heading."""
+    return b"=== words\n" + words + b"\n=== profile\n" + profile + part
+
+
+def shows(text):
+    """`show` of the method m of a text of one line."""
+    return bundle(b"show --top m", text.encode() + b"\n")
+
+
+def fault(text, code, words):
+    """The fault line of what stands right after the text."""
+    return ("profile:1:%d: %s %s\n" % (len(text) + 1, code, words)).encode()
+
+
+def too_many(text):
+    """The fault line of a part too many right after the text."""
+    return fault(text, "E15", "too many parts")
+
+
+def counted(name, most, first, part, last, answer, status=1):
+    """A text with as many parts as may be, and one with one more: its fault stands at the part too many. A part is told by its number."""
+    parts = [part(number) for number in range(most + 1)]
+    front = first + "".join(parts[:most])
+    yield "%s: %d" % (name, most), shows(front + last), status, answer(first, parts[0])
+    yield "%s: %d" % (name, most + 1), shows(front + parts[most] + last), 1, too_many(front + ("," if parts[most].startswith(",") else ""))
+
+
+def counts():
+    """The counts of parts. Without sections, a method lacks them; without methods, there is no top."""
+    no_sections = lambda first, part: NO_SECTIONS
+    no_top = lambda first, part: NO_TOP
+    listed = lambda number: ",1" if number else "1"
+    yield from counted("operators", 256, "K = 1", lambda number: "+1", ";", no_top)
+    yield from counted("parameters", 32, "m(", lambda number: (",p%d" if number else "p%d") % number, ") { }", no_sections)
+    yield from counted("statements of DEFAULT", 128, "m { DEFAULT { ", lambda number: "f%d =:= static; " % number, "} }", no_sections)
+    yield from counted("formats", 64, "m { ", lambda number: "COMPRESSED { } ", "}", no_sections)
+    yield from counted("methods", 128, "", lambda number: "m%s { } " % (number or ""), "", no_sections)
+    yield from counted("constants", 1024, "", lambda number: "K%d = 1; " % number, "", no_top)
+    header = "m { UNCOMPRESSED { x ["
+    bracket = lambda first, part: ("method m\nformat - least 1 most 1\n0 1:%d\n" % len(header)).encode()
+    yield from counted("expressions of a bracket", 32, header, listed, "]; } COMPRESSED { x =:= irregular(1); } }", bracket, 0)
+    call = "m { UNCOMPRESSED { x [1]; } COMPRESSED { x =:= irregular("
+    arguments = lambda first, part: fault(call[: -len("irregular(")], "E22", "wrong number of arguments for irregular")
+    yield from counted("arguments", 32, call, listed, "); } }", arguments)
+
+
+def nestings():
+    """Brackets and negations, 64 and 65 deep."""
+    for mark in "(!":
+        yield "64 deep: %s" % mark, shows("K = " + mark * 64), 1, AT_THE_END
+        yield "65 deep: %s" % mark, shows("K = " + mark * 65), 1, fault("K = " + mark * 64, "E11", "nesting is above 64")
+
+
+def fields(count):
+    """A profile of so many header fields of one bit, each listed."""
+    header = "".join("f%d [1];\n" % number for number in range(count))
+    listed = "".join("f%d =:= irregular(1) [1];\n" % number for number in range(count))
+    return ("many {\n UNCOMPRESSED {\n%s }\n COMPRESSED {\n%s }\n}\n" % (header, listed)).encode()
+
+
+def packed():
+    """Statements and bits of what is packed. The 129th statement stands on line 131: two lines come before the first."""
+    item = b"128:0123456789abcdef0123456789abcdef\n"
+    items = b"=== items\n" + item
+    yield "128 statements", bundle(b"pack --top many", fields(128), items), 0, item
+    yield "129 statements", bundle(b"pack --top many", fields(129), items), 1, b"profile:131:1: E15 too many parts\n"
+    for bits, answer in [(4096, b"item 1: F3 NoFormat\n"), (4097, b"item 1: F1 HeaderLength\n")]:
+        items = b"=== items\n%d:%s\n" % (bits, b"00" * ((bits + 7) // 8))
+        yield "a header of %d bits" % bits, bundle(b"pack --top plain", PLAIN, items), 1, answer
+
+
+def long_inputs():
+    """A profile of 1 MiB and an input of 4 MiB, and one octet more."""
+    mebibyte = 1 << 20
+    for count, answer in [(mebibyte, NO_TOP), (mebibyte + 1, b"profile:1:1: E04 text is above 1 MiB\n")]:
+        profile = b" " * (count - 1) + b"\n"
+        yield "a profile of %d octets" % count, bundle(b"pack --top plain", profile, b"=== items\n"), 1, answer
+    for count, answer in [(4 * mebibyte, b"bundle: I4 bad part -\n"), (4 * mebibyte + 1, b"bundle: I6 above 4 MiB\n")]:
+        yield "%d octets" % count, b" " * count, 1, answer
+
+
+def fronts():
+    """Each front of the 77 tokens of `tick`, alone and followed by the word INITIAL. A section may begin after the tokens `tick {` and after each
+    of the three sections, which end at the tokens 10, 55 and 76."""
+    tokens = re.findall(r"\w+|'[01]*'|=:=|\S", TICK)
+    assert len(tokens) == 77
+    for count in range(78):
+        front = " ".join(tokens[:count])
+        if count < 77:
+            yield "%d tokens" % count, shows(front), 1, AT_THE_END if count else NO_TOP
+        goes_on = count in (2, 10, 55, 76)
+        front += " " if front else ""
+        yield "INITIAL after %d tokens" % count, shows(front + "INITIAL"), 1, AT_THE_END if goes_on else fault(front, "E10", "unexpected token")
+
+
+def cases():
+    """Name, bundle, status and output of each."""
+    for part in (counts, nestings, packed, long_inputs, fronts):
+        yield from part()

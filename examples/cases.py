@@ -1,0 +1,57 @@
+#!/usr/bin/env python3
+"""Runs the cases of cases/ and of built.py through the built program, and compares what it prints and its status.
+
+A file of cases holds, for each, a line `=== case NAME`, a bundle, a line `=== answer STATUS` and what the program prints. With the word `cut`
+after the status the bundle's last line feed is left out. The values follow from docs/NOTATION.md, docs/FORMATS.md and docs/DECISIONS.md; none
+is taken from the program."""
+import pathlib
+import subprocess
+import sys
+
+import built
+
+HERE = pathlib.Path(__file__).parent
+PROGRAM = HERE.parent / "bin" / "rohcfn"
+
+
+def stored(path):
+    """Name, bundle, status and output of each case of a file."""
+    for block in (b"\n" + path.read_bytes()).split(b"\n=== case ")[1:]:
+        name, rest = block.split(b"\n", 1)
+        bundle, rest = (b"\n" + rest).split(b"\n=== answer ", 1)
+        head, _, output = rest.partition(b"\n")
+        status, *cut = head.split(b" ")
+        bundle = bundle[1:] if cut == [b"cut"] else bundle[1:] + b"\n"
+        lines = output.rstrip(b"\n")
+        yield name.decode(), bundle, int(status), lines + b"\n" if lines else b""
+
+
+def cases():
+    """All cases: the stored ones, then those that are built by repetition."""
+    for path in sorted(HERE.glob("cases/*.cases")):
+        for name, bundle, status, output in stored(path):
+            yield "%s: %s" % (path.name, name), bundle, status, output
+    for name, bundle, status, output in built.cases():
+        yield "built: %s" % name, bundle, status, output
+
+
+def passes(bundle, status, output):
+    """Whether the program answers the bundle so."""
+    run = subprocess.run([PROGRAM], input=bundle, stdout=subprocess.PIPE, stderr=subprocess.DEVNULL, check=False)
+    return run.stdout == output and run.returncode == status
+
+
+def main():
+    passed, failed = 0, 0
+    for name, bundle, status, output in cases():
+        if passes(bundle, status, output):
+            passed += 1
+        else:
+            failed += 1
+            print("%s: output or status differs" % name)
+    print("cases: %d passed, %d failed" % (passed, failed))
+    return 1 if failed or not passed else 0
+
+
+if __name__ == "__main__":
+    sys.exit(main())
