@@ -4,9 +4,8 @@ ghost use Rattle.std.specs.Prelude.{◌≡◌, ◌++◌, ◌∷◌, map, None, L
 ghost use Rattle.fn_sections.specs.Causes.{earliest};
 ghost use Rattle.fn_formats.specs.Constraints as spec;
 
-use crate::encodings::fault_of;
 use fn_expr::Side;
-use fn_profile::{Constraint, ProfileFault, earlier};
+use fn_profile::{Constraint, ProfileFault, earlier, fault_of};
 use fn_sections::mention::is_in;
 use fn_sections::{Group, Mention};
 use fn_statements::section_constraints;

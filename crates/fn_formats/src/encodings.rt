@@ -7,7 +7,7 @@ ghost use Rattle.fn_terms.specs.Judged.{Refuses};
 ghost use Rattle.fn_sections.specs.Causes.{earliest};
 ghost use Rattle.fn_formats.specs.Encodings as spec;
 
-use fn_profile::{Encoding, ProfileFault, ResolveError, earlier};
+use fn_profile::{Encoding, ProfileFault, ResolveError, earlier, fault_of};
 use fn_sections::{Mention, encoding_at};
 use fn_statements::{Methods, encoding};
 use fn_terms::Scope;
@@ -42,16 +42,6 @@ pub(crate) fn field_encodings(
         }
     }
     Ok(Encodings { found, fault })
-}
-
-/// The fault of an error, unless it is want of memory.
-pub fn fault_of(error: ResolveError) -> Result<ProfileFault, AllocError>
-    ensures { IfOk result (λ f. error ≡ ResolveError.Fault f) }
-{
-    match error {
-        ResolveError::Fault(fault) => Ok(fault),
-        ResolveError::OutOfMemory => Err(AllocError),
-    }
 }
 
 fn field_encoding(

@@ -3,7 +3,7 @@
 
 pub use constraints::Constraints;
 pub use drafts::{Draft, Setting};
-pub use encodings::{Encodings, fault_of};
+pub use encodings::Encodings;
 pub use fields::name_of;
 pub use formats::{Resolved, section_format};
 

@@ -6,8 +6,7 @@ ghost use Rattle.fn_given.specs.Asked as spec;
 ghost use Rattle.fn_given.specs.Enforced.{set_names, with_words, set_by_items};
 
 use crate::enforced::add_set_names;
-use crate::initial::fault_in;
-use fn_profile::{Words, word};
+use fn_profile::{Words, fault_of, word};
 use fn_source::Span;
 use fn_terms::{Scope, constant_value};
 use fn_tree::{Bracket, Expr, Item, Section, SectionKind};
@@ -148,7 +147,7 @@ fn asked_field(
     match constant_value(alloc, scope, length) {
         Ok(_) => Ok(Some(name)),
         Err(error) => {
-            let _fault = fault_in(error)?;
+            let _fault = fault_of(error)?;
             Ok(None)
         }
     }

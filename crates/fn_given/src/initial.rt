@@ -4,7 +4,7 @@ ghost use Rattle.std.specs.Prelude.{◌≡◌, ◌∷◌, [], IfOk, OnOk};
 ghost use Rattle.fn_given.specs.Initials as spec;
 
 use fn_bits::Bits;
-use fn_profile::{ProfileFault, ResolveError, Words, earlier, word};
+use fn_profile::{ProfileFault, Words, earlier, fault_of, word};
 use fn_statements::initial_bits;
 use fn_terms::Scope;
 use fn_tree::{Bound, Item, Section, SectionKind};
@@ -82,7 +82,7 @@ fn read_bound<'t>(
     match initial_bits(alloc, scope, bound) {
         Ok(bits) => keep(word(text, bound.name), bits, initials),
         Err(error) => {
-            let fault = fault_in(error)?;
+            let fault = fault_of(error)?;
             initials.fault = earlier(initials.fault, Some(fault));
             Ok(())
         }
@@ -97,14 +97,4 @@ fn keep<'t>(name: &'t [u8], bits: Bits, initials: &mut Initials<'t>) -> Result<(
         initials.values.push(bits)?;
     }
     Ok(())
-}
-
-/// The fault that an error tells.
-pub(crate) fn fault_in(error: ResolveError) -> Result<ProfileFault, AllocError>
-    ensures { IfOk result (λ f. error ≡ ResolveError.Fault f) }
-{
-    match error {
-        ResolveError::Fault(fault) => Ok(fault),
-        ResolveError::OutOfMemory => Err(AllocError),
-    }
 }

@@ -6,8 +6,8 @@ ghost use Rattle.fn_sections.specs.Tables.{IsTable};
 ghost use Rattle.fn_methods.specs.Defaults as spec;
 
 use fn_expr::Side;
-use fn_formats::{Setting, fault_of};
-use fn_profile::{ProfileFault, earlier};
+use fn_formats::Setting;
+use fn_profile::{ProfileFault, earlier, fault_of};
 use fn_sections::mention::is_in;
 use fn_sections::{Group, Table, mentions};
 use fn_statements::{Methods, encoding, section_constraints};

@@ -1,6 +1,6 @@
 //! What stands in the way of a profile whose text has a tree.
 
-ghost use Rattle.std.specs.Prelude.{◌≡◌};
+ghost use Rattle.std.specs.Prelude.{◌≡◌, IfOk};
 ghost use Rattle.fn_profile.specs.Faults as spec;
 
 use fn_source::Span;
@@ -165,5 +165,15 @@ impl<T: Drop> From<AllocFailed<T>> for ResolveError {
 
     fn from(_error: AllocFailed<T>) -> ResolveError {
         ResolveError::OutOfMemory
+    }
+}
+
+/// The fault of an error, unless it is want of memory.
+pub fn fault_of(error: ResolveError) -> Result<ProfileFault, AllocError>
+    ensures { IfOk result (λ f. error ≡ ResolveError.Fault f) }
+{
+    match error {
+        ResolveError::Fault(fault) => Ok(fault),
+        ResolveError::OutOfMemory => Err(AllocError),
     }
 }

@@ -1,7 +1,7 @@
 //! Resolved profiles: what the notation makes of a profile's text.
 #![tactic(auto)]
 
-pub use fault::{ProfileFault, ProfileFaultKind, ResolveError};
+pub use fault::{ProfileFault, ProfileFaultKind, ResolveError, fault_of};
 pub use judging::earlier;
 pub use name::Name;
 pub use profile::{

@@ -101,17 +101,17 @@ fn five(
     bits: &tree::Expr,
     polynomial: &tree::Expr,
     initial: &tree::Expr,
-    data: &tree::Expr,
+    covered: &tree::Expr,
     length: &tree::Expr,
 ) -> Result<CrcArguments, ResolveError>
-    ensures means { IfOk result (spec.AreFive scope.now bits.now polynomial.now initial.now data.now length.now) }
-    ensures right { IfOk result (λ _. spec.five_fault scope.now bits.now polynomial.now initial.now data.now length.now ≡ None) }
-    ensures refused { IfErr result (Refuses (spec.five_fault scope.now bits.now polynomial.now initial.now data.now length.now)) }
+    ensures means { IfOk result (spec.AreFive scope.now bits.now polynomial.now initial.now covered.now length.now) }
+    ensures right { IfOk result (λ _. spec.five_fault scope.now bits.now polynomial.now initial.now covered.now length.now ≡ None) }
+    ensures refused { IfErr result (Refuses (spec.five_fault scope.now bits.now polynomial.now initial.now covered.now length.now)) }
 {
     let bits = number(alloc, scope, bits)?;
     let polynomial = number(alloc, scope, polynomial)?;
     let initial = number(alloc, scope, initial)?;
-    let data = data_of(alloc, scope, data)?;
+    let data = data_of(alloc, scope, covered)?;
     let length = number(alloc, scope, length)?;
     Ok(CrcArguments {
         bits,
