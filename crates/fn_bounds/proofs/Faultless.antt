@@ -18,18 +18,19 @@ use Rattle.fn_expr.specs.Inputs.{inputs_of, condition_inputs_of}
 use Rattle.fn_expr.specs.Ranged.{Bounding, ranged, fault_in, first_fault}
 use Rattle.fn_expr.specs.Spread.{AreAccepted}
 use Rattle.fn_expr.specs.Bounds.{bounding_of}
-use Rattle.fn_profile.specs.declared.profile.FormatSizes.{FormatSizes}
-use Rattle.fn_profile.specs.declared.profile.Library.{Library}
-use Rattle.fn_profile.specs.declared.profile.Library.TheVariants as library
-use Rattle.fn_profile.specs.declared.profile.Encoding.{Encoding}
-use Rattle.fn_profile.specs.declared.profile.Encoding.TheVariants as encoding
-use Rattle.fn_profile.specs.declared.profile.Constraint.TheVariants.{Bracket, Enforce}
-use Rattle.fn_profile.specs.declared.profile.Field.{Field}
-use Rattle.fn_profile.specs.declared.profile.Format.{Format}
-use Rattle.fn_profile.specs.declared.fault.ProfileFault.{ProfileFault}
-use Rattle.fn_profile.specs.Judging.{earlier}
+use Rattle.fn_normal.specs.declared.profile.FormatSizes.{FormatSizes}
+use Rattle.fn_normal.specs.declared.profile.Library.{Library}
+use Rattle.fn_normal.specs.declared.profile.Library.TheVariants as library
+use Rattle.fn_normal.specs.declared.profile.Encoding.{Encoding}
+use Rattle.fn_normal.specs.declared.profile.Encoding.TheVariants as encoding
+use Rattle.fn_normal.specs.declared.profile.Constraint.TheVariants.{Bracket, Enforce}
+use Rattle.fn_normal.specs.declared.profile.Field.{Field}
+use Rattle.fn_normal.specs.declared.profile.Format.{Format}
+use Rattle.fn_normal.specs.declared.fault.ProfileFault.{ProfileFault}
+use Rattle.fn_normal.specs.Judging.{earlier}
 use Rattle.fn_bounds.specs.declared.known.Extent.TheVariants.{Whole}
-use Rattle.fn_bounds.specs.Faults.{is_wide, wide_value, wide_in, wide_in_condition, of_range, expr_fault, condition_fault, earliest, library_fault, encoding_fault, constraint_fault}
+use Rattle.fn_normal.specs.Faults.{of_range}
+use Rattle.fn_bounds.specs.Faults.{is_wide, wide_value, wide_in, wide_in_condition, expr_fault, condition_fault, earliest, library_fault, encoding_fault, constraint_fault}
 use Rattle.fn_bounds.specs.Laws.{library_exprs, encoding_exprs, StandsIn, in_encoding, in_bracket, IsSound, ConditionIsSound, FaultlessIsSound}
 use Rattle.fn_bounds.proofs.Folding.{neither}
 

@@ -2,8 +2,8 @@
 use Rattle.std.proofs.Common.{◌≡◌, ℕ, ◌<◌, ◌+◌, ◌⊎◌, inl, inr, Bool, true, false, cond, arith, subst, sym, refl}
 use Rattle.std.specs.Prelude.{Some, None, Option}
 use Rattle.std.proofs.lemmas.Bool.{cases_order}
-use Rattle.fn_profile.specs.declared.fault.ProfileFault.{ProfileFault}
-use Rattle.fn_profile.specs.Judging.{earlier, comes_before, Judged}
+use Rattle.fn_normal.specs.declared.fault.ProfileFault.{ProfileFault}
+use Rattle.fn_normal.specs.Judging.{earlier, comes_before, Judged}
 
 which-by : (f g h : ProfileFault) (b : Bool) → cond b (Some g) (Some f) ≡ Some h → (Some f ≡ Some h) ⊎ (Some g ≡ Some h)
 which-by f g h true e = inr e

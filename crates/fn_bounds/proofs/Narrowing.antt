@@ -1,9 +1,9 @@
 -- One pass over the constraints gives each field its bounds.
 use Rattle.std.proofs.Common.{◌≡◌, ◌∙◌, ap, refl, ℕ, List, [], ◌∷◌, cond, nat_eq, arith}
 use Rattle.std.specs.Prelude.{fold}
-use Rattle.fn_profile.specs.declared.profile.Sizes.{Sizes}
-use Rattle.fn_profile.specs.declared.profile.Constraint.{Constraint}
-use Rattle.fn_profile.specs.declared.profile.Constraint.TheVariants.{Bracket, Enforce}
+use Rattle.fn_normal.specs.declared.profile.Sizes.{Sizes}
+use Rattle.fn_normal.specs.declared.profile.Constraint.{Constraint}
+use Rattle.fn_normal.specs.declared.profile.Constraint.TheVariants.{Bracket, Enforce}
 use Rattle.fn_bounds.specs.Fields.{narrowed, narrowed_by, bracket_bounds}
 use Rattle.fn_bounds.specs.Passes.{indexed, narrow}
 use Rattle.fn_bounds.proofs.Places.{indexed-changed}

@@ -4,15 +4,15 @@ use Rattle.std.specs.Prelude.{slice_get, option_map, unwrap_or, Some}
 use Rattle.std.proofs.lemmas.Option.{slice_get_within}
 use Rattle.std.proofs.lemmas.Bool.{cases_order}
 use Rattle.fn_expr.specs.declared.expr.Expr.{Expr}
-use Rattle.fn_profile.specs.declared.profile.MethodSizes.{MethodSizes}
-use Rattle.fn_profile.specs.declared.profile.Encoding.{Encoding}
-use Rattle.fn_profile.specs.declared.profile.Encoding.TheVariants as encoding
-use Rattle.fn_profile.specs.declared.profile.Format.{Format}
-use Rattle.fn_profile.specs.declared.profile.Method.{Method}
+use Rattle.fn_normal.specs.declared.profile.MethodSizes.{MethodSizes}
+use Rattle.fn_normal.specs.declared.profile.Encoding.{Encoding}
+use Rattle.fn_normal.specs.declared.profile.Encoding.TheVariants as encoding
+use Rattle.fn_normal.specs.declared.profile.Format.{Format}
+use Rattle.fn_normal.specs.declared.profile.Method.{Method}
 use Rattle.fn_bounds.specs.Fields.{bounds, sides, whole_at, encoding_sizes, field_sizes, where_listed, lists, narrowed}
 use Rattle.fn_bounds.specs.Formats.{format_sizes, sized_by}
-use Rattle.fn_profile.specs.declared.fault.ResolveError.{ResolveError}
-use Rattle.fn_profile.specs.declared.fault.ResolveError.TheVariants as errors
+use Rattle.fn_normal.specs.declared.fault.ResolveError.{ResolveError}
+use Rattle.fn_normal.specs.declared.fault.ResolveError.TheVariants as errors
 use Rattle.fn_bounds.specs.Methods.{HasSizes, CallsMethod, IsOrder, SizedBefore, OverIn}
 use Rattle.fn_bounds.specs.Outcome.{Blames, sum_too_large}
 use Rattle.fn_bounds.proofs.Places.{indexed-same}

@@ -2,7 +2,7 @@
 use Rattle.std.proofs.Common.{◌≡◌, ◌∙◌, ap, sym, subst, ℕ, ◌+◌, ◌<◌, List, [], ◌∷◌, length, get_or, take, drop, fold, arith}
 use Rattle.std.proofs.lemmas.List.{take-append-drop}
 use Rattle.std.proofs.lemmas.List.Sums.{fold-append, fold_more}
-use Rattle.fn_profile.specs.declared.profile.Bounds.{Bounds}
+use Rattle.fn_normal.specs.declared.profile.Bounds.{Bounds}
 use Rattle.fn_bounds.specs.Fields.{bounds}
 use Rattle.fn_bounds.specs.Formats.{plus, total, IsPast, least_past, most_past}
 

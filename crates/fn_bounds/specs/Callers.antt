@@ -2,8 +2,8 @@
 use Rattle.std.specs.Prelude.{Bool, false, ℕ, ◌+◌, ◌-◌, nat_eq, List, [], ◌∷◌, ◌++◌, length, slice_get, Option, Some, None, if◌then◌else◌}
 use Rattle.std.specs.List.{list_any}
 use Rattle.std.specs.Option.{unwrap_or}
-use Rattle.fn_profile.specs.declared.profile.MethodSizes.{MethodSizes}
-use Rattle.fn_profile.specs.declared.profile.Method.{Method}
+use Rattle.fn_normal.specs.declared.profile.MethodSizes.{MethodSizes}
+use Rattle.fn_normal.specs.declared.profile.Method.{Method}
 use Rattle.fn_expr.specs.declared.interval.Interval.{Interval}
 use Rattle.fn_bounds.specs.Passes.{indexed}
 use Rattle.fn_bounds.specs.Parameters.{calls, with_entry}

@@ -7,12 +7,12 @@ use Rattle.fn_expr.specs.Rules.{IsIn}
 use Rattle.fn_expr.specs.Ranged.{Bounding, ranged}
 use Rattle.fn_expr.specs.Spread.{LieIn, IsAccepted}
 use Rattle.fn_expr.specs.Bounds.{bounding_of}
-use Rattle.fn_profile.specs.declared.profile.FormatSizes.{FormatSizes}
-use Rattle.fn_profile.specs.declared.profile.MethodSizes.{MethodSizes}
-use Rattle.fn_profile.specs.declared.profile.Encoding.TheVariants as encoding
-use Rattle.fn_profile.specs.declared.profile.Field.{Field}
-use Rattle.fn_profile.specs.declared.profile.Format.{Format}
-use Rattle.fn_profile.specs.declared.profile.Method.{Method}
+use Rattle.fn_normal.specs.declared.profile.FormatSizes.{FormatSizes}
+use Rattle.fn_normal.specs.declared.profile.MethodSizes.{MethodSizes}
+use Rattle.fn_normal.specs.declared.profile.Encoding.TheVariants as encoding
+use Rattle.fn_normal.specs.declared.profile.Field.{Field}
+use Rattle.fn_normal.specs.declared.profile.Format.{Format}
+use Rattle.fn_normal.specs.declared.profile.Method.{Method}
 use Rattle.fn_bounds.specs.Ranging.{format_ranges}
 use Rattle.fn_bounds.specs.Outcome.{AreSizes, FormatAt}
 

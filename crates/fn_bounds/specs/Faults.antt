@@ -1,5 +1,5 @@
 -- The faults of the expressions of a format.
-pub use Rattle.fn_profile.specs.Judging.{earliest}
+pub use Rattle.fn_normal.specs.Judging.{earliest}
 use Rattle.std.specs.Prelude.{ℕ, ◌+◌, ◌-◌, ◌^◌, min, nat_lt, Bool, false, List, length, slice_get, Option, Some, None, if◌then◌else◌}
 use Rattle.std.specs.Option.{option_map, unwrap_or}
 use Rattle.fn_source.specs.declared.span.Span.{Span}
@@ -15,30 +15,26 @@ use Rattle.fn_expr.specs.declared.expr.Expr.TheVariants as expr
 use Rattle.fn_expr.specs.declared.expr.Expr.TheVariants.{Number, Parameter, Binary'}
 use Rattle.fn_expr.specs.declared.expr.Cond.{Cond}
 use Rattle.fn_expr.specs.declared.expr.Cond.TheVariants.{Constant, Compare, Not', And', Or'}
-use Rattle.fn_expr.specs.declared.fault.RangeFault.{RangeFault}
-use Rattle.fn_expr.specs.declared.fault.RangeFaultKind.{RangeFaultKind}
-use Rattle.fn_expr.specs.declared.fault.RangeFaultKind.TheVariants as range_kinds
 use Rattle.fn_expr.specs.declared.ranges.Ranges.{Ranges}
 use Rattle.fn_expr.specs.Bounds.{bounding_of}
-use Rattle.fn_profile.specs.declared.profile.Bounds.{Bounds}
-use Rattle.fn_profile.specs.declared.profile.Sizes.{Sizes}
-use Rattle.fn_profile.specs.declared.profile.FormatSizes.{FormatSizes}
-use Rattle.fn_profile.specs.declared.profile.Library.{Library}
-use Rattle.fn_profile.specs.declared.profile.Library.TheVariants as library
-use Rattle.fn_profile.specs.declared.profile.Encoding.{Encoding}
-use Rattle.fn_profile.specs.declared.profile.Encoding.TheVariants as encoding
-use Rattle.fn_profile.specs.declared.profile.Constraint.{Constraint}
-use Rattle.fn_profile.specs.declared.profile.Constraint.TheVariants.{Bracket, Enforce}
-use Rattle.fn_profile.specs.declared.profile.Field.{Field}
-use Rattle.fn_profile.specs.declared.profile.Format.{Format}
-use Rattle.fn_profile.specs.declared.fault.ProfileFault.{ProfileFault}
-use Rattle.fn_profile.specs.declared.fault.ProfileFaultKind.{ProfileFaultKind}
-use Rattle.fn_profile.specs.declared.fault.ProfileFaultKind.TheVariants as kinds
-use Rattle.fn_profile.specs.Faults.{unnamed}
-use Rattle.fn_profile.specs.Judging.{earlier}
+use Rattle.fn_normal.specs.declared.profile.Bounds.{Bounds}
+use Rattle.fn_normal.specs.declared.profile.Sizes.{Sizes}
+use Rattle.fn_normal.specs.declared.profile.FormatSizes.{FormatSizes}
+use Rattle.fn_normal.specs.declared.profile.Library.{Library}
+use Rattle.fn_normal.specs.declared.profile.Library.TheVariants as library
+use Rattle.fn_normal.specs.declared.profile.Encoding.{Encoding}
+use Rattle.fn_normal.specs.declared.profile.Encoding.TheVariants as encoding
+use Rattle.fn_normal.specs.declared.profile.Constraint.{Constraint}
+use Rattle.fn_normal.specs.declared.profile.Constraint.TheVariants.{Bracket, Enforce}
+use Rattle.fn_normal.specs.declared.profile.Field.{Field}
+use Rattle.fn_normal.specs.declared.profile.Format.{Format}
+use Rattle.fn_normal.specs.declared.fault.ProfileFault.{ProfileFault}
+use Rattle.fn_normal.specs.declared.fault.ProfileFaultKind.TheVariants as kinds
+use Rattle.fn_normal.specs.Faults.{of_range}
+use Rattle.fn_normal.specs.Judging.{earlier}
 use Rattle.fn_expr.specs.declared.interval.Interval.{Interval}
-use Rattle.fn_profile.specs.declared.profile.MethodSizes.{MethodSizes}
-use Rattle.fn_profile.specs.declared.profile.Method.{Method}
+use Rattle.fn_normal.specs.declared.profile.MethodSizes.{MethodSizes}
+use Rattle.fn_normal.specs.declared.profile.Method.{Method}
 use Rattle.fn_bounds.specs.Formats.{sizes_at}
 use Rattle.fn_bounds.specs.Ranging.{format_ranges}
 use Rattle.fn_bounds.specs.declared.known.Extent.{Extent}
@@ -87,15 +83,6 @@ wide_in_condition format s (Compare at op x y) = earlier (wide_in format s x) (w
 wide_in_condition format s (Not' at p x) = wide_in_condition format s x
 wide_in_condition format s (And' at p x q y) = earlier (wide_in_condition format s x) (wide_in_condition format s y)
 wide_in_condition format s (Or' at p x q y) = earlier (wide_in_condition format s x) (wide_in_condition format s y)
-
--- ---- parts without a range
-
-abbrev pub range_kind : RangeFaultKind → ProfileFaultKind
-range_kind range_kinds.AboveLimit = kinds.AboveLimit
-range_kind range_kinds.Power = kinds.Power
-
-abbrev pub of_range : RangeFault → ProfileFault
-of_range f = unnamed (range_kind f.kind) f.at
 
 -- ---- both, in an expression, in an encoding, in a constraint, in a format
 

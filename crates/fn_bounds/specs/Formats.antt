@@ -1,13 +1,13 @@
 -- The bounds of a format: of its fields, of its header and of its packed bits.
 use Rattle.std.specs.Prelude.{ℕ, ◌+◌, ◌^◌, ◌≤◌, Bool, true, false, List, map, fold, slice_get, unwrap_or, if◌then◌else◌}
-use Rattle.fn_profile.specs.declared.profile.Part.{Part}
-use Rattle.fn_profile.specs.declared.profile.Part.TheVariants.{Header}
-use Rattle.fn_profile.specs.declared.profile.Bounds.{Bounds}
-use Rattle.fn_profile.specs.declared.profile.Sizes.{Sizes}
-use Rattle.fn_profile.specs.declared.profile.FormatSizes.{FormatSizes}
-use Rattle.fn_profile.specs.declared.profile.MethodSizes.{MethodSizes}
-use Rattle.fn_profile.specs.declared.profile.Field.{Field}
-use Rattle.fn_profile.specs.declared.profile.Format.{Format}
+use Rattle.fn_normal.specs.declared.profile.Part.{Part}
+use Rattle.fn_normal.specs.declared.profile.Part.TheVariants.{Header}
+use Rattle.fn_normal.specs.declared.profile.Bounds.{Bounds}
+use Rattle.fn_normal.specs.declared.profile.Sizes.{Sizes}
+use Rattle.fn_normal.specs.declared.profile.FormatSizes.{FormatSizes}
+use Rattle.fn_normal.specs.declared.profile.MethodSizes.{MethodSizes}
+use Rattle.fn_normal.specs.declared.profile.Field.{Field}
+use Rattle.fn_normal.specs.declared.profile.Format.{Format}
 use Rattle.fn_bounds.specs.Fields.{bounds, sides, field_sizes}
 use Rattle.fn_bounds.specs.Passes.{indexed}
 

@@ -1,12 +1,12 @@
 -- What the bounds of a profile's methods are, and why there are none.
 use Rattle.std.specs.Prelude.{◌≡◌, ℕ, List, length, slice_get, Some, None}
-use Rattle.fn_profile.specs.declared.profile.FormatSizes.{FormatSizes}
-use Rattle.fn_profile.specs.declared.profile.MethodSizes.{MethodSizes}
-use Rattle.fn_profile.specs.declared.profile.Format.{Format}
-use Rattle.fn_profile.specs.declared.profile.Method.{Method}
-use Rattle.fn_profile.specs.declared.fault.ProfileFault.{ProfileFault}
-use Rattle.fn_profile.specs.declared.fault.ResolveError.{ResolveError}
-use Rattle.fn_profile.specs.declared.fault.ResolveError.TheVariants as errors
+use Rattle.fn_normal.specs.declared.profile.FormatSizes.{FormatSizes}
+use Rattle.fn_normal.specs.declared.profile.MethodSizes.{MethodSizes}
+use Rattle.fn_normal.specs.declared.profile.Format.{Format}
+use Rattle.fn_normal.specs.declared.profile.Method.{Method}
+use Rattle.fn_normal.specs.declared.fault.ProfileFault.{ProfileFault}
+use Rattle.fn_normal.specs.declared.fault.ResolveError.{ResolveError}
+use Rattle.fn_normal.specs.declared.fault.ResolveError.TheVariants as errors
 use Rattle.fn_bounds.specs.Methods.{HasSizes, SizedBefore, IsWithinAt, HasOver, IsWide}
 use Rattle.fn_bounds.specs.declared.known.Extent.{Extent}
 use Rattle.fn_bounds.specs.declared.known.Extent.TheVariants.{Whole, Known}

@@ -1,8 +1,8 @@
 -- Lists by index, and the bounds of all fields by one pass over the constraints.
 use Rattle.std.specs.Prelude.{ℕ, ◌+◌, List, [], ◌∷◌, slice_get, slice_set, Option, Some, None}
-use Rattle.fn_profile.specs.declared.profile.Sizes.{Sizes}
-use Rattle.fn_profile.specs.declared.profile.Constraint.{Constraint}
-use Rattle.fn_profile.specs.declared.profile.Constraint.TheVariants.{Bracket, Enforce}
+use Rattle.fn_normal.specs.declared.profile.Sizes.{Sizes}
+use Rattle.fn_normal.specs.declared.profile.Constraint.{Constraint}
+use Rattle.fn_normal.specs.declared.profile.Constraint.TheVariants.{Bracket, Enforce}
 use Rattle.fn_bounds.specs.Fields.{bracket_bounds, narrowed_by}
 
 -- what f makes of each element and its index, counted from n

@@ -5,9 +5,9 @@ use Rattle.fn_expr.specs.declared.ranges.Intervals.{Intervals}
 use Rattle.fn_expr.specs.declared.ranges.SideIntervals.{SideIntervals}
 use Rattle.fn_expr.specs.declared.ranges.Ranges.{Ranges}
 use Rattle.fn_expr.specs.Rules.{from_to}
-use Rattle.fn_profile.specs.declared.profile.Bounds.{Bounds}
-use Rattle.fn_profile.specs.declared.profile.Sizes.{Sizes}
-use Rattle.fn_profile.specs.declared.profile.FormatSizes.{FormatSizes}
+use Rattle.fn_normal.specs.declared.profile.Bounds.{Bounds}
+use Rattle.fn_normal.specs.declared.profile.Sizes.{Sizes}
+use Rattle.fn_normal.specs.declared.profile.FormatSizes.{FormatSizes}
 
 -- the numbers that so many bits spell; more than 126 bits are taken as 126, whose numbers pass the limit of ranges too
 abbrev pub value_range : ℕ → Interval

@@ -5,7 +5,7 @@ ghost use Rattle.fn_bounds.specs.Callers as spec;
 ghost use Rattle.fn_bounds.specs.Parameters.{calls, is_call};
 ghost use Rattle.fn_bounds.specs.Passes.{changed};
 
-use fn_profile::{Encoding, Format, Method};
+use fn_normal::{Encoding, Format, Method};
 use sqlite_items::{Items, at};
 use std::alloc::{AllocError, Global};
 

@@ -7,7 +7,7 @@ ghost use Rattle.fn_bounds.specs.Passes.{indexed, narrow, changed};
 
 use crate::constants::constant_of;
 use fn_expr::{Expr, Side};
-use fn_profile::{Bounds, Constraint, Encoding, Field, Format, Library, MethodSizes, Sizes};
+use fn_normal::{Bounds, Constraint, Encoding, Field, Format, Library, MethodSizes, Sizes};
 use sqlite_items::Items;
 use std::alloc::{AllocError, Global};
 

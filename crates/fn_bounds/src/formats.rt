@@ -5,7 +5,7 @@ ghost use Rattle.fn_bounds.specs.Formats as spec;
 ghost use Rattle.fn_bounds.specs.Passes.{indexed};
 
 use crate::fields::{NO_BITS, fields_sizes};
-use fn_profile::{Bounds, Field, Format, FormatSizes, MethodSizes, Part, Sizes};
+use fn_normal::{Bounds, Field, Format, FormatSizes, MethodSizes, Part, Sizes};
 use sqlite_items::Items;
 use std::alloc::{AllocError, Global};
 

@@ -2,16 +2,14 @@
 
 ghost use Rattle.std.specs.Prelude.{◌≡◌, Some, IfOk};
 ghost use Rattle.std.specs.Option.{option_copied};
-ghost use Rattle.fn_profile.specs.Judging.{earlier};
+ghost use Rattle.fn_normal.specs.Judging.{earlier};
 ghost use Rattle.fn_bounds.specs.Faults as spec;
 
 use crate::formats::sizes_at;
 use crate::known::{Extent, condition_range_fault, range_fault};
 use crate::ranging::{WIDEST_VALUE, format_ranges};
-use fn_expr::{
-    Attribute, Cond, Expr, Interval, Measure, RangeFault, RangeFaultKind, Ranges, Side, Subject,
-};
-use fn_profile::{
+use fn_expr::{Attribute, Cond, Expr, Interval, Measure, Ranges, Side, Subject};
+use fn_normal::{
     Bounds, Constraint, Encoding, Field, Format, FormatSizes, Library, Method, MethodSizes,
     ProfileFault, ProfileFaultKind, Sizes, earlier,
 };
@@ -113,21 +111,6 @@ fn wide_in_condition(format: &Format, sizes: &FormatSizes, cond: &Cond) -> Optio
     }
 }
 
-fn range_kind(kind: RangeFaultKind) -> ProfileFaultKind
-    ensures { result ≡ spec.range_kind kind }
-{
-    match kind {
-        RangeFaultKind::AboveLimit => ProfileFaultKind::AboveLimit,
-        RangeFaultKind::Power => ProfileFaultKind::Power,
-    }
-}
-
-fn of_range(fault: RangeFault) -> ProfileFault
-    ensures { result ≡ spec.of_range fault }
-{
-    ProfileFault::at(range_kind(fault.kind), fault.at)
-}
-
 fn expr_fault(
     extent: Extent,
     format: &Format,
@@ -140,7 +123,7 @@ fn expr_fault(
     let wide = wide_in(format, sizes, expr);
     match range_fault(extent, expr, ranges) {
         None => wide,
-        Some(fault) => earlier(wide, Some(of_range(fault))),
+        Some(fault) => earlier(wide, Some(ProfileFault::of_range(fault))),
     }
 }
 
@@ -156,7 +139,7 @@ fn condition_fault(
     let wide = wide_in_condition(format, sizes, cond);
     match condition_range_fault(extent, cond, ranges) {
         None => wide,
-        Some(fault) => earlier(wide, Some(of_range(fault))),
+        Some(fault) => earlier(wide, Some(ProfileFault::of_range(fault))),
     }
 }
 

@@ -7,7 +7,7 @@ ghost use Rattle.fn_bounds.specs.Known as spec;
 use fn_expr::{Cond, Expr, RangeFault, Ranges, range};
 
 /// Which parts of an expression are judged.
-#[derive(Clone, Copy, Debug, PartialEq, Eq)]
+#[derive(Clone, Copy, PartialEq, Eq)]
 pub enum Extent {
     /// All of them.
     Whole,

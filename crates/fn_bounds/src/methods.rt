@@ -1,7 +1,7 @@
 //! The bounds of methods.
 
 ghost use Rattle.std.specs.Prelude.{◌≡◌, ℕ, ◌<◌, length, map, slice_set, IfOk, IfErr};
-ghost use Rattle.fn_profile.specs.Judging.{Judged};
+ghost use Rattle.fn_normal.specs.Judging.{Judged};
 ghost use Rattle.fn_bounds.specs.Callers as calling;
 ghost use Rattle.fn_bounds.specs.Formats as formats;
 ghost use Rattle.fn_bounds.specs.Methods as spec;
@@ -15,7 +15,7 @@ use crate::judging::methods_fault;
 use crate::known::Extent;
 use crate::parameters::{BEYOND, ONLY_ZERO, parameter_ranges, set_parameters};
 use fn_expr::Interval;
-use fn_profile::{
+use fn_normal::{
     Bounds, FormatSizes, Method, MethodSizes, ProfileFault, ProfileFaultKind, ResolveError, Sizes,
     earlier,
 };

@@ -8,7 +8,7 @@ ghost use Rattle.fn_bounds.specs.Passes.{changed};
 
 use crate::ranging::format_ranges;
 use fn_expr::{Expr, Interval, Ranges, range};
-use fn_profile::{Encoding, Format, FormatSizes, Method, MethodSizes, Name};
+use fn_normal::{Encoding, Format, FormatSizes, Method, MethodSizes, Name};
 use sqlite_items::{Items, at};
 use std::alloc::{AllocError, Global};
 

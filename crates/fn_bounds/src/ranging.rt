@@ -4,7 +4,7 @@ ghost use Rattle.std.specs.Prelude.{◌≡◌, IfOk, map};
 ghost use Rattle.fn_bounds.specs.Ranging as spec;
 
 use fn_expr::{Interval, Intervals, Ranges, SideIntervals};
-use fn_profile::{Bounds, FormatSizes, Sizes};
+use fn_normal::{Bounds, FormatSizes, Sizes};
 use sqlite_items::Items;
 use std::alloc::{AllocError, Global};
 

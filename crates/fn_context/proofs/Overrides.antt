@@ -155,3 +155,16 @@ overridden-value es (o ∷ os) q =
     last_one (Some x) b = refl
     last_one None true = refl
     last_one None false = refl
+
+-- one more turn of the loops that put entries into a map and that copy one
+module _ {K : Type 0} (key : K → List ℕ) where
+  pub replaced_more : (old new items rest : List (K × List Bool)) (k : K) (v : List Bool) (all : Entries) → new ≡ insert_entry (same_key key) old k v → items ≡ (k, v) ∷ rest
+      → overridden (shown key old) (shown key items) ≡ all → overridden (shown key new) (shown key rest) ≡ all
+  replaced_more old new items rest k v all e steps is =
+      ap (λ es. overridden es (shown key rest)) (ap (shown key) e ∙ shown-insert key old k v) ∙ ap (λ xs. overridden (shown key old) (shown key xs)) (sym steps) ∙ is
+
+  pub copied_more : (old new items rest : List (K × List Bool)) (k p : K) (v b : List Bool) (all : Entries) → AreDistinct all → new ≡ insert_entry (same_key key) old k v → items ≡ (p, b) ∷ rest → key k ≡ key p → v ≡ b
+      → shown key old ++ shown key items ≡ all → shown key new ++ shown key rest ≡ all
+  copied_more old new items rest k p v b all distinct e steps text bits is =
+      ap (λ es. es ++ shown key rest) (ap (shown key) e ∙ shown-insert key old k v) ∙ (λ i. with_entry (shown key old) (text i) (bits i) ++ shown key rest)
+      ∙ copy_more (shown key old) (shown key rest) all (key p) b distinct (ap (λ xs. shown key old ++ shown key xs) (sym steps) ∙ is)

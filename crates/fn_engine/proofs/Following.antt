@@ -13,14 +13,14 @@ use Rattle.fn_lib.specs.Methods.{Lib, Spells}
 use Rattle.fn_lib.specs.Methods as lib
 use Rattle.fn_lib.proofs.Spelling.{same_bits}
 use Rattle.fn_lib.proofs.Lasts.{same_pos}
-use Rattle.fn_profile.specs.declared.profile.Declared.{Declared}
-use Rattle.fn_profile.specs.declared.profile.Part.{Part}
-use Rattle.fn_profile.specs.declared.profile.Library.{Library}
-use Rattle.fn_profile.specs.declared.profile.Library.TheVariants as library
-use Rattle.fn_profile.specs.declared.profile.Encoding.TheVariants as encoding
-use Rattle.fn_profile.specs.declared.profile.Field.{Field}
-use Rattle.fn_profile.specs.declared.profile.Format.{Format}
-use Rattle.fn_profile.specs.declared.profile.Method.{Method}
+use Rattle.fn_normal.specs.declared.profile.Declared.{Declared}
+use Rattle.fn_normal.specs.declared.profile.Part.{Part}
+use Rattle.fn_normal.specs.declared.profile.Library.{Library}
+use Rattle.fn_normal.specs.declared.profile.Library.TheVariants as library
+use Rattle.fn_normal.specs.declared.profile.Encoding.TheVariants as encoding
+use Rattle.fn_normal.specs.declared.profile.Field.{Field}
+use Rattle.fn_normal.specs.declared.profile.Format.{Format}
+use Rattle.fn_normal.specs.declared.profile.Method.{Method}
 use Rattle.fn_filling.specs.declared.filling.Filling.{Filling, out-Filling, roll-Filling, out-roll-Filling}
 use Rattle.fn_filling.specs.declared.filling.FilledField.{FilledField}
 use Rattle.fn_filling.specs.Fillings.{sides_of, inner_of, fields_of, listing_of}

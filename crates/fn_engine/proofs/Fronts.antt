@@ -4,9 +4,9 @@ use Rattle.std.specs.Prelude.{slice_get, Option, Some, None}
 use Rattle.std.proofs.lemmas.Option.{slice_get_within}
 use Rattle.fn_bits.proofs.Held.{split_same}
 use Rattle.fn_bits.specs.declared.bits.BitsError.TheVariants.{Full}
-use Rattle.fn_profile.specs.declared.profile.Declared.{Declared}
-use Rattle.fn_profile.specs.declared.profile.Field.{Field}
-use Rattle.fn_profile.specs.declared.profile.FormatSizes.{FormatSizes}
+use Rattle.fn_normal.specs.declared.profile.Declared.{Declared}
+use Rattle.fn_normal.specs.declared.profile.Field.{Field}
+use Rattle.fn_normal.specs.declared.profile.FormatSizes.{FormatSizes}
 use Rattle.fn_bounds.proofs.Widening.{lie-in-parameters}
 use Rattle.fn_filling.specs.declared.filling.Filling.{Filling, out-Filling}
 use Rattle.fn_filling.specs.declared.filling.FilledField.{FilledField}
@@ -16,11 +16,13 @@ use Rattle.fn_fits.specs.Fits.{Context}
 use Rattle.fn_fits.specs.Fronts.{FitsTop, InFronts, Det}
 use Rattle.fn_fits.proofs.Bounding.{lie-in-bounds}
 use Rattle.fn_fits.proofs.Inverted.{parts}
+use Rattle.fn_fits.proofs.Fronts.{short_sides}
 use Rattle.fn_fits.proofs.Sized.{one_value}
-use Rattle.fn_holds.specs.Ready.{sizes_at, ArgumentsLieAt}
+use Rattle.fn_fits.specs.Bounded.{sizes_at}
+use Rattle.fn_holds.specs.Ready.{ArgumentsLieAt}
 use Rattle.fn_holds.proofs.Judged.{sized, never_unsized}
 use Rattle.fn_holds.proofs.Limits.{whole_small}
-use Rattle.fn_names.specs.Resolved.{Resolved, IsSound}
+use Rattle.fn_profile.specs.Resolved.{Resolved, IsSound}
 use Rattle.fn_engine.specs.declared.fragment.Step.{Step}
 use Rattle.fn_engine.specs.Fragment.{Plan, IsPlan, IsFragment}
 use Rattle.fn_engine.specs.Faults.{IsRead}
@@ -96,28 +98,13 @@ one_filling plan is ctx bits f g hf hg =
 pub det : (p : Resolved) → IsFragment p → Det p.methods p.top
 det p is = subst (λ (q : Resolved). Det q.methods q.top) is.of_profile (one_filling is.plan is.is_plan)
 
-pub read_back : (p : Resolved) → Det p.methods p.top → (ctx : Context) (f g : Filling) (rest : List Bool) → FitsTop p.methods p.top ctx f → InFronts p.methods p.top ctx (packed f ++ rest) g → g ≡ f
-read_back p d ctx f g rest ff h = d ctx (packed f ++ rest) g f h (record { fits = ff; rest = rest; front = refl })
-
 -- ---- short sides
 
--- both sides of a filling that fits the top are far below the limit of bits
-short_sides : (p : Resolved) → IsSound p → (ctx : Context) (f : Filling) → FitsTop p.methods p.top ctx f → (length (header f) ≤ 4096) × (length (packed f) ≤ 2 ^ 18)
-short_sides p sound ctx f h = by (sizes_at p.sizes p.top (out-Filling f).format) refl
-  where
-    by : (o : Option FormatSizes) → sizes_at p.sizes p.top (out-Filling f).format ≡ o → (length (header f) ≤ 4096) × (length (packed f) ≤ 2 ^ 18)
-    by None e = absurd (never_unsized p.methods p.sizes sound.sized p.top (out-Filling f).format (parts h).format (parts h).is_format e)
-    by (Some sizes) e =
-        let s = sized p.sizes p.top (out-Filling f).format sizes e in
-        let lie = (lie-in-bounds p.methods p.sizes sound.sized ctx p.top [] [] f h s.whole sizes s.whole_at s.sizes_is).0 in
-        let small = whole_small p.methods p.sizes sound.sized p.top (out-Filling f).format (parts h).format sizes (parts h).is_format e in
-        (omega (arith, lie.whole.uncompressed_lies.most, small.0), omega (arith, lie.whole.compressed_lies.most, small.1))
-
 pub short_header : (p : Resolved) → IsSound p → (ctx : Context) (f : Filling) → FitsTop p.methods p.top ctx f → FailsAbove Full (header f) → ⊥
-short_header p sound ctx f h above = let s = short_sides p sound ctx f h in absurd (omega (arith, s.0, above))
+short_header p sound ctx f h above = let s = short_sides p.methods p.sizes sound.sized ctx p.top [] [] f h in absurd (omega (arith, s.0, above))
 
 pub short_packed : (p : Resolved) → IsSound p → (ctx : Context) (f : Filling) → FitsTop p.methods p.top ctx f → FailsAbove Full (packed f) → ⊥
-short_packed p sound ctx f h above = let s = short_sides p sound ctx f h in absurd (omega (arith, s.1, above))
+short_packed p sound ctx f h above = let s = short_sides p.methods p.sizes sound.sized ctx p.top [] [] f h in absurd (omega (arith, s.1, above))
 
 -- the top of a profile of the fragment has no parameters, so no arguments lie in their ranges
 pub no_arguments : (plan : Plan) → IsPlan plan → IsSound plan.profile → ArgumentsLieAt plan.profile plan.profile.top []

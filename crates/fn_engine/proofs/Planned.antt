@@ -7,12 +7,12 @@ use Rattle.fn_filling.proofs.Unique.{also_at}
 use Rattle.fn_expr.specs.declared.expr.Expr.{Expr}
 use Rattle.fn_lib.specs.Methods.{Lib, Spells}
 use Rattle.fn_lib.specs.Methods as lib
-use Rattle.fn_profile.specs.declared.profile.Part.{Part}
-use Rattle.fn_profile.specs.declared.profile.Part.TheVariants.{Header}
-use Rattle.fn_profile.specs.declared.profile.Field.{Field}
-use Rattle.fn_profile.specs.declared.profile.Format.{Format}
-use Rattle.fn_profile.specs.declared.profile.Method.{Method}
-use Rattle.fn_names.specs.Resolved.{Resolved}
+use Rattle.fn_normal.specs.declared.profile.Part.{Part}
+use Rattle.fn_normal.specs.declared.profile.Part.TheVariants.{Header}
+use Rattle.fn_normal.specs.declared.profile.Field.{Field}
+use Rattle.fn_normal.specs.declared.profile.Format.{Format}
+use Rattle.fn_normal.specs.declared.profile.Method.{Method}
+use Rattle.fn_profile.specs.Resolved.{Resolved}
 use Rattle.fn_engine.specs.declared.fragment.Step.{Step}
 use Rattle.fn_engine.specs.declared.fragment.Step.TheVariants.{Given}
 use Rattle.fn_engine.specs.Fragment.{IsStep, AreSteps, IsOnly, IsGiven, number_in}

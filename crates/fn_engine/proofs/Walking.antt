@@ -8,7 +8,7 @@ use Rattle.std.proofs.lemmas.List.Concat.{flat_map-append}
 use Rattle.std.proofs.lemmas.Option.{slice_get-map, slice_get-get_or, slice_get_read, slice_get_within, get_or_from_slice_get}
 use Rattle.fn_bits.specs.Cursor.{Place, Advances}
 use Rattle.fn_bits.proofs.Held.{split_same}
-use Rattle.fn_profile.specs.declared.profile.Field.{Field}
+use Rattle.fn_normal.specs.declared.profile.Field.{Field}
 use Rattle.fn_filling.specs.declared.filling.Filling.{Filling, out-Filling}
 use Rattle.fn_filling.specs.declared.filling.FilledField.{FilledField}
 use Rattle.fn_filling.specs.Fillings.{Sides, sides_of, fields_of, listing_of, level, packed_bits, packed}
@@ -16,6 +16,7 @@ use Rattle.fn_filling.proofs.Unique.{filling_same, list_same, also_at}
 use Rattle.fn_fits.specs.Fits.{Context}
 use Rattle.fn_fits.specs.Fronts.{FitsTop, InFronts}
 use Rattle.fn_fits.proofs.Sized.{one_value}
+use Rattle.fn_fits.proofs.Fronts.{advances_both}
 use Rattle.fn_engine.specs.declared.fragment.Step.{Step}
 use Rattle.fn_engine.specs.declared.reader.UnpackFault.{UnpackFault}
 use Rattle.fn_engine.specs.declared.reader.UnpackFault.TheVariants.{Truncated, Refused, OutOfMemory}
@@ -63,12 +64,6 @@ taken_at [] k j x at = by k at
 taken_at (y ∷ ys) zero j x at = absurd (cc)
 taken_at (y ∷ ys) (suc k) zero x at = (omega arith, at)
 taken_at (y ∷ ys) (suc k) (suc j) x at = let r = taken_at ys k j x at in (omega (arith, r.0), r.1)
-
-pub advances_both : (a b d : Place) (x y : List Bool) → Advances a b x → Advances b d y → Advances a d (x ++ y)
-advances_both a b d x y h g = record {
-  used = g.used ∙ ap (λ u. u ++ y) h.used ∙ append_assoc a.used x y;
-  left = h.left ∙ ap (λ l. x ++ l) g.left ∙ sym (append_assoc x y d.left);
-}
 
 -- ---- the walk
 

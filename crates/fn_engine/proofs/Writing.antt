@@ -5,11 +5,11 @@ use Rattle.std.proofs.lemmas.List.{append-nil, length_push, take_more, take_all,
 use Rattle.std.proofs.lemmas.Option.{slice_get-map, slice_get_read, slice_get_within, get_or_from_slice_get}
 use Rattle.fn_bits.specs.Cursor.{Place, Advances}
 use Rattle.fn_bits.proofs.Held.{split_same}
-use Rattle.fn_profile.specs.declared.profile.Declared.{Declared}
-use Rattle.fn_profile.specs.declared.profile.Part.{Part}
-use Rattle.fn_profile.specs.declared.profile.Library.{Library}
-use Rattle.fn_profile.specs.declared.profile.Library.TheVariants as library
-use Rattle.fn_profile.specs.declared.profile.Field.{Field}
+use Rattle.fn_normal.specs.declared.profile.Declared.{Declared}
+use Rattle.fn_normal.specs.declared.profile.Part.{Part}
+use Rattle.fn_normal.specs.declared.profile.Library.{Library}
+use Rattle.fn_normal.specs.declared.profile.Library.TheVariants as library
+use Rattle.fn_normal.specs.declared.profile.Field.{Field}
 use Rattle.fn_filling.specs.declared.filling.Filling.{Filling, out-Filling}
 use Rattle.fn_filling.specs.declared.filling.FilledField.{FilledField}
 use Rattle.fn_filling.specs.declared.filling.Item.{Item}
@@ -23,7 +23,7 @@ use Rattle.fn_engine.specs.declared.writer.PackFault.TheVariants.{HeaderLength, 
 use Rattle.fn_engine.specs.Fragment.{Plan, IsPlan, IsStep, Sends}
 use Rattle.fn_engine.specs.Faults.{BlamesItem, LacksField, FitsAlways, IsWritten, IsFilled, header_item, taken}
 use Rattle.fn_engine.proofs.Following.{Follows, Followed, followed, any_context, written_once}
-use Rattle.fn_engine.proofs.Walking.{advances_both}
+use Rattle.fn_fits.proofs.Fronts.{advances_both}
 
 -- ---- one field in a header
 

@@ -1,14 +1,14 @@
 -- What a refusal says, and the steps to it.
 use Rattle.std.specs.Prelude.{◌≡◌, ℕ, ◌<◌, Bool, List, [], ◌++◌, length, None}
 use Rattle.fn_bits.specs.Cursor.{Place, Advances}
-use Rattle.fn_profile.specs.declared.profile.Declared.{Declared}
+use Rattle.fn_normal.specs.declared.profile.Declared.{Declared}
 use Rattle.fn_filling.specs.declared.filling.Filling.{Filling}
 use Rattle.fn_filling.specs.declared.filling.FilledField.{FilledField}
 use Rattle.fn_filling.specs.declared.filling.Item.{Item}
 use Rattle.fn_filling.specs.Fillings.{sides_of, inner_of, header, packed, item}
 use Rattle.fn_fits.specs.Fits.{Context}
 use Rattle.fn_fits.specs.Fronts.{FitsTop, InFronts}
-use Rattle.fn_names.specs.Resolved.{Resolved}
+use Rattle.fn_profile.specs.Resolved.{Resolved}
 use Rattle.fn_engine.specs.declared.fragment.Step.{Step}
 use Rattle.fn_engine.specs.declared.fragment.Step.TheVariants.{Sent, Given}
 use Rattle.fn_engine.specs.declared.reader.UnpackFault.{UnpackFault}

@@ -3,15 +3,15 @@ use Rattle.std.specs.Prelude.{◌≡◌, ℕ, ◌<◌, ◌≤◌, Bool, false, L
 use Rattle.fn_expr.specs.declared.expr.Expr.{Expr}
 use Rattle.fn_expr.specs.declared.expr.Expr.TheVariants.{Number}
 use Rattle.fn_lib.specs.Methods.{Spells}
-use Rattle.fn_profile.specs.declared.profile.Part.{Part}
-use Rattle.fn_profile.specs.declared.profile.Part.TheVariants.{Header}
-use Rattle.fn_profile.specs.declared.profile.Library.{Library}
-use Rattle.fn_profile.specs.declared.profile.Library.TheVariants as library
-use Rattle.fn_profile.specs.declared.profile.Encoding.TheVariants as encoding
-use Rattle.fn_profile.specs.declared.profile.Field.{Field}
-use Rattle.fn_profile.specs.declared.profile.Format.{Format}
-use Rattle.fn_profile.specs.declared.profile.Method.{Method}
-use Rattle.fn_names.specs.Resolved.{Resolved}
+use Rattle.fn_normal.specs.declared.profile.Part.{Part}
+use Rattle.fn_normal.specs.declared.profile.Part.TheVariants.{Header}
+use Rattle.fn_normal.specs.declared.profile.Library.{Library}
+use Rattle.fn_normal.specs.declared.profile.Library.TheVariants as library
+use Rattle.fn_normal.specs.declared.profile.Encoding.TheVariants as encoding
+use Rattle.fn_normal.specs.declared.profile.Field.{Field}
+use Rattle.fn_normal.specs.declared.profile.Format.{Format}
+use Rattle.fn_normal.specs.declared.profile.Method.{Method}
+use Rattle.fn_profile.specs.Resolved.{Resolved}
 use Rattle.fn_engine.specs.declared.fragment.Step.{Step}
 use Rattle.fn_engine.specs.declared.fragment.Step.TheVariants.{Sent, Given}
 

@@ -7,8 +7,8 @@ use crate::listing::lists_once;
 use fn_bits::Bits;
 use fn_expr::Expr;
 use fn_lib::plain::compressed_value_down;
-use fn_names::Profile;
-use fn_profile::{Encoding, Field, Format, Library, Part};
+use fn_normal::{Encoding, Field, Format, Library, Part};
+use fn_profile::Profile;
 use sqlite_items::{Items, at};
 use std::alloc::{AllocError, Global};
 use std::marker::Model;
@@ -17,7 +17,7 @@ use std::marker::Model;
 const LENGTH_LIMIT: i128 = 64;
 
 /// What a packet has of a field.
-#[derive(Debug, Drop)]
+#[derive(Drop)]
 pub enum Step {
     /// So many bits of the header, as they are.
     Sent(usize),

@@ -11,7 +11,7 @@ use fn_bits::{Bits, BitsError, Cursor};
 use fn_context::Context;
 use fn_filling::{FilledField, Filling};
 use fn_holds::holds;
-use fn_profile::{Declared, Name, Part};
+use fn_normal::{Declared, Name, Part};
 use sqlite_items::Items;
 use std::alloc::{AllocError, AllocFailed, Global};
 use thiserror::Error;
@@ -52,7 +52,7 @@ impl<T: Drop> From<AllocFailed<T>> for UnpackFault {
 }
 
 /// What was read: the header, how many bits its packet took, and the filling that it belongs to.
-#[derive(Debug, Drop)]
+#[derive(Drop)]
 pub struct Read {
     pub header: Bits,
     pub bits: usize,
@@ -156,11 +156,12 @@ fn walk(
 fn blank(alloc: Global, count: usize) -> Result<Items<FilledField>, AllocError>
     ensures { IfOk result (λ filled. length filled ≡ count) }
 {
+    let nameless = Name::new(alloc, "")?;
     let mut filled = Items::new(alloc);
     for _i in 0..count {
         filled.push(FilledField {
             declared: Declared {
-                name: Name::new(alloc, "")?,
+                name: nameless.share()?,
                 part: Part::Local,
                 asked: false,
             },
@@ -187,7 +188,7 @@ fn read_field(
     };
     let uncompressed = upward_of(alloc, step, &compressed)?;
     Ok(FilledField {
-        declared: copy_of(alloc, declared)?,
+        declared: copy_of(declared)?,
         uncompressed,
         compressed,
         inner: None,
@@ -212,11 +213,11 @@ fn upward_of(alloc: Global, step: &Step, compressed: &Bits) -> Result<Bits, Allo
     }
 }
 
-pub(crate) fn copy_of(alloc: Global, declared: &Declared) -> Result<Declared, AllocError>
+pub(crate) fn copy_of(declared: &Declared) -> Result<Declared, AllocError>
     ensures { IfOk result (λ d. d ≡ declared.now) }
 {
     Ok(Declared {
-        name: Name::new(alloc, declared.name.as_str())?,
+        name: declared.name.share()?,
         part: declared.part,
         asked: declared.asked,
     })

@@ -9,7 +9,7 @@ use crate::fragment::{Fragment, Step};
 use crate::reader::{copy_of, fits};
 use fn_bits::{Bits, BitsError, Cursor};
 use fn_filling::{FilledField, Filling};
-use fn_profile::Declared;
+use fn_normal::Declared;
 use sqlite_items::Items;
 use std::alloc::{AllocError, AllocFailed, Global};
 use thiserror::Error;
@@ -53,7 +53,7 @@ impl<T: Drop> From<AllocFailed<T>> for PackFault {
 }
 
 /// What was written: the packed bits, and the filling that they belong to.
-#[derive(Debug, Drop)]
+#[derive(Drop)]
 pub struct Written {
     pub packed: Bits,
     pub filling: Filling,
@@ -131,7 +131,7 @@ fn write_field(
     };
     let compressed = downward_of(alloc, step, &uncompressed)?;
     Ok(FilledField {
-        declared: copy_of(alloc, declared)?,
+        declared: copy_of(declared)?,
         uncompressed,
         compressed,
         inner: None,

@@ -1,5 +1,5 @@
 -- The given ranges, as a range for each attribute and parameter.
-use Rattle.std.specs.Prelude.{ℕ, ◌^◌, List, pos, neg_ℤ, slice_get}
+use Rattle.std.specs.Prelude.{ℕ, ◌^◌, List, [], pos, neg_ℤ, slice_get}
 use Rattle.std.specs.Option.{unwrap_or}
 use Rattle.fn_expr.specs.Rules.{from_to}
 use Rattle.fn_expr.specs.Ranged.{Bounding}
@@ -24,6 +24,10 @@ every_of_side = record { value = every; length = every }
 -- those of a field; every number past the end of the list
 abbrev pub intervals_at : List SideIntervals → ℕ → SideIntervals
 intervals_at fields i = unwrap_or (slice_get fields i) record { uncompressed = every_of_side; compressed = every_of_side }
+
+-- every number of each attribute and parameter
+abbrev pub anything : Ranges
+anything = record { fields = []; whole = record { uncompressed = every_of_side; compressed = every_of_side }; parameters = [] }
 
 abbrev pub subject_intervals : Ranges → Subject → SideIntervals
 subject_intervals r (Field i) = intervals_at r.fields i

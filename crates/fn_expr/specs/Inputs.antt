@@ -1,5 +1,5 @@
 -- The attributes and parameters in an expression, in the order of the text, each as often as it stands there.
-use Rattle.std.specs.Prelude.{◌≡◌, ℕ, ◌+◌, ℤ, List, [], ◌∷◌, ◌++◌, length, slice_get, Option, Some, None}
+use Rattle.std.specs.Prelude.{◌≡◌, ℕ, ℤ, List, [], ◌∷◌, ◌++◌, slice_get, Option, Some}
 use Rattle.fn_expr.specs.declared.expr.Expr.{Expr}
 use Rattle.fn_expr.specs.declared.expr.Expr.TheVariants as expr
 use Rattle.fn_expr.specs.declared.expr.Expr.TheVariants.{Number, Parameter, Binary'}
@@ -7,8 +7,6 @@ use Rattle.fn_expr.specs.declared.expr.Cond.{Cond}
 use Rattle.fn_expr.specs.declared.expr.Cond.TheVariants.{Constant, Compare, Not', And', Or'}
 use Rattle.fn_expr.specs.declared.inputs.Input.{Input}
 use Rattle.fn_expr.specs.declared.inputs.Input.TheVariants as input
-use Rattle.fn_expr.specs.declared.inputs.Sought.{Sought}
-use Rattle.fn_expr.specs.declared.inputs.Sought.TheVariants.{Found, Past}
 use Rattle.fn_expr.specs.Values.{Assignment}
 
 abbrev pub inputs_of : Expr → List Input
@@ -32,12 +30,3 @@ given a (input.Parameter i) = a.parameter i
 -- each of the inputs has the same number, or none, by both
 abbrev pub Agree : Assignment → Assignment → List Input → Type 0
 Agree a b inputs = (k : ℕ) (i : Input) → slice_get inputs k ≡ Some i → given a i ≡ given b i
-
-abbrev pub input_found : Sought → Option Input
-input_found (Found i) = Some i
-input_found (Past k) = None
-
--- the input at the index, or by how much the index is past the end
-abbrev pub Finds : List Input → ℕ → Sought → Type 0
-Finds inputs n (Found i) = slice_get inputs n ≡ Some i
-Finds inputs n (Past k) = n ≡ length inputs + k

@@ -1,5 +1,5 @@
 -- The known numbers, as an assignment.
-use Rattle.std.specs.Prelude.{ℕ, List, ℤ, Option, None, slice_get}
+use Rattle.std.specs.Prelude.{ℕ, List, [], ℤ, Option, None, slice_get}
 use Rattle.std.specs.Option.{unwrap_or}
 use Rattle.fn_expr.specs.Values.{Assignment}
 use Rattle.fn_expr.specs.declared.known.Numbers.{Numbers}
@@ -14,6 +14,10 @@ use Rattle.fn_expr.specs.declared.expr.Measure.TheVariants.{Value, Length}
 
 abbrev pub no_numbers : Numbers
 no_numbers = record { value = None; length = None }
+
+-- no attribute and no parameter has a number
+abbrev pub nothing_known : Known
+nothing_known = record { fields = []; whole = record { uncompressed = no_numbers; compressed = no_numbers }; parameters = [] }
 
 -- those of a field; none past the end of the list
 abbrev pub numbers_at : List SideNumbers → ℕ → SideNumbers

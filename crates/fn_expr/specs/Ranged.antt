@@ -1,5 +1,5 @@
 -- The range of an expression: by the rules from its parts, or the first fault, inner parts first and left to right (docs/NOTATION.md, Expressions).
-use Rattle.std.specs.Prelude.{ℕ, List, Option, Some, None, Result, Ok, Err, codes, if◌then◌else◌}
+use Rattle.std.specs.Prelude.{ℕ, Option, Some, None, Result, Ok, Err, if◌then◌else◌}
 use Rattle.std.specs.Result.{result_err}
 use Rattle.fn_source.specs.declared.span.Span.{Span}
 use Rattle.fn_expr.specs.declared.expr.Attribute.{Attribute}
@@ -9,15 +9,10 @@ use Rattle.fn_expr.specs.declared.expr.Expr.TheVariants as expr
 use Rattle.fn_expr.specs.declared.expr.Expr.TheVariants.{Number, Parameter, Binary'}
 use Rattle.fn_expr.specs.declared.expr.Cond.{Cond}
 use Rattle.fn_expr.specs.declared.expr.Cond.TheVariants.{Constant, Compare, Not', And', Or'}
-use Rattle.fn_expr.specs.declared.fault.RangeFaultKind.{RangeFaultKind}
 use Rattle.fn_expr.specs.declared.fault.RangeFaultKind.TheVariants as kinds
 use Rattle.fn_expr.specs.declared.fault.RangeFault.{RangeFault}
 use Rattle.fn_expr.specs.declared.interval.Interval.{Interval}
 use Rattle.fn_expr.specs.Rules.{from_to, is_limited, rule, refuses}
-
-abbrev pub code_of : RangeFaultKind → List ℕ
-code_of kinds.AboveLimit = codes "E30"
-code_of kinds.Power = codes "E32"
 
 -- a range for each attribute and parameter
 pub record Bounding : Type 0 where

@@ -3,28 +3,28 @@
 use fn_source::Span;
 
 /// One of the two sides of a field.
-#[derive(Clone, Copy, Debug, PartialEq, Eq)]
+#[derive(Clone, Copy, PartialEq, Eq)]
 pub enum Side {
     Uncompressed,
     Compressed,
 }
 
 /// What an attribute counts: the number that the bits spell, the first bit highest, or how many bits there are.
-#[derive(Clone, Copy, Debug, PartialEq, Eq)]
+#[derive(Clone, Copy, PartialEq, Eq)]
 pub enum Measure {
     Value,
     Length,
 }
 
 /// Whose bits an attribute speaks of: a field's, by its index in field order, or those of the whole that the method encodes.
-#[derive(Clone, Copy, Debug, PartialEq, Eq)]
+#[derive(Clone, Copy, PartialEq, Eq)]
 pub enum Subject {
     Field(usize),
     This,
 }
 
 /// An attribute, as `f.UVALUE` or `THIS.CLENGTH`.
-#[derive(Clone, Copy, Debug, PartialEq, Eq)]
+#[derive(Clone, Copy, PartialEq, Eq)]
 pub struct Attribute {
     pub subject: Subject,
     pub side: Side,
@@ -32,7 +32,7 @@ pub struct Attribute {
 }
 
 /// An operator of whole numbers: `+ - * / % ^`.
-#[derive(Clone, Copy, Debug, PartialEq, Eq)]
+#[derive(Clone, Copy, PartialEq, Eq)]
 pub enum Operator {
     Add,
     Subtract,
@@ -43,7 +43,7 @@ pub enum Operator {
 }
 
 /// A comparison of whole numbers: `== != < > <= >=`.
-#[derive(Clone, Copy, Debug, PartialEq, Eq)]
+#[derive(Clone, Copy, PartialEq, Eq)]
 pub enum Comparison {
     Equal,
     NotEqual,
@@ -54,7 +54,7 @@ pub enum Comparison {
 }
 
 /// An expression of whole numbers, each part with its place. A parameter goes by its index, and constants are numbers already.
-#[derive(Debug, Drop)]
+#[derive(Drop)]
 pub enum Expr {
     Number(Span, i128),
     Parameter(Span, usize),
@@ -63,7 +63,7 @@ pub enum Expr {
 }
 
 /// An expression of truth, each part with its place.
-#[derive(Debug, Drop)]
+#[derive(Drop)]
 pub enum Cond {
     Constant(Span, bool),
     Compare(Span, Comparison, Expr, Expr),

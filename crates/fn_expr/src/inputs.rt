@@ -1,85 +1,66 @@
 //! The attributes and parameters in an expression.
 
-ghost use Rattle.std.specs.Prelude.{◌≡◌, ◌∷◌, [], slice_get};
-ghost use Rattle.fn_expr.specs.Inputs.{Finds, input_found, inputs_of, condition_inputs_of};
+ghost use Rattle.std.specs.Prelude.{◌≡◌, ◌++◌, IfOk, OnOk};
+ghost use Rattle.fn_expr.specs.Inputs.{inputs_of, condition_inputs_of};
 
 use crate::expr::{Attribute, Cond, Expr};
+use sqlite_items::Items;
+use std::alloc::{AllocError, Global};
 
 /// An attribute or a parameter in an expression.
-#[derive(Clone, Copy, Debug, PartialEq, Eq)]
+#[derive(Clone, Copy, PartialEq, Eq)]
 pub enum Input {
     Attribute(Attribute),
     Parameter(usize),
 }
 
-/// The outcome of a search: the input, or how many were still to be passed at the end.
-enum Sought {
-    Found(Input),
-    Past(usize),
-}
-
-/// The input of an expression at an index: in the order of the text, each as often as it stands there. None past the last.
-pub fn input_at(expr: &Expr, index: usize) -> Option<Input>
-    ensures { result ≡ slice_get (inputs_of expr.now) index }
+/// The inputs of an expression: in the order of the text, each as often as it stands there.
+pub fn expr_inputs(alloc: Global, expr: &Expr) -> Result<Items<Input>, AllocError>
+    ensures { IfOk result (λ found. found ≡ inputs_of expr.now) }
 {
-    found(find(expr, index))
+    let mut found = Items::new(alloc);
+    push_inputs(expr, &mut found)?;
+    Ok(found)
 }
 
-/// The input of a condition at an index, likewise.
-pub fn condition_input_at(cond: &Cond, index: usize) -> Option<Input>
-    ensures { result ≡ slice_get (condition_inputs_of cond.now) index }
+/// The inputs of a condition, likewise.
+pub fn condition_inputs(alloc: Global, cond: &Cond) -> Result<Items<Input>, AllocError>
+    ensures { IfOk result (λ found. found ≡ condition_inputs_of cond.now) }
 {
-    found(find_in_condition(cond, index))
+    let mut found = Items::new(alloc);
+    push_condition_inputs(cond, &mut found)?;
+    Ok(found)
 }
 
-fn found(sought: Sought) -> Option<Input>
-    ensures { result ≡ input_found sought }
-{
-    match sought {
-        Sought::Found(input) => Some(input),
-        Sought::Past(_) => None,
-    }
-}
-
-fn find(expr: &Expr, index: usize) -> Sought
-    ensures { Finds (inputs_of expr.now) index result }
+fn push_inputs(expr: &Expr, found: &mut Items<Input>) -> Result<(), AllocError>
+    ensures { OnOk result (found.new ≡ found.old ++ inputs_of expr.now) }
 {
     match expr {
-        Expr::Number(_, _) => Sought::Past(index),
-        Expr::Parameter(_, parameter) => find_one(Input::Parameter(*parameter), index),
-        Expr::Attribute(_, attribute) => find_one(Input::Attribute(*attribute), index),
-        Expr::Binary(_, _, left, right) => match find(left, index) {
-            Sought::Found(input) => Sought::Found(input),
-            Sought::Past(rest) => find(right, rest),
-        },
-    }
-}
-
-fn find_in_condition(cond: &Cond, index: usize) -> Sought
-    ensures { Finds (condition_inputs_of cond.now) index result }
-{
-    match cond {
-        Cond::Constant(_, _) => Sought::Past(index),
-        Cond::Compare(_, _, left, right) => match find(left, index) {
-            Sought::Found(input) => Sought::Found(input),
-            Sought::Past(rest) => find(right, rest),
-        },
-        Cond::Not(_, inner) => find_in_condition(inner, index),
-        Cond::And(_, left, right) | Cond::Or(_, left, right) => {
-            match find_in_condition(left, index) {
-                Sought::Found(input) => Sought::Found(input),
-                Sought::Past(rest) => find_in_condition(right, rest),
-            }
+        Expr::Number(_, _) => {}
+        Expr::Parameter(_, parameter) => found.push(Input::Parameter(*parameter))?,
+        Expr::Attribute(_, attribute) => found.push(Input::Attribute(*attribute))?,
+        Expr::Binary(_, _, left, right) => {
+            push_inputs(left, found)?;
+            push_inputs(right, found)?;
         }
     }
+    Ok(())
 }
 
-fn find_one(input: Input, index: usize) -> Sought
-    ensures { Finds (input ∷ []) index result }
+fn push_condition_inputs(cond: &Cond, found: &mut Items<Input>) -> Result<(), AllocError>
+    ensures { OnOk result (found.new ≡ found.old ++ condition_inputs_of cond.now) }
 {
-    if index == 0 {
-        Sought::Found(input)
-    } else {
-        Sought::Past(index - 1)
+    match cond {
+        Cond::Constant(_, _) => {}
+        Cond::Compare(_, _, left, right) => {
+            push_inputs(left, found)?;
+            push_inputs(right, found)?;
+        }
+        Cond::Not(_, inner) => push_condition_inputs(inner, found)?,
+        Cond::And(_, left, right) | Cond::Or(_, left, right) => {
+            push_condition_inputs(left, found)?;
+            push_condition_inputs(right, found)?;
+        }
     }
+    Ok(())
 }

@@ -13,7 +13,7 @@ const LIMIT: i128 = 0x100_0000_0000_0000_0000_0000_0000_0000;
 const MOST_EXPONENT: i128 = 127;
 
 /// The whole numbers from one to another, both included; none where the first is above the second.
-#[derive(Clone, Copy, Debug, PartialEq, Eq)]
+#[derive(Clone, Copy, PartialEq, Eq)]
 pub struct Interval {
     pub from: i128,
     pub to: i128,

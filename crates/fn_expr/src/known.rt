@@ -1,20 +1,21 @@
 //! What is known of the attributes and parameters.
 
 ghost use Rattle.std.specs.Prelude.{◌≡◌};
-ghost use Rattle.fn_expr.specs.Known.{assignment_of, no_numbers, numbers_at};
+ghost use Rattle.fn_expr.specs.Known.{assignment_of, no_numbers, nothing_known, numbers_at};
 
 use crate::expr::{Attribute, Measure, Side, Subject};
 use sqlite_items::Items;
+use std::alloc::Global;
 
 /// The number that some bits spell and how many bits there are, where they are known.
-#[derive(Clone, Copy, Debug, PartialEq, Eq)]
+#[derive(Clone, Copy, PartialEq, Eq)]
 pub struct Numbers {
     pub value: Option<i128>,
     pub length: Option<i128>,
 }
 
 /// Those of both sides of a field.
-#[derive(Clone, Copy, Debug, PartialEq, Eq)]
+#[derive(Clone, Copy, PartialEq, Eq)]
 pub struct SideNumbers {
     pub uncompressed: Numbers,
     pub compressed: Numbers,
@@ -22,7 +23,7 @@ pub struct SideNumbers {
 
 /// The known numbers: of the fields in field order, of the whole, and of the parameters in order.
 /// A field or a parameter past the end of its list has no known number.
-#[derive(Debug, Drop)]
+#[derive(Drop)]
 pub struct Known {
     pub fields: Items<SideNumbers>,
     pub whole: SideNumbers,
@@ -30,6 +31,24 @@ pub struct Known {
 }
 
 impl Known {
+    /// No number is known.
+    pub fn nothing(alloc: Global) -> Known
+        ensures { result ≡ nothing_known }
+    {
+        let none = Numbers {
+            value: None,
+            length: None,
+        };
+        Known {
+            fields: Items::new(alloc),
+            whole: SideNumbers {
+                uncompressed: none,
+                compressed: none,
+            },
+            parameters: Items::new(alloc),
+        }
+    }
+
     /// The number of a parameter, where it is known.
     pub fn parameter(&self, index: usize) -> Option<i128>
         ensures { result ≡ (assignment_of self.now).parameter index }

@@ -3,7 +3,7 @@
 
 pub use expr::{Attribute, Comparison, Cond, Expr, Measure, Operator, Side, Subject};
 pub use fault::{RangeFault, RangeFaultKind};
-pub use inputs::{Input, condition_input_at, input_at};
+pub use inputs::{Input, condition_inputs, expr_inputs};
 pub use interval::Interval;
 pub use known::{Known, Numbers, SideNumbers};
 pub use ranges::{Intervals, Ranges, SideIntervals, condition_fault, range};

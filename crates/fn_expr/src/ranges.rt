@@ -4,23 +4,24 @@ ghost use Rattle.std.specs.Prelude.{◌≡◌, true, IfOk, IfNone};
 ghost use Rattle.fn_expr.specs.Rules as rules;
 ghost use Rattle.fn_expr.specs.Ranged.{ranged, limited, joined, fault_in};
 ghost use Rattle.fn_expr.specs.Spread.{AreAccepted};
-ghost use Rattle.fn_expr.specs.Bounds.{bounding_of, intervals_at};
+ghost use Rattle.fn_expr.specs.Bounds.{anything, bounding_of, intervals_at};
 
 use crate::expr::{Attribute, Cond, Expr, Measure, Operator, Side, Subject};
 use crate::fault::{RangeFault, RangeFaultKind};
 use crate::interval::{EVERY, Interval, combine, is_refused};
 use fn_source::Span;
 use sqlite_items::Items;
+use std::alloc::Global;
 
 /// The range of the number that some bits spell, and of how many bits there are.
-#[derive(Clone, Copy, Debug, PartialEq, Eq)]
+#[derive(Clone, Copy, PartialEq, Eq)]
 pub struct Intervals {
     pub value: Interval,
     pub length: Interval,
 }
 
 /// Those of both sides of a field.
-#[derive(Clone, Copy, Debug, PartialEq, Eq)]
+#[derive(Clone, Copy, PartialEq, Eq)]
 pub struct SideIntervals {
     pub uncompressed: Intervals,
     pub compressed: Intervals,
@@ -28,14 +29,36 @@ pub struct SideIntervals {
 
 /// The ranges of the fields in field order, of the whole, and of the parameters in order.
 /// Of a field or a parameter past the end of its list each range is from `-2^120` to `2^120`.
-#[derive(Debug, Drop)]
+#[derive(Drop)]
 pub struct Ranges {
     pub fields: Items<SideIntervals>,
     pub whole: SideIntervals,
     pub parameters: Items<Interval>,
 }
 
+/// Each number of a field may be any.
+const ANY_SIDES: SideIntervals = SideIntervals {
+    uncompressed: ANY,
+    compressed: ANY,
+};
+
+const ANY: Intervals = Intervals {
+    value: EVERY,
+    length: EVERY,
+};
+
 impl Ranges {
+    /// Each number may be any.
+    pub fn anything(alloc: Global) -> Ranges
+        ensures { result ≡ anything }
+    {
+        Ranges {
+            fields: Items::new(alloc),
+            whole: ANY_SIDES,
+            parameters: Items::new(alloc),
+        }
+    }
+
     /// The range of a parameter.
     pub fn parameter(&self, index: usize) -> Interval
         ensures { result ≡ (bounding_of self.now).parameter index }
@@ -69,16 +92,7 @@ impl Ranges {
     {
         match self.fields.get(index) {
             Some(sides) => *sides,
-            None => {
-                let every = Intervals {
-                    value: EVERY,
-                    length: EVERY,
-                };
-                SideIntervals {
-                    uncompressed: every,
-                    compressed: every,
-                }
-            }
+            None => ANY_SIDES,
         }
     }
 }

@@ -3,9 +3,9 @@ use Rattle.std.specs.Prelude.{ℕ, ◌≤◌, ◌^◌, Bool, true, false, List, 
 use Rattle.std.specs.List.{flat_map}
 use Rattle.fn_bits.specs.declared.bits.BitsError.{BitsError}
 use Rattle.fn_bits.specs.declared.bits.BitsError.TheVariants.{Full, OutOfMemory}
-use Rattle.fn_profile.specs.declared.profile.Part.{Part}
-use Rattle.fn_profile.specs.declared.profile.Part.TheVariants.{Header, Control, Local}
-use Rattle.fn_profile.specs.declared.profile.Declared.{Declared}
+use Rattle.fn_normal.specs.declared.profile.Part.{Part}
+use Rattle.fn_normal.specs.declared.profile.Part.TheVariants.{Header, Control, Local}
+use Rattle.fn_normal.specs.declared.profile.Declared.{Declared}
 use Rattle.fn_filling.specs.declared.filling.Filling.{Filling, out-Filling}
 use Rattle.fn_filling.specs.declared.filling.FilledField.{FilledField, out-FilledField}
 use Rattle.fn_filling.specs.declared.filling.Item.{Item}

@@ -6,7 +6,7 @@ ghost use Rattle.fn_filling.specs.Entries.{below, own_entry, entries, entries_be
 use crate::filling::Filling;
 use fn_bits::Bits;
 use fn_context::Context;
-use fn_profile::Part;
+use fn_normal::Part;
 use std::alloc::{AllocError, Global};
 
 impl Filling {

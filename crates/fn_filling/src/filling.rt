@@ -1,11 +1,11 @@
 //! The types of fillings and items.
 
 use fn_bits::Bits;
-use fn_profile::{Declared, Name};
+use fn_normal::{Declared, Name};
 use sqlite_items::Items;
 
 /// A format of a method, by its index, with both sides of each of its fields in field order.
-#[derive(Debug, Drop)]
+#[derive(Drop)]
 #[cycle(filling)]
 pub struct Filling {
     pub format: usize,
@@ -15,7 +15,7 @@ pub struct Filling {
 }
 
 /// A field with its two sides, and the filling of the method that it calls, if it calls one.
-#[derive(Debug, Drop)]
+#[derive(Drop)]
 #[cycle(filling)]
 pub struct FilledField {
     pub declared: Declared,
@@ -25,14 +25,14 @@ pub struct FilledField {
 }
 
 /// What a packer is given and an unpacker gives: a header, and the values of the asked fields in the order of CONTROL.
-#[derive(Debug, Drop)]
+#[derive(Drop)]
 pub struct Item {
     pub header: Bits,
     pub asked: Items<AskedValue>,
 }
 
 /// The value of an asked field, in bits.
-#[derive(Debug, Drop)]
+#[derive(Drop)]
 pub struct AskedValue {
     pub name: Name,
     pub bits: Bits,

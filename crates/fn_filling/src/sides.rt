@@ -4,7 +4,7 @@ ghost use Rattle.std.specs.Prelude.{◌≡◌, IfOk, MatchResult};
 
 use crate::filling::{AskedValue, Filling, Item};
 use fn_bits::{Bits, BitsError};
-use fn_profile::{Name, Part};
+use fn_normal::Part;
 use sqlite_items::Items;
 use std::alloc::{AllocError, Global};
 
@@ -62,7 +62,7 @@ impl Filling {
         for field in self.fields.as_slice() {
             if field.declared.asked {
                 values.push(AskedValue {
-                    name: Name::new(alloc, field.declared.name.as_str())?,
+                    name: field.declared.name.share()?,
                     bits: field.uncompressed.copy(alloc)?,
                 })?;
             }

@@ -23,16 +23,17 @@ use Rattle.fn_expr.specs.Values.{Assignment, val}
 use Rattle.fn_expr.specs.Inputs.{inputs_of, Agree, given}
 use Rattle.fn_expr.specs.Rules.{IsIn}
 use Rattle.fn_expr.specs.Spread.{LieIn}
+use Rattle.fn_expr.specs.Known.{measured as measured_of}
 use Rattle.fn_expr.specs.Bounds.{every, every_of_side, interval_of, side_intervals, intervals_at}
 use Rattle.fn_expr.proofs.Agreement.{same_value}
-use Rattle.fn_profile.specs.declared.profile.Bounds.{Bounds}
-use Rattle.fn_profile.specs.declared.profile.Sizes.{Sizes}
-use Rattle.fn_profile.specs.declared.profile.FormatSizes.{FormatSizes}
-use Rattle.fn_profile.specs.declared.profile.MethodSizes.{MethodSizes}
-use Rattle.fn_profile.specs.declared.profile.Encoding.TheVariants as encoding
-use Rattle.fn_profile.specs.declared.profile.Field.{Field}
-use Rattle.fn_profile.specs.declared.profile.Format.{Format}
-use Rattle.fn_profile.specs.declared.profile.Method.{Method}
+use Rattle.fn_normal.specs.declared.profile.Bounds.{Bounds}
+use Rattle.fn_normal.specs.declared.profile.Sizes.{Sizes}
+use Rattle.fn_normal.specs.declared.profile.FormatSizes.{FormatSizes}
+use Rattle.fn_normal.specs.declared.profile.MethodSizes.{MethodSizes}
+use Rattle.fn_normal.specs.declared.profile.Encoding.TheVariants as encoding
+use Rattle.fn_normal.specs.declared.profile.Field.{Field}
+use Rattle.fn_normal.specs.declared.profile.Format.{Format}
+use Rattle.fn_normal.specs.declared.profile.Method.{Method}
 use Rattle.fn_bounds.specs.Faults.{side_bounds, is_wide, is_wide_by}
 use Rattle.fn_bounds.specs.Formats.{sizes_at}
 use Rattle.fn_bounds.specs.Methods.{is_within}
@@ -49,44 +50,17 @@ use Rattle.fn_filling.specs.Fillings.{Sides, fields_of, inner_of, listing_of, le
 use Rattle.fn_filling.specs.Entries.{Path, below}
 use Rattle.fn_fits.specs.Fits.{Context, Fits, IsShaped, format_at, side_of, field_side, measured, assigned, vals}
 use Rattle.fn_fits.specs.Bounded.{LiesBetween, SidesLie, LengthsLie, ArgumentsLie, AreCounted, LeadsTo, itself, by_call, ArgumentsLieInRanges}
-use Rattle.fn_fits.proofs.Sized.{one_value, and_then_some, map_some}
+use Rattle.fn_fits.specs.Numbers.{numbers}
+use Rattle.fn_fits.proofs.Sized.{one_value}
+use Rattle.fn_fits.proofs.Values.{vals_length, vals_at}
+use Rattle.fn_fits.proofs.Lying.{bits_lie, measure_lies, arguments_lie}
 use Rattle.fn_fits.proofs.Inverted.{parts, called_parts, length-level}
 use Rattle.fn_fits.proofs.Bounding.{placed, count_sizes, lie-in-bounds}
 
--- ---- the values of several expressions
-
--- the first value and the rest
-record Valued (a : Assignment) (e : Expr) (es : List Expr) (vs : List ℤ) : Type 0 where
-  first : ℤ
-  rest : List ℤ
-  is : vs ≡ first ∷ rest
-  first_is : val a e ≡ Some first
-  rest_are : vals a es ≡ Some rest
-
-valued : (a : Assignment) (e : Expr) (es : List Expr) (vs : List ℤ) → vals a (e ∷ es) ≡ Some vs → Valued a e es vs
-valued a e es vs at =
-    let t = and_then_some (λ v. option_map (λ ws. v ∷ ws) (vals a es)) (val a e) vs at in
-    let r = map_some (λ ws. t.0 ∷ ws) (vals a es) vs t.2 in
-    record { first = t.0; rest = r.0; is = sym r.2; first_is = t.1; rest_are = r.1 }
-
-vals_length : (a : Assignment) (es : List Expr) (vs : List ℤ) → vals a es ≡ Some vs → length vs ≡ length es
-vals_length a [] vs at = let none : [] ≡ vs = cc in sym (ap length none)
-vals_length a (e ∷ es) vs at = let v = valued a e es vs at in ap length v.is ∙ ap suc (vals_length a es v.rest v.rest_are)
-
-vals_at : (a : Assignment) (es : List Expr) (vs : List ℤ) (q : ℕ) (w : ℤ) → vals a es ≡ Some vs → slice_get vs q ≡ Some w → (e : Expr) × (slice_get es q ≡ Some e) × (val a e ≡ Some w)
-vals_at a [] vs q w at here = let none : vs ≡ [] = cc in let wrong : None ≡ Some w = sym (ap (λ xs. slice_get xs q) none) ∙ here in absurd cc
-vals_at a (e ∷ es) vs zero w at here =
-    let v = valued a e es vs at in
-    let one : Some v.first ≡ Some w = sym (ap (λ xs. slice_get xs 0) v.is) ∙ here in
-    (e, refl, v.first_is ∙ one)
-vals_at a (e ∷ es) vs (suc q) w at here = let v = valued a e es vs at in vals_at a es v.rest q w v.rest_are (sym (ap (λ xs. slice_get xs (suc q)) v.is) ∙ here)
-
 -- ---- the numbers of up to 64 bits
 
--- the number that the bits spell, up to 64 of them, and how many they are
 abbrev narrow : Measure → List Bool → Option ℤ
-narrow measure.Value bits = if nat_le (length bits) 64 then Some (pos (num bits)) else None
-narrow measure.Length bits = Some (pos (length bits))
+narrow m bits = measured_of (numbers bits) m
 
 -- the numbers of a level, without those of longer bits
 abbrev narrowed : List ℕ → List Sides → List ℤ → Assignment
@@ -95,40 +69,14 @@ narrowed listing fs args = record {
   parameter = λ i. slice_get args i;
 }
 
-value_lies : (b : Bounds) (bits : List Bool) → LiesBetween b (length bits) → IfSome (narrow measure.Value bits) (IsIn (value_range b.most))
-value_lies b bits lies = by (nat_le (length bits) 64) refl
-  where
-    by : (t : Bool) → nat_le (length bits) 64 ≡ t → IfSome (cond t (Some (pos (num bits))) None) (IsIn (value_range b.most))
-    by false e = tt
-    by true e =
-        let short : length bits ≤ 64 = grind (arith, nat_tests) in
-        let most : length bits ≤ b.most = lies.most in
-        let up : length bits ≤ min b.most 126 = omega arith in
-        let small : num bits < 2 ^ length bits = num-below bits in
-        let power : 2 ^ length bits ≤ 2 ^ min b.most 126 = pow_mono up in
-        let le : num bits ≤ 2 ^ min b.most 126 - 1 = omega arith in
-        record { above = omega (arith, ints); below = omega (arith, ints) }
-
-length_lies : (b : Bounds) (bits : List Bool) → b.most ≤ 2 ^ 64 → LiesBetween b (length bits) → IsIn (length_range b) (pos (length bits))
-length_lies b bits small lies =
-    let least : b.least ≤ length bits = lies.least in
-    let most : length bits ≤ b.most = lies.most in
-    let low : min (min b.least b.most) (2 ^ 64) ≤ length bits = omega arith in
-    let high : length bits ≤ min b.most (2 ^ 64) = omega arith in
-    record { above = omega (arith, ints); below = omega (arith, ints) }
-
-bits_lie : (m : Measure) (b : Bounds) (bits : List Bool) → b.most ≤ 2 ^ 64 → LiesBetween b (length bits) → IfSome (narrow m bits) (IsIn (interval_of (intervals_of b) m))
-bits_lie measure.Value b bits small lies = value_lies b bits lies
-bits_lie measure.Length b bits small lies = length_lies b bits small lies
-
 -- no bound of the sizes is above 2^64
 abbrev AreSmall : Sizes → Type 0
 AreSmall s = (z : Side) → (side_bounds z s).most ≤ 2 ^ 64
 
 field_lies : (m : Measure) (z : Side) (b : Sizes) (s : Sides) → AreSmall b → SidesLie b (length s.uncompressed) (length s.compressed)
     → IfSome (narrow m (field_side (Some s) z)) (IsIn (interval_of (side_intervals (side_ranges b) z) m))
-field_lies m Uncompressed b s small lie = bits_lie m b.uncompressed s.uncompressed (small Uncompressed) lie.uncompressed_lies
-field_lies m Compressed b s small lie = bits_lie m b.compressed s.compressed (small Compressed) lie.compressed_lies
+field_lies m Uncompressed b s small lie = measure_lies m b.uncompressed (numbers s.uncompressed) (bits_lie b.uncompressed s.uncompressed (small Uncompressed) lie.uncompressed_lies)
+field_lies m Compressed b s small lie = measure_lies m b.compressed (numbers s.compressed) (bits_lie b.compressed s.compressed (small Compressed) lie.compressed_lies)
 
 -- past the end a side is empty, and its range has every number
 zero_lies : IsIn every (pos 0)
@@ -149,20 +97,6 @@ fields_lie [] (b ∷ bs) i m z same small lie = absurd (omega (arith, same))
 fields_lie (f ∷ fs) [] i m z same small lie = absurd (omega (arith, same))
 fields_lie (f ∷ fs) (b ∷ bs) zero m z same small lie = field_lies m z b f (small 0 b refl) (lie 0 f b refl refl)
 fields_lie (f ∷ fs) (b ∷ bs) (suc i) m z same small lie = fields_lie fs bs i m z (omega (arith, same)) (λ j c at. small (suc j) c at) (λ j s c here at. lie (suc j) s c here at)
-
-none_there : (xs : List Interval) (j : ℕ) → j < length xs → slice_get xs j ≡ None → ⊥
-none_there xs j lt e = let x = there xs j lt in let wrong : None ≡ Some x.0 = sym e ∙ x.1 in absurd (cc)
-
-arguments_lie : (rs : List Interval) (args : List ℤ) → ArgumentsLie rs args → (i : ℕ) (e : Interval) → IfSome (slice_get args i) (IsIn (unwrap_or (slice_get rs i) e))
-arguments_lie rs args lie i e = by (slice_get args i) refl (slice_get rs i) refl
-  where
-    by : (o : Option ℤ) → slice_get args i ≡ o → (q : Option Interval) → slice_get rs i ≡ q → IfSome o (IsIn (unwrap_or q e))
-    by None at q is = tt
-    by (Some v) at (Some r) is = lie.each i r v is at
-    by (Some v) at None is =
-        let within : i < length args = slice_get_within args i v at in
-        let known : i < length rs = omega (arith, within, lie.count) in
-        absurd (none_there rs i known is)
 
 -- ---- the same numbers where no bits are wide
 
@@ -210,8 +144,8 @@ module _ (format : Format) (f : Filling) (args : List ℤ) (s : MethodSizes) (si
       by : (x : Subject) (z : Side) (m : Measure)
           → IfSome ((narrowed format.listing (level f) args).attribute (record { subject = x; side = z; measure = m })) (IsIn ((ranges_in sizes s).attribute (record { subject = x; side = z; measure = m })))
       by (subject.Field i) z m = fields_lie (level f) sizes.fields i m z same small lie.fields
-      by subject.This Uncompressed m = bits_lie m sizes.whole.uncompressed (header f) (whole Uncompressed) lie.whole.uncompressed_lies
-      by subject.This Compressed m = bits_lie m sizes.whole.compressed (packed_bits format.listing (level f)) (whole Compressed) packed_same
+      by subject.This Uncompressed m = measure_lies m sizes.whole.uncompressed (numbers (header f)) (bits_lie sizes.whole.uncompressed (header f) (whole Uncompressed) lie.whole.uncompressed_lies)
+      by subject.This Compressed m = measure_lies m sizes.whole.compressed (numbers (packed_bits format.listing (level f))) (bits_lie sizes.whole.compressed (packed_bits format.listing (level f)) (whole Compressed) packed_same)
 
   attribute_same : (t : Attribute) → is_wide sizes t ≡ false → (narrowed format.listing (level f) args).attribute t ≡ (assigned format.listing (level f) args).attribute t
   attribute_same t e = by t.subject t.side t.measure e

@@ -16,20 +16,20 @@ use Rattle.fn_expr.specs.declared.expr.Expr.TheVariants.{Number, Parameter, Bina
 use Rattle.fn_expr.specs.declared.interval.Interval.{Interval}
 use Rattle.fn_expr.specs.declared.fault.RangeFault.{RangeFault}
 use Rattle.fn_expr.specs.Values.{Assignment, val, both, apply}
-use Rattle.fn_expr.specs.Known.{assignment_of, measured, side_numbers, subject_numbers}
+use Rattle.fn_expr.specs.Known.{assignment_of, measured, nothing_known, side_numbers, subject_numbers}
 use Rattle.fn_expr.specs.Ranged.{ranged}
-use Rattle.fn_expr.specs.Bounds.{bounding_of}
-use Rattle.fn_profile.specs.declared.profile.Sizes.{Sizes}
-use Rattle.fn_profile.specs.declared.profile.FormatSizes.{FormatSizes}
-use Rattle.fn_profile.specs.declared.profile.MethodSizes.{MethodSizes}
-use Rattle.fn_profile.specs.declared.profile.Library.{Library}
-use Rattle.fn_profile.specs.declared.profile.Encoding.{Encoding}
-use Rattle.fn_profile.specs.declared.profile.Encoding.TheVariants as encoding
-use Rattle.fn_profile.specs.declared.profile.Constraint.TheVariants.{Bracket}
-use Rattle.fn_profile.specs.declared.profile.Field.{Field}
-use Rattle.fn_profile.specs.declared.profile.Format.{Format}
-use Rattle.fn_profile.specs.declared.profile.Method.{Method}
-use Rattle.fn_bounds.specs.Constants.{nothing_known, no_ranges, where_ranged, constant}
+use Rattle.fn_expr.specs.Bounds.{anything, bounding_of}
+use Rattle.fn_normal.specs.declared.profile.Sizes.{Sizes}
+use Rattle.fn_normal.specs.declared.profile.FormatSizes.{FormatSizes}
+use Rattle.fn_normal.specs.declared.profile.MethodSizes.{MethodSizes}
+use Rattle.fn_normal.specs.declared.profile.Library.{Library}
+use Rattle.fn_normal.specs.declared.profile.Encoding.{Encoding}
+use Rattle.fn_normal.specs.declared.profile.Encoding.TheVariants as encoding
+use Rattle.fn_normal.specs.declared.profile.Constraint.TheVariants.{Bracket}
+use Rattle.fn_normal.specs.declared.profile.Field.{Field}
+use Rattle.fn_normal.specs.declared.profile.Format.{Format}
+use Rattle.fn_normal.specs.declared.profile.Method.{Method}
+use Rattle.fn_bounds.specs.Constants.{where_ranged, constant}
 use Rattle.fn_bounds.specs.Faults.{side_bounds}
 use Rattle.fn_bounds.specs.Fields.{lists, field_sizes}
 use Rattle.fn_bounds.specs.Formats.{format_sizes}
@@ -46,7 +46,7 @@ use Rattle.fn_fits.specs.Fits.{Context, Fits, FieldFits, LevelFits, format_at, s
 use Rattle.fn_fits.specs.Fits as fit
 use Rattle.fn_fits.specs.Bounded.{LiesBetween, SidesLie, LengthsLie, LengthsLieInBounds}
 use Rattle.fn_fits.proofs.Sized.{end_of, one_value, Sized, sized, and_then_some}
-use Rattle.fn_fits.proofs.Inverted.{coded_parts, length-level, length-fields}
+use Rattle.fn_fits.proofs.Inverted.{bare_parts, coded_parts, length-level, length-fields}
 use Rattle.fn_fits.proofs.Sums.{header_low, header_high, piece, bound_at, packed_low, packed_high}
 
 -- ---- constants
@@ -75,7 +75,7 @@ value_kept a (Binary' s op p x q y) v h =
     both_values (val (assignment_of nothing_known) x) (val (assignment_of nothing_known) y) (val a x) (val a y) (apply op) v (value_kept a x) (value_kept a y) h
 
 pub constant_value : (a : Assignment) (e : Expr) (v : ℤ) → constant e ≡ Some v → val a e ≡ Some v
-constant_value a e v h = by (ranged (bounding_of no_ranges) e) h
+constant_value a e v h = by (ranged (bounding_of anything) e) h
   where
     by : (r : Result Interval RangeFault) → where_ranged r (val (assignment_of nothing_known) e) ≡ Some v → val a e ≡ Some v
     by (Ok i) is = value_kept a e v is
@@ -96,17 +96,6 @@ lie_of Compressed b u c h = h.compressed_lies
 side_is : (o : Option Sides) (x : Sides) (z : Side) → o ≡ Some x → field_side o z ≡ end_of z x.uncompressed x.compressed
 side_is o x Uncompressed e = ap (λ y. field_side y Uncompressed) e
 side_is o x Compressed e = ap (λ y. field_side y Compressed) e
-
--- a field without an encoding
-record BareParts (g : FilledField) : Type 0 where
-  short : length (sides_of g).uncompressed ≤ 64
-  none : (sides_of g).compressed ≡ []
-
-bare_parts : {methods : List Method} {ctx : Context} {side : Subject → Side → List Bool} {a : Assignment} {path : Path} {d : Field} {e : Encoding} {g : FilledField}
-    → FieldFits methods ctx side a path d e g → e ≡ encoding.Bare → BareParts g
-bare_parts (fit.bare short none plain) e = record { short = short; none = none }
-bare_parts (fit.coded m is holds plain) e = absurd (cc)
-bare_parts (fit.called args inner is_args is_inner inner_fits u c) e = absurd (cc)
 
 module _ (methods : List Method) (table : List MethodSizes) (are : AreSizes methods table) where
   bounds : HasBounds methods table
@@ -213,14 +202,14 @@ module _ (methods : List Method) (table : List MethodSizes) (are : AreSizes meth
           omega arith
       upper z i d n e (most_bare is is_u) =
           let h = here i d e in
-          let b = bare_parts (each i d h.x e h.at_f) is in
+          let b = bare_parts methods ctx (each i d h.x e h.at_f) is in
           let same : length (bits_at i z) ≡ length (sides_of h.x).uncompressed = ap (λ y. length (bits_at i y)) is_u ∙ h.same Uncompressed in
           let short = b.short in
           omega arith
       upper z i d n e (most_unsent is is_c) =
           let h = here i d e in
-          let b = bare_parts (each i d h.x e h.at_f) is in
-          let same : length (bits_at i z) ≡ 0 = ap (λ y. length (bits_at i y)) is_c ∙ h.same Compressed ∙ ap length b.none in
+          let b = bare_parts methods ctx (each i d h.x e h.at_f) is in
+          let same : length (bits_at i z) ≡ 0 = ap (λ y. length (bits_at i y)) is_c ∙ h.same Compressed ∙ ap length b.unsent in
           omega arith
       upper z i d n e (most_missing j es is et) =
           let h = here i d e in

@@ -1,6 +1,9 @@
+pub mod Values
+pub mod Lying
 pub mod Sized
 pub mod Inverted
 pub mod Sums
 pub mod Bounding
 pub mod Arguments
 pub mod Sides
+pub mod Fronts

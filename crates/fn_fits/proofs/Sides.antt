@@ -1,25 +1,26 @@
 -- The sides of a filling determine it, and stand one after the other in its packed bits.
-use Rattle.std.proofs.Common.{◌≡◌, ◌∙◌, refl, sym, ap, subst, ℕ, Bool, List, [], ◌∷◌, ◌++◌, length, append_assoc}
+use Rattle.std.proofs.Common.{◌≡◌, ◌∙◌, refl, sym, ap, subst, ℕ, Bool, true, false, cond, List, [], ◌∷◌, ◌++◌, length, filter, append_assoc}
 use Rattle.std.specs.Prelude.{Option, Some, None, slice_get, ℤ}
+use Rattle.std.specs.List.{flat_map}
 use Rattle.std.specs.Option.{option_map, option_and_then, option_or, unwrap_or}
 use Rattle.fn_expr.specs.declared.expr.Subject.{Subject}
 use Rattle.fn_expr.specs.declared.expr.Side.{Side}
 use Rattle.fn_expr.specs.declared.expr.Side.TheVariants.{Compressed}
 use Rattle.fn_expr.specs.Values.{Assignment}
-use Rattle.fn_profile.specs.declared.profile.Part.{Part}
-use Rattle.fn_profile.specs.declared.profile.Part.TheVariants.{Header, Control, Local}
-use Rattle.fn_profile.specs.declared.profile.Encoding.{Encoding}
-use Rattle.fn_profile.specs.declared.profile.Field.{Field}
-use Rattle.fn_profile.specs.declared.profile.Format.{Format}
-use Rattle.fn_profile.specs.declared.profile.Method.{Method}
+use Rattle.fn_normal.specs.declared.profile.Part.{Part}
+use Rattle.fn_normal.specs.declared.profile.Part.TheVariants.{Header, Control, Local}
+use Rattle.fn_normal.specs.declared.profile.Encoding.{Encoding}
+use Rattle.fn_normal.specs.declared.profile.Field.{Field}
+use Rattle.fn_normal.specs.declared.profile.Format.{Format}
+use Rattle.fn_normal.specs.declared.profile.Method.{Method}
 use Rattle.fn_filling.specs.declared.filling.Filling.{Filling, out-Filling}
 use Rattle.fn_filling.specs.declared.filling.FilledField.{FilledField}
-use Rattle.fn_filling.specs.Fillings.{Sides, sides_of, inner_of, inner_at, fields_of, listing_of, level, packed_bits, packed}
+use Rattle.fn_filling.specs.Fillings.{Sides, sides_of, inner_of, inner_at, fields_of, listing_of, level, is_header, header_bits, header, packed_bits, packed}
 use Rattle.fn_filling.specs.Entries.{Path}
 use Rattle.fn_filling.proofs.Unique.{filling_same, field_same, list_same, also_at, sides_at, same}
 use Rattle.fn_fits.specs.Fits.{Context, Fits, FieldFits, field_side, format_at, reference_of}
 use Rattle.fn_fits.specs.Fits as fit
-use Rattle.fn_fits.specs.Laws.{DeterminedByLevel, SameSides, SameInside, same_sides, both_have, DeterminedBySides, AReference, FrontSplits}
+use Rattle.fn_fits.specs.Laws.{DeterminedByLevel, SameSides, SameInside, same_sides, both_have, DeterminedBySides, AReference, FrontSplits, HeaderSplits}
 use Rattle.fn_fits.proofs.Sized.{one_value}
 use Rattle.fn_fits.proofs.Inverted.{FitsParts, parts, length-fields}
 
@@ -103,11 +104,11 @@ references ctx path initial = record {
 
 -- ---- packed bits
 
-piece_is : (o : Option Sides) → unwrap_or (option_map (λ s. s.compressed) o) [] ≡ field_side o Compressed
+pub piece_is : (o : Option Sides) → unwrap_or (option_map (λ s. s.compressed) o) [] ≡ field_side o Compressed
 piece_is None = refl
 piece_is (Some s) = refl
 
-packed_split : (fs : List Sides) (before after : List ℕ) (i : ℕ) → packed_bits (before ++ i ∷ after) fs ≡ packed_bits before fs ++ (field_side (slice_get fs i) Compressed ++ packed_bits after fs)
+pub packed_split : (fs : List Sides) (before after : List ℕ) (i : ℕ) → packed_bits (before ++ i ∷ after) fs ≡ packed_bits before fs ++ (field_side (slice_get fs i) Compressed ++ packed_bits after fs)
 packed_split fs [] after i = ap (λ z. z ++ packed_bits after fs) (piece_is (slice_get fs i))
 packed_split fs (j ∷ js) after i =
     let first = unwrap_or (option_map (λ s. s.compressed) (slice_get fs j)) [] in
@@ -120,3 +121,25 @@ splits f before after i bits rest listing e =
     let back = packed_bits after (level f) in
     let whole : packed f ≡ front ++ (own ++ back) = ap (λ l. packed_bits l (level f)) listing ∙ packed_split (level f) before after i in
     e ∙ (ap (λ z. z ++ rest) whole ∙ (append_assoc front (own ++ back) rest ∙ ap (λ z. front ++ z) (append_assoc own back rest)))
+
+-- ---- the header
+
+header_split : (before after : List Sides) (s : Sides) → is_header s.declared.part ≡ true → header_bits (before ++ s ∷ after) ≡ header_bits before ++ (s.uncompressed ++ header_bits after)
+header_split [] after s is = by (is_header s.declared.part) is
+  where
+    by : (b : Bool) → b ≡ true → flat_map (λ (x : Sides). x.uncompressed) (cond b (s ∷ filter (λ x. is_header x.declared.part) after) (filter (λ x. is_header x.declared.part) after)) ≡ s.uncompressed ++ header_bits after
+    by true e = refl
+    by false e = absurd (cc)
+header_split (x ∷ xs) after s is = by (is_header x.declared.part) (header_split xs after s is)
+  where
+    by : (b : Bool) → header_bits (xs ++ s ∷ after) ≡ header_bits xs ++ (s.uncompressed ++ header_bits after) → flat_map (λ (y : Sides). y.uncompressed) (cond b (x ∷ filter (λ y. is_header y.declared.part) (xs ++ s ∷ after)) (filter (λ y. is_header y.declared.part) (xs ++ s ∷ after)))
+        ≡ flat_map (λ (y : Sides). y.uncompressed) (cond b (x ∷ filter (λ y. is_header y.declared.part) xs) (filter (λ y. is_header y.declared.part) xs)) ++ (s.uncompressed ++ header_bits after)
+    by true rest = ap (λ z. x.uncompressed ++ z) rest ∙ sym (append_assoc x.uncompressed (header_bits xs) (s.uncompressed ++ header_bits after))
+    by false rest = rest
+
+pub header_splits : HeaderSplits
+header_splits f before after s bits rest level_is is e =
+    let front = header_bits before in
+    let back = header_bits after in
+    let whole : header f ≡ front ++ (s.uncompressed ++ back) = ap header_bits level_is ∙ header_split before after s is in
+    e ∙ (ap (λ z. z ++ rest) whole ∙ (append_assoc front (s.uncompressed ++ back) rest ∙ ap (λ z. front ++ z) (append_assoc s.uncompressed back rest)))

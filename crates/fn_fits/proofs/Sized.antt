@@ -9,8 +9,8 @@ use Rattle.fn_expr.specs.declared.expr.Expr.{Expr}
 use Rattle.fn_expr.specs.Values.{Assignment, val}
 use Rattle.fn_lib.specs.Methods.{Method, Lib, LsbHolds}
 use Rattle.fn_lib.specs.Methods as lib
-use Rattle.fn_profile.specs.declared.profile.Library.{Library}
-use Rattle.fn_profile.specs.declared.profile.Library.TheVariants as library
+use Rattle.fn_normal.specs.declared.profile.Library.{Library}
+use Rattle.fn_normal.specs.declared.profile.Library.TheVariants as library
 use Rattle.fn_bounds.specs.HasBounds.{size_of, is_empty}
 use Rattle.fn_fits.specs.Fits.{vals, two_values, crc_values, method_of}
 
@@ -55,19 +55,19 @@ two_parts make (Some x) (Some y) m e = (x, y, refl, refl, cc)
 two_parts make (Some x) None m e = absurd (cc)
 two_parts make None q m e = absurd (cc)
 
-crc_parts : (covered : List Bool) (o : Option (List ℤ)) (m : Method) → crc_values covered o ≡ Some m
+pub crc_parts : (covered : List Bool) (o : Option (List ℤ)) (m : Method) → crc_values covered o ≡ Some m
     → (n : ℤ) × (poly : ℤ) × (init : ℤ) × (len : ℤ) × (o ≡ Some (n ∷ poly ∷ init ∷ len ∷ [])) × (lib.crc n poly init covered len ≡ m)
 crc_parts covered (Some (n ∷ poly ∷ init ∷ len ∷ [])) m e = (n, poly, init, len, refl, cc)
 crc_parts covered _ m e = absurd (cc)
 
-first_value : (a : Assignment) (e : Expr) (es : List Expr) (n : ℤ) (ns : List ℤ) → vals a (e ∷ es) ≡ Some (n ∷ ns) → val a e ≡ Some n
+pub first_value : (a : Assignment) (e : Expr) (es : List Expr) (n : ℤ) (ns : List ℤ) → vals a (e ∷ es) ≡ Some (n ∷ ns) → val a e ≡ Some n
 first_value a e es n ns h =
     let t = and_then_some (λ v. option_map (λ vs. v ∷ vs) (vals a es)) (val a e) (n ∷ ns) h in
     let s = map_some (λ vs. t.0 ∷ vs) (vals a es) (n ∷ ns) t.2 in
     let same : t.0 ≡ n = let q = s.2 in cc in
     t.1 ∙ ap Some same
 
-some_and : {T : Type 0} → (o : Option T) (P : T → Type 0) → IsSomeAnd o P → (x : T) × (o ≡ Some x) × P x
+pub some_and : {T : Type 0} → (o : Option T) (P : T → Type 0) → IsSomeAnd o P → (x : T) × (o ≡ Some x) × P x
 some_and None P h = absurd h
 some_and (Some x) P h = (x, refl, h)
 

@@ -3,17 +3,17 @@ use Rattle.std.proofs.Common.{◌≡◌, ◌∙◌, refl, sym, ap, subst, ℕ, �
 use Rattle.std.specs.Prelude.{Some, slice_get, if◌then◌else◌}
 use Rattle.std.specs.List.{flat_map}
 use Rattle.std.specs.Option.{option_map, unwrap_or}
-use Rattle.fn_profile.specs.declared.profile.Part.{Part}
-use Rattle.fn_profile.specs.declared.profile.Part.TheVariants.{Header, Control, Local}
-use Rattle.fn_profile.specs.declared.profile.Sizes.{Sizes}
-use Rattle.fn_profile.specs.declared.profile.Field.{Field}
+use Rattle.fn_normal.specs.declared.profile.Part.{Part}
+use Rattle.fn_normal.specs.declared.profile.Part.TheVariants.{Header, Control, Local}
+use Rattle.fn_normal.specs.declared.profile.Sizes.{Sizes}
+use Rattle.fn_normal.specs.declared.profile.Field.{Field}
 use Rattle.fn_bounds.specs.Formats as formats
 use Rattle.fn_bounds.specs.HasBounds.{listed_sum, header_sum}
 use Rattle.fn_filling.specs.Fillings.{Sides, is_header, header_bits, packed_bits}
 
 -- ---- the header
 
-same_test : (p : Part) → formats.is_header p ≡ is_header p
+pub same_test : (p : Part) → formats.is_header p ≡ is_header p
 same_test Header = refl
 same_test Control = refl
 same_test Local = refl

@@ -1,22 +1,26 @@
 -- The lengths of a fitting filling lie in the bounds of its methods, and its arguments in the ranges of the parameters.
-use Rattle.std.specs.Prelude.{◌≡◌, ℕ, ◌≤◌, ℤ, List, length, slice_get, Some}
+use Rattle.std.specs.Prelude.{◌≡◌, ℕ, ◌≤◌, ◌^◌, ℤ, List, length, slice_get, Option, Some, option_and_then}
 use Rattle.fn_expr.specs.declared.expr.Expr.{Expr}
 use Rattle.fn_expr.specs.declared.interval.Interval.{Interval}
 use Rattle.fn_expr.specs.Rules.{IsIn}
-use Rattle.fn_profile.specs.declared.profile.Bounds.{Bounds}
-use Rattle.fn_profile.specs.declared.profile.Sizes.{Sizes}
-use Rattle.fn_profile.specs.declared.profile.FormatSizes.{FormatSizes}
-use Rattle.fn_profile.specs.declared.profile.MethodSizes.{MethodSizes}
-use Rattle.fn_profile.specs.declared.profile.Encoding.TheVariants as encoding
-use Rattle.fn_profile.specs.declared.profile.Field.{Field}
-use Rattle.fn_profile.specs.declared.profile.Format.{Format}
-use Rattle.fn_profile.specs.declared.profile.Method.{Method}
+use Rattle.fn_normal.specs.declared.profile.Bounds.{Bounds}
+use Rattle.fn_normal.specs.declared.profile.Sizes.{Sizes}
+use Rattle.fn_normal.specs.declared.profile.FormatSizes.{FormatSizes}
+use Rattle.fn_normal.specs.declared.profile.MethodSizes.{MethodSizes}
+use Rattle.fn_normal.specs.declared.profile.Encoding.TheVariants as encoding
+use Rattle.fn_normal.specs.declared.profile.Field.{Field}
+use Rattle.fn_normal.specs.declared.profile.Format.{Format}
+use Rattle.fn_normal.specs.declared.profile.Method.{Method}
 use Rattle.fn_bounds.specs.Outcome.{AreSizes}
 use Rattle.fn_filling.specs.declared.filling.Filling.{Filling, out-Filling}
 use Rattle.fn_filling.specs.declared.filling.FilledField.{FilledField}
 use Rattle.fn_filling.specs.Fillings.{Sides, level, fields_of, inner_of, header, packed}
 use Rattle.fn_filling.specs.Entries.{Path}
 use Rattle.fn_fits.specs.Fits.{Context, Fits, assigned, vals, format_at}
+
+-- the bounds of the format n of the method k
+abbrev pub sizes_at : List MethodSizes → ℕ → ℕ → Option FormatSizes
+sizes_at table k n = option_and_then (λ s. slice_get s.formats n) (slice_get table k)
 
 pub record LiesBetween (b : Bounds) (n : ℕ) : Type 0 where
   pub least : b.least ≤ n
@@ -38,6 +42,11 @@ LengthsLieInBounds = (methods : List Method) (table : List MethodSizes) → AreS
     (ctx : Context) (k : ℕ) (args : List ℤ) (path : Path) (f : Filling) → Fits methods ctx k args path f →
     (s : MethodSizes) (sizes : FormatSizes) → slice_get table k ≡ Some s → slice_get s.formats (out-Filling f).format ≡ Some sizes →
     LengthsLie sizes f × SidesLie s.whole (length (header f)) (length (packed f))
+
+-- Both sides of a fitting filling are short.
+abbrev pub SidesAreShort : Type 0
+SidesAreShort = (methods : List Method) (table : List MethodSizes) → AreSizes methods table → (ctx : Context) (k : ℕ) (args : List ℤ) (path : Path) (f : Filling) →
+    Fits methods ctx k args path f → (length (header f) ≤ 4096) × (length (packed f) ≤ 2 ^ 18)
 
 -- each argument lies in the range of its parameter
 pub record ArgumentsLie (ranges : List Interval) (args : List ℤ) : Type 0 where

@@ -1,13 +1,14 @@
 -- What the sides of a filling determine, and what stands where.
-use Rattle.std.specs.Prelude.{◌≡◌, ℕ, ℤ, Bool, List, ◌∷◌, ◌++◌, slice_get, Option, Some, None}
+use Rattle.std.specs.Prelude.{◌≡◌, ℕ, ℤ, Bool, true, List, ◌∷◌, ◌++◌, slice_get, Option, Some, None}
 use Rattle.fn_expr.specs.declared.expr.Side.TheVariants.{Compressed}
-use Rattle.fn_profile.specs.declared.profile.Part.{Part}
-use Rattle.fn_profile.specs.declared.profile.Part.TheVariants.{Local}
-use Rattle.fn_profile.specs.declared.profile.Method.{Method}
+use Rattle.fn_normal.specs.declared.profile.Part.{Part}
+use Rattle.fn_normal.specs.declared.profile.Part.TheVariants.{Local}
+use Rattle.fn_normal.specs.declared.profile.Method.{Method}
 use Rattle.fn_filling.specs.declared.filling.Filling.{Filling, out-Filling}
-use Rattle.fn_filling.specs.Fillings.{inner_at, listing_of, level, packed_bits, packed}
+use Rattle.fn_filling.specs.Fillings.{Sides, inner_at, listing_of, level, is_header, header_bits, header, packed_bits, packed}
 use Rattle.fn_filling.specs.Entries.{Path}
 use Rattle.fn_fits.specs.Fits.{Context, Fits, field_side, reference_of}
+use Rattle.fn_fits.specs.Fronts.{DetAt, InFrontsAt}
 
 -- ---- sides determine a filling
 
@@ -43,9 +44,21 @@ pub record IsReference (ctx : Context) (path : Path) (initial : Option (List Boo
 abbrev pub AReference : Type 0
 AReference = (ctx : Context) (path : Path) (initial : Option (List Bool)) → IsReference ctx path initial
 
--- ---- packed bits
+-- ---- both sides, part by part
 
 -- Bits that begin with a filling's packed bits are the sides of the fields that are listed before a field, its own, those of the fields after it, and the rest.
 abbrev pub FrontSplits : Type 0
 FrontSplits = (f : Filling) (before after : List ℕ) (i : ℕ) (bits rest : List Bool) → listing_of f ≡ before ++ i ∷ after → bits ≡ packed f ++ rest →
     bits ≡ packed_bits before (level f) ++ (field_side (slice_get (level f) i) Compressed ++ (packed_bits after (level f) ++ rest))
+
+-- A header that begins bits is the uncompressed sides of the header fields before a header field, its own, and those after it.
+abbrev pub HeaderSplits : Type 0
+HeaderSplits = (f : Filling) (before after : List Sides) (s : Sides) (bits rest : List Bool) → level f ≡ before ++ s ∷ after → is_header s.declared.part ≡ true → bits ≡ header f ++ rest →
+    bits ≡ header_bits before ++ (s.uncompressed ++ (header_bits after ++ rest))
+
+-- ---- at the front
+
+-- Packed bits followed by any others are read as the filling that they were packed from, where the method is determinate.
+abbrev pub ReadsBack : Type 0
+ReadsBack = (methods : List Method) (k : ℕ) (args : List ℤ) (path : Path) → DetAt methods k args path → (ctx : Context) (f g : Filling) (rest : List Bool) →
+    Fits methods ctx k args path f → InFrontsAt methods k ctx args path (packed f ++ rest) g → g ≡ f

@@ -2,3 +2,4 @@ pub mod Fits
 pub mod Fronts
 pub mod Bounded
 pub mod Laws
+pub mod Numbers

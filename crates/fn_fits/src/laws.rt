@@ -32,3 +32,18 @@ pub fn a_reference()
 pub fn front_splits()
     ensures { laws.FrontSplits }
 {}
+
+/// Bits that begin with a filling's header fall apart, at each header field, into the sides before it, its own, those after it, and the rest.
+pub fn header_splits()
+    ensures { laws.HeaderSplits }
+{}
+
+/// A header has at most 4,096 bits, and packed bits at most 2^18.
+pub fn sides_are_short()
+    ensures { bounded.SidesAreShort }
+{}
+
+/// Packed bits followed by any others are read as the filling that they were packed from, where the method is determinate.
+pub fn read_back()
+    ensures { laws.ReadsBack }
+{}

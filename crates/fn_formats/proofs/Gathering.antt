@@ -4,12 +4,12 @@ use Rattle.std.specs.Prelude.{Some, None, Option}
 use Rattle.std.specs.List.{AllZip}
 use Rattle.std.proofs.lemmas.List.Sums.{fold-append}
 use Rattle.std.proofs.lemmas.Option.{slice_get-get_or}
-use Rattle.fn_profile.proofs.Loops.{taken}
-use Rattle.fn_profile.specs.declared.fault.ProfileFault.{ProfileFault}
-use Rattle.fn_profile.specs.declared.fault.ResolveError.{ResolveError}
-use Rattle.fn_profile.specs.declared.fault.ResolveError.TheVariants as errors
-use Rattle.fn_profile.specs.Judging.{earlier}
-use Rattle.fn_profile.proofs.Judgements.{neither}
+use Rattle.fn_normal.proofs.Loops.{taken}
+use Rattle.fn_normal.specs.declared.fault.ProfileFault.{ProfileFault}
+use Rattle.fn_normal.specs.declared.fault.ResolveError.{ResolveError}
+use Rattle.fn_normal.specs.declared.fault.ResolveError.TheVariants as errors
+use Rattle.fn_normal.specs.Judging.{earlier}
+use Rattle.fn_normal.proofs.Judgements.{neither}
 use Rattle.fn_sections.specs.Causes.{earliest}
 use Rattle.fn_terms.specs.Judged.{Refuses}
 

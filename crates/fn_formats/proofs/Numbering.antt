@@ -4,10 +4,10 @@ use Rattle.std.specs.Prelude.{slice_get, Some, None, Option}
 use Rattle.std.specs.Option.{option_or}
 use Rattle.fn_tree.specs.declared.tree.Item.{Item}
 use Rattle.fn_expr.specs.declared.expr.Side.{Side}
-use Rattle.fn_profile.specs.declared.fault.ProfileFault.{ProfileFault}
-use Rattle.fn_profile.specs.declared.profile.Constraint.{Constraint}
-use Rattle.fn_profile.specs.Judging.{earlier}
-use Rattle.fn_profile.proofs.Judgements.{neither}
+use Rattle.fn_normal.specs.declared.fault.ProfileFault.{ProfileFault}
+use Rattle.fn_normal.specs.declared.profile.Constraint.{Constraint}
+use Rattle.fn_normal.specs.Judging.{earlier}
+use Rattle.fn_normal.proofs.Judgements.{neither}
 use Rattle.fn_terms.specs.Names.{Names}
 use Rattle.fn_statements.specs.Constraints.{ItemMeans, item_fault, items_fault, AreConstraints}
 use Rattle.fn_statements.specs.Constraints as parts

@@ -2,8 +2,8 @@
 use Rattle.std.specs.Prelude.{◌≡◌, ℕ, List, Option, None, map}
 use Rattle.std.specs.List.{AllZip}
 use Rattle.fn_tree.specs.declared.tree.Section.{Section}
-use Rattle.fn_profile.specs.declared.fault.ProfileFault.{ProfileFault}
-use Rattle.fn_profile.specs.Judging.{earlier}
+use Rattle.fn_normal.specs.declared.fault.ProfileFault.{ProfileFault}
+use Rattle.fn_normal.specs.Judging.{earlier}
 use Rattle.fn_sections.specs.declared.mention.Mention.{Mention}
 use Rattle.fn_sections.specs.declared.mention.Group.TheVariants as groups
 use Rattle.fn_sections.specs.Mentions.{mentions_of, mentions_in, encoded, first_of, firsts, names_of}

@@ -3,9 +3,9 @@ use Rattle.std.specs.Prelude.{List, Option, Some, None}
 use Rattle.std.specs.Option.{option_and_then}
 use Rattle.fn_tree.specs.declared.tree.Encoding.{Encoding as TreeEncoding}
 use Rattle.fn_tree.specs.declared.tree.Section.{Section}
-use Rattle.fn_profile.specs.declared.fault.ProfileFault.{ProfileFault}
-use Rattle.fn_profile.specs.declared.profile.Encoding.{Encoding}
-use Rattle.fn_profile.specs.declared.profile.Encoding.TheVariants as encoding
+use Rattle.fn_normal.specs.declared.fault.ProfileFault.{ProfileFault}
+use Rattle.fn_normal.specs.declared.profile.Encoding.{Encoding}
+use Rattle.fn_normal.specs.declared.profile.Encoding.TheVariants as encoding
 use Rattle.fn_sections.specs.declared.mention.Mention.{Mention}
 use Rattle.fn_sections.specs.Fields.{encoding_at}
 use Rattle.fn_terms.specs.Names.{Names}

@@ -5,10 +5,10 @@ use Rattle.std.specs.Option.{option_map}
 use Rattle.fn_tree.specs.declared.tree.Section.{Section}
 use Rattle.fn_tree.specs.declared.tree.SectionKind.{SectionKind}
 use Rattle.fn_tree.specs.declared.tree.SectionKind.TheVariants as kinds
-use Rattle.fn_profile.specs.declared.profile.Encoding.{Encoding}
-use Rattle.fn_profile.specs.declared.profile.Format.{Format}
-use Rattle.fn_profile.specs.Judging.{earlier}
-use Rattle.fn_profile.specs.Words.{word}
+use Rattle.fn_normal.specs.declared.profile.Encoding.{Encoding}
+use Rattle.fn_normal.specs.declared.profile.Format.{Format}
+use Rattle.fn_normal.specs.Judging.{earlier}
+use Rattle.fn_normal.specs.Words.{word}
 use Rattle.fn_sections.specs.Fields.{place}
 use Rattle.fn_sections.specs.Mentions.{names_of}
 use Rattle.fn_formats.specs.declared.drafts.Setting.{Setting}

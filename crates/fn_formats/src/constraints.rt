@@ -5,7 +5,7 @@ ghost use Rattle.fn_sections.specs.Causes.{earliest};
 ghost use Rattle.fn_formats.specs.Constraints as spec;
 
 use fn_expr::Side;
-use fn_profile::{Constraint, ProfileFault, earlier, fault_of};
+use fn_normal::{Constraint, ProfileFault, earlier, fault_of};
 use fn_sections::mention::is_in;
 use fn_sections::{Group, Mention};
 use fn_statements::section_constraints;
@@ -16,7 +16,7 @@ use std::alloc::{AllocError, Global};
 use std::slice::from_ref;
 
 /// The constraints of a format by their numbers, and the earliest fault in its statements. With a fault some are missing.
-#[derive(Debug, Drop)]
+#[derive(Drop)]
 pub struct Constraints {
     pub found: Items<Constraint>,
     pub fault: Option<ProfileFault>,

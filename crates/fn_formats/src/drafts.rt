@@ -7,7 +7,7 @@ ghost use Rattle.fn_formats.specs.Drafts as spec;
 use crate::constraints::format_constraints;
 use crate::encodings::field_encodings;
 use fn_bits::Bits;
-use fn_profile::{Constraint, Encoding, ProfileFault, Words, earlier};
+use fn_normal::{Constraint, Encoding, ProfileFault, Words, earlier};
 use fn_sections::{Mention, Table, encoded, encodings, in_order, listing, of_section};
 use fn_statements::Methods;
 use fn_terms::Scope;

@@ -2,12 +2,12 @@
 
 ghost use Rattle.std.specs.Prelude.{◌≡◌, None, IfOk, IfErr};
 ghost use Rattle.std.specs.List.{AllZip};
-ghost use Rattle.fn_profile.specs.Faults as faults;
+ghost use Rattle.fn_normal.specs.Faults as faults;
 ghost use Rattle.fn_terms.specs.Judged.{Refuses};
 ghost use Rattle.fn_sections.specs.Causes.{earliest};
 ghost use Rattle.fn_formats.specs.Encodings as spec;
 
-use fn_profile::{Encoding, ProfileFault, ResolveError, earlier, fault_of};
+use fn_normal::{Encoding, ProfileFault, ResolveError, earlier, fault_of};
 use fn_sections::{Mention, encoding_at};
 use fn_statements::{Methods, encoding};
 use fn_terms::Scope;
@@ -16,7 +16,7 @@ use sqlite_items::Items;
 use std::alloc::{AllocError, Global};
 
 /// The encodings of a format's fields, in field order, and the earliest fault in them. With a fault some are missing.
-#[derive(Debug, Drop)]
+#[derive(Drop)]
 pub struct Encodings {
     pub found: Items<Encoding>,
     pub fault: Option<ProfileFault>,

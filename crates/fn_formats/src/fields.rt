@@ -1,11 +1,11 @@
 //! The fields of a format.
 
-ghost use Rattle.std.specs.Prelude.{◌≡◌, IfOk, get_or, drop, slice_get};
+ghost use Rattle.std.specs.Prelude.{◌≡◌, IfOk, get_or, drop, reverse, slice_get};
 ghost use Rattle.fn_formats.specs.Fields as spec;
 
 use crate::drafts::Setting;
 use fn_bits::Bits;
-use fn_profile::{Declared, Encoding, Field, Name, Part, Words, word};
+use fn_normal::{Declared, Encoding, Field, Name, Part, Words, reversed, word};
 use fn_sections::Mention;
 use fn_tree::{Section, SectionKind};
 use sqlite_items::Items;
@@ -21,23 +21,24 @@ pub(crate) fn joined_fields(
 ) -> Result<Items<Field>, AllocError>
     ensures { IfOk result (λ all. all ≡ spec.joined setting.now mentions.now encodings) }
 {
-    let mut left = encodings;
+    let mut left = reversed(alloc, encodings)?;
     let mut all = Items::new(alloc);
     for mention in mentions {
-        let encoding = take_first(&mut left);
+        let encoding = take_next(&mut left);
         all.push(field(alloc, setting, *mention, encoding)?)?;
     }
     Ok(all)
 }
 
-fn take_first(left: &mut Items<Encoding>) -> Encoding
-    ensures first { result ≡ get_or left.old 0 Encoding.Bare }
-    ensures rest { left.new ≡ drop 1 left.old }
+/// The first of the encodings that are left, which stand backwards.
+fn take_next(left: &mut Items<Encoding>) -> Encoding
+    ensures first { result ≡ get_or (reverse left.old) 0 Encoding.Bare }
+    ensures rest { reverse left.new ≡ drop 1 (reverse left.old) }
 {
-    if left.len() == 0 {
-        return Encoding::Bare;
+    match left.pop() {
+        Some(encoding) => encoding,
+        None => Encoding::Bare,
     }
-    left.remove(0)
 }
 
 fn field(

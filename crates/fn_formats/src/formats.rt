@@ -2,20 +2,20 @@
 
 ghost use Rattle.std.specs.Prelude.{◌≡◌, IfOk};
 ghost use Rattle.std.specs.Option.{option_map};
-ghost use Rattle.fn_profile.specs.Words.{word as words};
+ghost use Rattle.fn_normal.specs.Words.{word as words};
 ghost use Rattle.fn_sections.specs.Tables.{IsTable};
 ghost use Rattle.fn_formats.specs.Drafts as drafts;
 ghost use Rattle.fn_formats.specs.Formats as spec;
 
 use crate::drafts::{Setting, draft_format};
 use crate::fields::{joined_fields, name_of};
-use fn_profile::{Format, Name, ProfileFault, word};
+use fn_normal::{Format, Name, ProfileFault, word};
 use fn_source::Span;
 use fn_tree::{Section, SectionKind};
 use std::alloc::{AllocError, Global};
 
 /// A format, and the earliest fault in it. With a fault the format is not whole.
-#[derive(Debug, Drop)]
+#[derive(Drop)]
 pub struct Resolved {
     pub format: Format,
     pub fault: Option<ProfileFault>,

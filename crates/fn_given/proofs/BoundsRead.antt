@@ -8,13 +8,14 @@ use Rattle.fn_tree.specs.declared.tree.Bound.{Bound}
 use Rattle.fn_tree.specs.declared.tree.Item.{Item}
 use Rattle.fn_tree.specs.declared.tree.Item.TheVariants as items
 use Rattle.fn_tree.specs.declared.tree.Section.{Section}
-use Rattle.fn_profile.specs.declared.fault.ProfileFault.{ProfileFault}
-use Rattle.fn_profile.specs.Judging.{Judged, earlier, comes_before}
-use Rattle.fn_profile.specs.Words.{word}
+use Rattle.fn_normal.specs.declared.fault.ProfileFault.{ProfileFault}
+use Rattle.fn_normal.specs.Judging.{Judged, earlier, comes_before}
+use Rattle.fn_normal.specs.Words.{word}
 use Rattle.fn_terms.specs.Names.{Names}
 use Rattle.fn_statements.specs.Initial.{IsInitial, IsNoInitial}
+use Rattle.fn_tree.specs.Limits.{is_initial_kind}
 use Rattle.fn_given.specs.declared.initial.Initials.{Initials}
-use Rattle.fn_given.specs.Initials.{AreInitials, no_values, first, again, HasNoValue, has_no_value, HasNoneBefore, has_bits, has_later, AreRead, ReadOn, with_value, bound_of, bounds_of, bounds_in, initial_part, is_initial}
+use Rattle.fn_given.specs.Initials.{AreInitials, no_values, first, again, HasNoValue, has_no_value, HasNoneBefore, has_bits, has_later, AreRead, ReadOn, with_value, bound_of, bounds_of, bounds_in, initial_part}
 use Rattle.fn_given.proofs.FaultOrder.{not_itself, nor_before}
 use Rattle.fn_given.proofs.Fronts.{lists_taken, options_taken}
 
@@ -135,13 +136,13 @@ read_past s xs i x old new here other p =
 
 -- ---- one more section
 
-pub section_read : (s : Names) (xs : List Section) (i : ℕ) (x : Section) (old new : Initials) → slice_get xs i ≡ Some x → is_initial x.kind ≡ true
+pub section_read : (s : Names) (xs : List Section) (i : ℕ) (x : Section) (old new : Initials) → slice_get xs i ≡ Some x → is_initial_kind x.kind ≡ true
     → AreRead s (bounds_in (take i xs)) old → ReadOn s (bounds_of x.items) old new → AreRead s (bounds_in (take (i + 1) xs)) new
 section_read s xs i x old new here kind so on =
     let part : initial_part x ≡ bounds_of x.items = ap (λ b. cond b (bounds_of x.items) []) kind in
     subst (λ bs. AreRead s bs new) (sym (lists_taken initial_part xs i x here ∙ ap (λ bs. bounds_in (take i xs) ++ bs) part)) (on (bounds_in (take i xs)) so)
 
-pub section_past : (s : Names) (xs : List Section) (i : ℕ) (x : Section) (read : Initials) → slice_get xs i ≡ Some x → is_initial x.kind ≡ false
+pub section_past : (s : Names) (xs : List Section) (i : ℕ) (x : Section) (read : Initials) → slice_get xs i ≡ Some x → is_initial_kind x.kind ≡ false
     → AreRead s (bounds_in (take i xs)) read → AreRead s (bounds_in (take (i + 1) xs)) read
 section_past s xs i x read here kind so =
     let part : initial_part x ≡ [] = ap (λ b. cond b (bounds_of x.items) []) kind in

@@ -1,9 +1,9 @@
 -- The order of faults, by their places and then by their numbers.
 use Rattle.std.proofs.Common.{◌≡◌, ℕ, ◌<◌, ◌≤◌, ◌⊎◌, inl, inr, Bool, true, false, refl, cond, nat_eq, nat_lt, arith}
 use Rattle.std.proofs.lemmas.Bool.{eqb-true, eqb-false, ltb-true, ltb-false}
-use Rattle.fn_profile.specs.declared.fault.ProfileFault.{ProfileFault}
-use Rattle.fn_profile.specs.Faults.{number_of}
-use Rattle.fn_profile.specs.Judging.{comes_before}
+use Rattle.fn_normal.specs.declared.fault.ProfileFault.{ProfileFault}
+use Rattle.fn_normal.specs.Faults.{number_of}
+use Rattle.fn_normal.specs.Judging.{comes_before}
 
 below : (p m q n : ℕ) → cond (nat_eq p q) (nat_lt m n) (nat_lt p q) ≡ true → (p < q) ⊎ ((p ≡ q) × (m < n))
 below p m q n h = by (nat_eq p q) refl h

@@ -4,7 +4,7 @@ use Rattle.std.specs.Prelude.{slice_get, Some, Option}
 use Rattle.std.specs.List.{filter_map, flat_map}
 use Rattle.std.proofs.lemmas.Grind.{flat_map-append}
 use Rattle.std.proofs.lemmas.List.Elements.{filter_map-append}
-use Rattle.fn_profile.proofs.Loops.{taken}
+use Rattle.fn_normal.proofs.Loops.{taken}
 
 pub lists_taken : {X Y : Type 0} (f : X → List Y) (xs : List X) (i : ℕ) (x : X) → slice_get xs i ≡ Some x → flat_map f (take (i + 1) xs) ≡ flat_map f (take i xs) ++ f x
 lists_taken f xs i x here =

@@ -7,11 +7,11 @@ use Rattle.fn_tree.specs.declared.tree.Expr.{Expr as Tree}
 use Rattle.fn_tree.specs.declared.tree.Item.{Item}
 use Rattle.fn_tree.specs.declared.tree.Item.TheVariants as items
 use Rattle.fn_tree.specs.declared.tree.Section.{Section}
-use Rattle.fn_profile.specs.Words.{word, with_word}
+use Rattle.fn_normal.specs.Words.{word, with_word}
 use Rattle.fn_terms.specs.Names.{Names}
 use Rattle.fn_given.specs.Asked.{only_length, IsAsked, is_asked, IsNotAsked, no_constant, enforced, AreAsked, asks, asks_none, Asks, FieldAsks, field_asked, field_valueless, field_enforced, AskedOn, control_items, control_part, is_control}
 use Rattle.fn_given.proofs.Fronts.{lists_taken}
-use Rattle.fn_profile.proofs.Loops.{taken}
+use Rattle.fn_normal.proofs.Loops.{taken}
 
 -- what is found for a field is found for its statement
 pub statement_asks : (s : Names) (set : List (List ℕ)) (name : Span) (bracket : Option Bracket) (length : Tree) (o : Option Span) → only_length bracket ≡ Some length → FieldAsks s set name length o

@@ -12,8 +12,8 @@ use Rattle.fn_tree.specs.declared.tree.Item.TheVariants as items
 use Rattle.fn_tree.specs.declared.tree.Section.{Section}
 use Rattle.fn_tree.specs.declared.tree.SectionKind.{SectionKind}
 use Rattle.fn_tree.specs.declared.tree.SectionKind.TheVariants as kinds
-use Rattle.fn_profile.specs.declared.fault.ProfileFault.{ProfileFault}
-use Rattle.fn_profile.specs.Words.{word, with_word}
+use Rattle.fn_normal.specs.declared.fault.ProfileFault.{ProfileFault}
+use Rattle.fn_normal.specs.Words.{word, with_word}
 use Rattle.fn_terms.specs.Constants.{IsValue, ValueFault}
 use Rattle.fn_terms.specs.Names.{Names}
 

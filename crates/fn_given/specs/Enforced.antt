@@ -11,7 +11,7 @@ use Rattle.fn_tree.specs.declared.tree.Item.TheVariants as items
 use Rattle.fn_tree.specs.declared.tree.Operator.TheVariants.{And, Equal}
 use Rattle.fn_tree.specs.declared.tree.Owner.{Owner}
 use Rattle.fn_tree.specs.declared.tree.Owner.TheVariants as owners
-use Rattle.fn_profile.specs.Words.{word, with_word}
+use Rattle.fn_normal.specs.Words.{word, with_word}
 
 -- what an expression sets; fields by the places of their names
 pub record Setting : Type 0 where

@@ -1,7 +1,7 @@
 -- What a method gives its fields beside encodings.
 use Rattle.std.specs.Prelude.{◌≡◌, Bool, true, false, List, []}
 use Rattle.fn_tree.specs.declared.tree.Section.{Section}
-use Rattle.fn_profile.specs.declared.fault.ProfileFault.{ProfileFault}
+use Rattle.fn_normal.specs.declared.fault.ProfileFault.{ProfileFault}
 use Rattle.fn_terms.specs.Names.{Names}
 use Rattle.fn_given.specs.declared.method.Givens.{Givens}
 use Rattle.fn_given.specs.Initials.{bounds_in, AreInitials, HasNoValue}

@@ -5,18 +5,13 @@ use Rattle.fn_tree.specs.declared.tree.Bound.{Bound}
 use Rattle.fn_tree.specs.declared.tree.Item.{Item}
 use Rattle.fn_tree.specs.declared.tree.Item.TheVariants as items
 use Rattle.fn_tree.specs.declared.tree.Section.{Section}
-use Rattle.fn_tree.specs.declared.tree.SectionKind.{SectionKind}
-use Rattle.fn_tree.specs.declared.tree.SectionKind.TheVariants as kinds
-use Rattle.fn_profile.specs.declared.fault.ProfileFault.{ProfileFault}
-use Rattle.fn_profile.specs.Judging.{Judged, comes_before}
-use Rattle.fn_profile.specs.Words.{word, is_new, with_word}
+use Rattle.fn_tree.specs.Limits.{is_initial_kind}
+use Rattle.fn_normal.specs.declared.fault.ProfileFault.{ProfileFault}
+use Rattle.fn_normal.specs.Judging.{Judged, comes_before}
+use Rattle.fn_normal.specs.Words.{word, is_new, with_word}
 use Rattle.fn_terms.specs.Names.{Names}
 use Rattle.fn_statements.specs.Initial.{IsInitial, IsNoInitial}
 use Rattle.fn_given.specs.declared.initial.Initials.{Initials}
-
-abbrev pub is_initial : SectionKind → Bool
-is_initial kinds.Initial = true
-is_initial _ = false
 
 abbrev pub bound_of : Item → Option Bound
 bound_of (items.Bound b) = Some b
@@ -28,7 +23,7 @@ abbrev pub bounds_of : List Item → List Bound
 bounds_of statements = filter_map bound_of statements
 
 abbrev pub initial_part : Section → List Bound
-initial_part section = if is_initial section.kind then bounds_of section.items else []
+initial_part section = if is_initial_kind section.kind then bounds_of section.items else []
 
 -- the statements of INITIAL, in order
 abbrev pub bounds_in : List Section → List Bound

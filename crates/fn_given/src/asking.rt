@@ -6,7 +6,7 @@ ghost use Rattle.fn_given.specs.Asked as spec;
 ghost use Rattle.fn_given.specs.Enforced.{set_names, with_words, set_by_items};
 
 use crate::enforced::add_set_names;
-use fn_profile::{Words, fault_of, word};
+use fn_normal::{Words, fault_of, word};
 use fn_source::Span;
 use fn_terms::{Scope, constant_value};
 use fn_tree::{Bracket, Expr, Item, Section, SectionKind};

@@ -3,7 +3,7 @@
 ghost use Rattle.std.specs.Prelude.{◌≡◌, IfOk, OnOk};
 ghost use Rattle.fn_given.specs.Enforced as spec;
 
-use fn_profile::{Words, word};
+use fn_normal::{Words, word};
 use fn_source::Span;
 use fn_tree::{Attribute, Expr, Item, Operator, Owner};
 use std::alloc::AllocError;

@@ -4,10 +4,10 @@ ghost use Rattle.std.specs.Prelude.{◌≡◌, ◌∷◌, [], IfOk, OnOk};
 ghost use Rattle.fn_given.specs.Initials as spec;
 
 use fn_bits::Bits;
-use fn_profile::{ProfileFault, Words, earlier, fault_of, word};
+use fn_normal::{ProfileFault, Words, earlier, fault_of, word};
 use fn_statements::initial_bits;
 use fn_terms::Scope;
-use fn_tree::{Bound, Item, Section, SectionKind};
+use fn_tree::{Bound, Item, Section};
 use sqlite_items::Items;
 use std::alloc::{AllocError, Global};
 
@@ -35,20 +35,11 @@ pub(crate) fn read_initials<'t>(
         fault: None,
     };
     for section in sections {
-        if is_initial(section.kind) {
+        if section.kind.is_initial() {
             read_items(alloc, text, scope, section.items.as_slice(), &mut initials)?;
         }
     }
     Ok(initials)
-}
-
-fn is_initial(kind: SectionKind) -> bool
-    ensures { result ≡ spec.is_initial kind }
-{
-    match kind {
-        SectionKind::Initial => true,
-        _ => false,
-    }
 }
 
 fn read_items<'t>(

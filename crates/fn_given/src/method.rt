@@ -1,13 +1,13 @@
 //! What a method gives its fields beside encodings.
 
 ghost use Rattle.std.specs.Prelude.{◌≡◌, IfOk};
-ghost use Rattle.fn_profile.specs.Judging.{Judged};
+ghost use Rattle.fn_normal.specs.Judging.{Judged};
 ghost use Rattle.fn_given.specs.Givens as spec;
 
 use crate::asking::asked_names;
 use crate::initial::read_initials;
 use fn_bits::Bits;
-use fn_profile::{ProfileFault, Words};
+use fn_normal::{ProfileFault, Words};
 use fn_terms::Scope;
 use fn_tree::Section;
 use sqlite_items::Items;

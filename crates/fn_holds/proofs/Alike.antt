@@ -8,22 +8,22 @@ use Rattle.fn_expr.specs.declared.known.Known.{Known}
 use Rattle.fn_expr.specs.Values.{Assignment, val}
 use Rattle.fn_expr.specs.Known.{assignment_of}
 use Rattle.fn_lib.specs.Methods as lib
-use Rattle.fn_profile.specs.declared.profile.Library.{Library}
-use Rattle.fn_profile.specs.declared.profile.Library.TheVariants as library
-use Rattle.fn_profile.specs.declared.profile.Encoding.{Encoding}
-use Rattle.fn_profile.specs.declared.profile.Encoding.TheVariants as encoding
-use Rattle.fn_profile.specs.declared.profile.Field.{Field}
-use Rattle.fn_profile.specs.declared.profile.Format.{Format}
-use Rattle.fn_profile.specs.declared.profile.Method.{Method}
+use Rattle.fn_normal.specs.declared.profile.Library.{Library}
+use Rattle.fn_normal.specs.declared.profile.Library.TheVariants as library
+use Rattle.fn_normal.specs.declared.profile.Encoding.{Encoding}
+use Rattle.fn_normal.specs.declared.profile.Encoding.TheVariants as encoding
+use Rattle.fn_normal.specs.declared.profile.Field.{Field}
+use Rattle.fn_normal.specs.declared.profile.Format.{Format}
+use Rattle.fn_normal.specs.declared.profile.Method.{Method}
 use Rattle.fn_bounds.specs.Laws.{library_exprs, encoding_exprs, in_encoding}
-use Rattle.fn_names.specs.Resolved.{Resolved, IsSound}
+use Rattle.fn_profile.specs.Resolved.{Resolved, IsSound}
 use Rattle.fn_filling.specs.declared.filling.Filling.{Filling}
 use Rattle.fn_filling.specs.declared.filling.FilledField.{FilledField}
 use Rattle.fn_filling.specs.Fillings.{level}
 use Rattle.fn_filling.specs.Entries.{Path}
 use Rattle.fn_fits.specs.Fits.{Context, Fits, FieldFits, LevelFits, side_of, assigned, method_of, two_values, crc_values, fits, bare, coded, called}
 use Rattle.fn_holds.specs.Ready.{AllFit, HasLevel, ArgumentsLieAt}
-use Rattle.fn_holds.proofs.Values.{vals_same}
+use Rattle.fn_fits.proofs.Values.{vals_same}
 use Rattle.fn_holds.proofs.Judged.{fitting}
 use Rattle.fn_holds.proofs.Levels.{ready_level}
 
@@ -59,3 +59,16 @@ filling_fits p sound k args f format known has lies ctx path level_fits b same =
           subst (λ xs. FieldFits p.methods ctx (side_of xs (level f)) a path d d.encoding g) (sym listing)
           (field_alike whole a d.encoding (λ n x stands. sym (can.value_is x (in_encoding i n here stands))) ((fitting format at fit).each i d g here there))),
     )
+
+-- all fields of a filling that fits fit, under the numbers of its level
+pub all_fit : (p : Resolved) → IsSound p → (k : ℕ) (args : List ℤ) (f : Filling) (format : Format) (known : Known) → HasLevel p k args f format known → ArgumentsLieAt p k args
+    → (ctx : Context) (path : Path) → Fits p.methods ctx k args path f → AllFit p.methods ctx path format f (assignment_of known)
+all_fit p sound k args f format known has lies ctx path fit =
+    let at = has.level.place.format_is in
+    let listing = has.level.place.shaped.listing_is in
+    let can = (ready_level p sound k args f format known has lies).1 in
+    let a = assignment_of known in
+    let whole = assigned format.listing (level f) args in
+    λ i g there d here.
+    subst (λ xs. FieldFits p.methods ctx (side_of xs (level f)) a path d d.encoding g) (sym listing)
+    (field_alike whole a d.encoding (λ n x stands. sym (can.value_is x (in_encoding i n here stands))) ((fitting format at fit).each i d g here there))

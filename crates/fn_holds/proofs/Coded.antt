@@ -1,24 +1,24 @@
 -- Arguments with values, and what is found of the compressed side.
-use Rattle.std.proofs.Common.{◌≡◌, ◌∙◌, refl, sym, ap, subst, List, [], ◌∷◌, Bool, ℕ}
+use Rattle.std.proofs.Common.{◌≡◌, ◌∙◌, refl, sym, ap, subst, List, [], ◌∷◌, Bool, false, ℕ}
 use Rattle.std.specs.Prelude.{slice_get, Option, Some, None, ◌↔◌, Result, Ok, Err, IfOk, IsTrue, ℤ, option_map}
 use Rattle.fn_expr.specs.declared.known.Known.{Known}
 use Rattle.fn_expr.specs.declared.expr.Expr.{Expr}
 use Rattle.fn_expr.specs.Known.{assignment_of}
 use Rattle.fn_expr.specs.Spread.{IsRanged}
-use Rattle.fn_profile.specs.declared.profile.Library.{Library}
+use Rattle.fn_normal.specs.declared.profile.Library.{Library}
 use Rattle.fn_bounds.specs.Laws.{library_exprs}
 use Rattle.fn_lib.specs.Methods.{IsOnly, Method, Lib}
 use Rattle.fn_lib.specs.Methods as lib
 use Rattle.fn_expr.specs.Values.{Assignment, val}
-use Rattle.fn_profile.specs.declared.profile.Library.TheVariants as library
-use Rattle.fn_profile.specs.declared.profile.Field.{Field}
+use Rattle.fn_normal.specs.declared.profile.Library.TheVariants as library
+use Rattle.fn_normal.specs.declared.profile.Field.{Field}
 use Rattle.fn_filling.specs.declared.filling.Filling.{Filling}
 use Rattle.fn_filling.specs.declared.filling.FilledField.{FilledField}
 use Rattle.fn_filling.specs.Fillings.{level, listing_of, sides_of, inner_of}
 use Rattle.fn_filling.specs.Entries.{Path, below}
 use Rattle.fn_fits.specs.Fits.{Context, side_of, vals, two_values, crc_values, method_of, reference_of}
 use Rattle.fn_holds.specs.declared.coding.Coding.TheVariants as coding
-use Rattle.fn_holds.specs.Coding.{with_covered, pair_of, four_of, coding_of}
+use Rattle.fn_holds.specs.Coding.{with_covered, has_reference, pair_of, four_of, coding_of}
 use Rattle.fn_holds.specs.Ready.{IsCovered, IsCoded}
 use Rattle.fn_holds.specs.declared.coding.Coding.{Coding}
 use Rattle.fn_holds.specs.Level.{AllRanged}
@@ -92,6 +92,20 @@ coded_is ctx path f a d l g covered v ref b outer coded covers ref_is same = (
       same.1 (subst (λ m. Lib m ref (sides_of g).uncompressed (sides_of g).compressed) is
       (subst (λ r. Lib c.method r (sides_of g).uncompressed (sides_of g).compressed) (sym ref_is) c.related)),
 )
+
+-- a method that refers to no context says the same of each reference
+no_reference : (covered : List Bool) (v : Coding) (ref other : Option (List Bool)) (u c : List Bool) → has_reference v ≡ false → Lib (with_covered covered v) ref u c
+    → Lib (with_covered covered v) other u c
+no_reference covered (coding.UncompressedValue len n) ref other u c e h = h
+no_reference covered (coding.CompressedValue len n) ref other u c e h = h
+no_reference covered (coding.Irregular len) ref other u c e h = h
+no_reference covered coding.Static ref other u c e h = absurd (cc)
+no_reference covered (coding.Lsb k n) ref other u c e h = absurd (cc)
+no_reference covered (coding.Crc n polynomial initial len) ref other u c e h = h
+
+pub any_reference : (covered : List Bool) (v : Coding) (ref other : Option (List Bool)) (u c : List Bool) (b : Bool) → has_reference v ≡ false
+    → (IsTrue b ↔ Lib (with_covered covered v) ref u c) → IsTrue b ↔ Lib (with_covered covered v) other u c
+any_reference covered v ref other u c b e same = (λ t. no_reference covered v ref other u c e (same.0 t), λ h. same.1 (no_reference covered v other ref u c e h))
 
 -- an answer that says less
 pub ok_weaker : {E O : Type 0} (P Q : O → Type 0) (r : Result O E) → ((o : O) → P o → Q o) → IfOk r P → IfOk r Q

@@ -3,11 +3,11 @@ use Rattle.std.proofs.Common.{◌≡◌, ◌∙◌, refl, sym, ap, subst, ℕ, �
 use Rattle.std.specs.Prelude.{slice_get, Option, Some, None, ℤ}
 use Rattle.std.specs.Option.{option_map, option_and_then}
 use Rattle.std.proofs.lemmas.Option.{slice_get-map, slice_get_within}
-use Rattle.fn_profile.specs.declared.profile.Field.{Field}
-use Rattle.fn_profile.specs.declared.profile.Format.{Format}
-use Rattle.fn_profile.specs.declared.profile.FormatSizes.{FormatSizes}
-use Rattle.fn_profile.specs.declared.profile.MethodSizes.{MethodSizes}
-use Rattle.fn_profile.specs.declared.profile.Method.{Method}
+use Rattle.fn_normal.specs.declared.profile.Field.{Field}
+use Rattle.fn_normal.specs.declared.profile.Format.{Format}
+use Rattle.fn_normal.specs.declared.profile.FormatSizes.{FormatSizes}
+use Rattle.fn_normal.specs.declared.profile.MethodSizes.{MethodSizes}
+use Rattle.fn_normal.specs.declared.profile.Method.{Method}
 use Rattle.fn_bounds.specs.Formats.{format_sizes}
 use Rattle.fn_bounds.specs.Outcome.{AreSizes}
 use Rattle.fn_filling.specs.declared.filling.Filling.{Filling, out-Filling}
@@ -15,7 +15,8 @@ use Rattle.fn_filling.specs.declared.filling.FilledField.{FilledField}
 use Rattle.fn_filling.specs.Fillings.{level, fields_of}
 use Rattle.fn_filling.specs.Entries.{Path}
 use Rattle.fn_fits.specs.Fits.{Context, Fits, FieldFits, LevelFits, IsShaped, format_at, side_of, assigned, fits}
-use Rattle.fn_holds.specs.Ready.{NeverFits, sizes_at}
+use Rattle.fn_fits.specs.Bounded.{sizes_at}
+use Rattle.fn_holds.specs.Ready.{NeverFits}
 
 -- what a fitting filling says at its own level, of its format
 pub record Fitting (methods : List Method) (ctx : Context) (args : List ℤ) (path : Path) (format : Format) (f : Filling) : Type 0 where

@@ -8,14 +8,14 @@ use Rattle.fn_expr.specs.declared.expr.Subject.{Subject}
 use Rattle.fn_expr.specs.declared.known.Known.{Known}
 use Rattle.fn_expr.specs.Values.{Assignment}
 use Rattle.fn_expr.specs.Known.{assignment_of}
-use Rattle.fn_profile.specs.declared.profile.Bounds.{Bounds}
-use Rattle.fn_profile.specs.declared.profile.Sizes.{Sizes}
-use Rattle.fn_profile.specs.declared.profile.FormatSizes.{FormatSizes}
-use Rattle.fn_profile.specs.declared.profile.MethodSizes.{MethodSizes}
-use Rattle.fn_profile.specs.declared.profile.Constraint.{Constraint}
-use Rattle.fn_profile.specs.declared.profile.Constraint.TheVariants.{Bracket, Enforce}
-use Rattle.fn_profile.specs.declared.profile.Field.{Field}
-use Rattle.fn_profile.specs.declared.profile.Format.{Format}
+use Rattle.fn_normal.specs.declared.profile.Bounds.{Bounds}
+use Rattle.fn_normal.specs.declared.profile.Sizes.{Sizes}
+use Rattle.fn_normal.specs.declared.profile.FormatSizes.{FormatSizes}
+use Rattle.fn_normal.specs.declared.profile.MethodSizes.{MethodSizes}
+use Rattle.fn_normal.specs.declared.profile.Constraint.{Constraint}
+use Rattle.fn_normal.specs.declared.profile.Constraint.TheVariants.{Bracket, Enforce}
+use Rattle.fn_normal.specs.declared.profile.Field.{Field}
+use Rattle.fn_normal.specs.declared.profile.Format.{Format}
 use Rattle.fn_bounds.specs.Fields.{lists, where_listed, encoding_sizes, encoded_sizes, field_sizes, narrowed, narrowed_by, bracket_bounds}
 use Rattle.fn_bounds.specs.Ranging.{format_ranges}
 use Rattle.fn_bounds.specs.Laws.{in_bracket}
@@ -24,14 +24,15 @@ use Rattle.fn_bounds.proofs.Places.{indexed-length}
 use Rattle.fn_bounds.proofs.Ruling.{by-rules, there, field-is, format-is}
 use Rattle.fn_bounds.proofs.Faultless.{faultless}
 use Rattle.fn_bounds.proofs.Widening.{lie-in-parameters}
-use Rattle.fn_names.specs.Resolved.{Resolved, IsSound}
+use Rattle.fn_profile.specs.Resolved.{Resolved, IsSound}
 use Rattle.fn_filling.specs.declared.filling.Filling.{Filling, out-Filling}
 use Rattle.fn_filling.specs.Fillings.{Sides, level, listing_of}
 use Rattle.fn_fits.specs.Fits.{LevelFits, Holds, side_of, assigned}
 use Rattle.fn_fits.specs.Bounded.{LengthsLie}
-use Rattle.fn_holds.specs.Level.{known_level, Evaluates, ConstraintRanged}
+use Rattle.fn_fits.specs.Numbers.{known_level}
+use Rattle.fn_holds.specs.Level.{Evaluates, ConstraintRanged}
 use Rattle.fn_holds.specs.Ready.{IsReady, IsPlace, HasLevel, ArgumentsLieAt}
-use Rattle.fn_holds.proofs.Lying.{AreSmall, known_lies}
+use Rattle.fn_fits.proofs.Lying.{AreSmall, known_lies}
 use Rattle.fn_holds.proofs.Readying.{evaluates, call_lies}
 use Rattle.fn_holds.proofs.Judged.{Placed, placed, Sized, sized}
 use Rattle.fn_holds.proofs.Limits.{at_level, whole_small}

@@ -1,11 +1,10 @@
 pub mod Each
 pub mod Coded
 pub mod Shapes
-pub mod Lying
-pub mod Values
 pub mod Readying
 pub mod Judged
 pub mod Limits
 pub mod Levels
 pub mod Fields
 pub mod Alike
+pub mod Pieces

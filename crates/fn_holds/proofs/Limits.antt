@@ -1,32 +1,22 @@
 -- The bounds of a format of a sound profile are small, and no filling with lengths beyond them fits.
-use Rattle.std.proofs.Common.{◌≡◌, refl, ℕ, ◌≤◌, ◌^◌, Bool, true, false, ◌&&◌, nat_le, List, arith}
+use Rattle.std.proofs.Common.{◌≡◌, ℕ, ◌≤◌, ◌^◌, ◌⊎◌, inl, inr, List, length, arith}
 use Rattle.std.specs.Prelude.{Some, ℤ}
-use Rattle.std.proofs.lemmas.Bool.Decides.{nat_tests}
 use Rattle.fn_expr.specs.declared.expr.Side.TheVariants.{Uncompressed, Compressed}
-use Rattle.fn_profile.specs.declared.profile.Sizes.{Sizes}
-use Rattle.fn_profile.specs.declared.profile.Format.{Format}
-use Rattle.fn_profile.specs.declared.profile.FormatSizes.{FormatSizes}
-use Rattle.fn_profile.specs.declared.profile.MethodSizes.{MethodSizes}
-use Rattle.fn_profile.specs.declared.profile.Method.{Method}
-use Rattle.fn_bounds.specs.Methods.{is_within}
+use Rattle.fn_normal.specs.declared.profile.Format.{Format}
+use Rattle.fn_normal.specs.declared.profile.FormatSizes.{FormatSizes}
+use Rattle.fn_normal.specs.declared.profile.MethodSizes.{MethodSizes}
+use Rattle.fn_normal.specs.declared.profile.Method.{Method}
 use Rattle.fn_bounds.specs.Outcome.{AreSizes, FormatAt}
 use Rattle.fn_bounds.proofs.Ruling.{by-rules}
 use Rattle.fn_filling.specs.declared.filling.Filling.{Filling, out-Filling}
 use Rattle.fn_fits.specs.Fits.{format_at}
 use Rattle.fn_fits.specs.Bounded.{LengthsLieInBounds, LengthsLie}
-use Rattle.fn_holds.specs.Ready.{sizes_at, NeverFits}
+use Rattle.fn_fits.specs.Bounded.{sizes_at}
+use Rattle.fn_holds.specs.Ready.{NeverFits}
+use Rattle.fn_filling.specs.Fillings.{header, packed}
+use Rattle.fn_profile.specs.Resolved.{Resolved, IsSound}
+use Rattle.fn_fits.proofs.Fronts.{within_limits, short_sides}
 use Rattle.fn_holds.proofs.Judged.{Placed, placed, Sized, sized}
-
-both_true : (a b : Bool) → (a && b) ≡ true → (a ≡ true) × (b ≡ true)
-both_true true b e = (refl, e)
-both_true false b e = absurd cc
-
-within_limits : (s : Sizes) → is_within s ≡ true → (s.uncompressed.most ≤ 4096) × (s.compressed.most ≤ 2 ^ 18)
-within_limits s e =
-    let t = both_true (nat_le s.uncompressed.most 4096) (nat_le s.compressed.most (2 ^ 18)) e in
-    let u : nat_le s.uncompressed.most 4096 ≡ true = t.0 in
-    let c : nat_le s.compressed.most (2 ^ 18) ≡ true = t.1 in
-    (grind (arith, nat_tests), grind (arith, nat_tests))
 
 -- a format and its bounds, of one method
 pub at_level : (methods : List Method) (table : List MethodSizes) (k n : ℕ) (format : Format) (sizes : FormatSizes) (p : Placed methods k n format) (s : Sized table k n sizes)
@@ -60,3 +50,8 @@ pub never_unbounded : LengthsLieInBounds → (methods : List Method) (table : Li
 never_unbounded law methods table are k args f sizes there wrong ctx path fit =
     let s = sized table k (out-Filling f).format sizes there in
     wrong (law methods table are ctx k args path f fit s.whole sizes s.whole_at s.sizes_is).0
+
+-- nor one with a side above the limit of bits
+pub never_long : (p : Resolved) → IsSound p → (k : ℕ) (args : List ℤ) (f : Filling) → (2 ^ 31 ≤ length (header f)) ⊎ (2 ^ 31 ≤ length (packed f)) → NeverFits p.methods k args f
+never_long p sound k args f (inl above) ctx path fit = let s = short_sides p.methods p.sizes sound.sized ctx k args path f fit in absurd (omega (arith, s.0, above))
+never_long p sound k args f (inr above) ctx path fit = let s = short_sides p.methods p.sizes sound.sized ctx k args path f fit in absurd (omega (arith, s.1, above))

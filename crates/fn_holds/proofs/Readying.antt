@@ -22,28 +22,29 @@ use Rattle.fn_expr.specs.Rules.{IsIn}
 use Rattle.std.specs.Option.{unwrap_or}
 use Rattle.fn_bits.specs.Number.{num}
 use Rattle.fn_expr.proofs.Agreement.{same_value, same_truth}
-use Rattle.fn_profile.specs.declared.profile.Bounds.{Bounds}
-use Rattle.fn_profile.specs.declared.profile.Sizes.{Sizes}
-use Rattle.fn_profile.specs.declared.profile.FormatSizes.{FormatSizes}
-use Rattle.fn_profile.specs.declared.profile.MethodSizes.{MethodSizes}
-use Rattle.fn_profile.specs.declared.profile.Encoding.TheVariants as encoding
-use Rattle.fn_profile.specs.declared.profile.Field.{Field}
-use Rattle.fn_profile.specs.declared.profile.Format.{Format}
-use Rattle.fn_profile.specs.declared.profile.Method.{Method}
+use Rattle.fn_normal.specs.declared.profile.Bounds.{Bounds}
+use Rattle.fn_normal.specs.declared.profile.Sizes.{Sizes}
+use Rattle.fn_normal.specs.declared.profile.FormatSizes.{FormatSizes}
+use Rattle.fn_normal.specs.declared.profile.MethodSizes.{MethodSizes}
+use Rattle.fn_normal.specs.declared.profile.Encoding.TheVariants as encoding
+use Rattle.fn_normal.specs.declared.profile.Field.{Field}
+use Rattle.fn_normal.specs.declared.profile.Format.{Format}
+use Rattle.fn_normal.specs.declared.profile.Method.{Method}
 use Rattle.fn_bounds.specs.Faults.{side_bounds, is_wide, is_wide_by}
 use Rattle.fn_bounds.specs.Formats.{sizes_at}
 use Rattle.fn_bounds.specs.Ranging.{format_ranges}
 use Rattle.fn_bounds.specs.Laws.{AllSound}
 use Rattle.fn_bounds.specs.Outcome.{FormatAt}
 use Rattle.fn_bounds.specs.Calling.{ranges_in, TakeArguments, IsArgument}
-use Rattle.fn_names.specs.WellFormed.{FormatIsSound}
+use Rattle.fn_profile.specs.WellFormed.{FormatIsSound}
 use Rattle.fn_filling.specs.declared.filling.Filling.{Filling}
 use Rattle.fn_filling.specs.Fillings.{Sides, level, listing_of, header, packed, packed_bits}
 use Rattle.fn_fits.specs.Fits.{side_of, field_side, assigned, IsShaped, vals}
 use Rattle.fn_fits.specs.Fits as fits
 use Rattle.fn_fits.specs.Bounded.{LiesBetween, SidesLie, LengthsLie, ArgumentsLie}
-use Rattle.fn_holds.proofs.Values.{vals_length, vals_at}
-use Rattle.fn_holds.specs.Level.{numbers, numbers_of, known_level, Evaluates}
+use Rattle.fn_fits.proofs.Values.{vals_length, vals_at}
+use Rattle.fn_fits.specs.Numbers.{numbers, numbers_of, known_level}
+use Rattle.fn_holds.specs.Level.{Evaluates}
 
 -- ---- the numbers that an expression asks for
 

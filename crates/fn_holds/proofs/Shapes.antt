@@ -2,10 +2,10 @@
 use Rattle.std.proofs.Common.{◌≡◌, ◌∙◌, refl, sym, ap, subst, ℕ, suc, zero, map, length, List, [], ◌∷◌, Bool, true, false, arith, option_map}
 use Rattle.std.specs.Prelude.{slice_get, Some, None, ◌↔◌, IsTrue}
 use Rattle.std.proofs.lemmas.Option.{slice_get-map}
-use Rattle.fn_profile.specs.declared.profile.Sizes.{Sizes}
-use Rattle.fn_profile.specs.declared.profile.FormatSizes.{FormatSizes}
-use Rattle.fn_profile.specs.declared.profile.Declared.{Declared}
-use Rattle.fn_profile.specs.declared.profile.Field.{Field}
+use Rattle.fn_normal.specs.declared.profile.Sizes.{Sizes}
+use Rattle.fn_normal.specs.declared.profile.FormatSizes.{FormatSizes}
+use Rattle.fn_normal.specs.declared.profile.Declared.{Declared}
+use Rattle.fn_normal.specs.declared.profile.Field.{Field}
 use Rattle.fn_filling.specs.declared.filling.Filling.{Filling}
 use Rattle.fn_filling.specs.declared.filling.FilledField.{FilledField}
 use Rattle.fn_filling.specs.Fillings.{sides_of, fields_of, header, packed}

@@ -1,10 +1,10 @@
 -- A library method with the values of its arguments, without the bits that a crc covers.
-use Rattle.std.specs.Prelude.{Bool, List, [], ◌∷◌, ℤ, Option, Some, None, option_map}
+use Rattle.std.specs.Prelude.{Bool, true, false, List, [], ◌∷◌, ℤ, Option, Some, None, option_map}
 use Rattle.fn_expr.specs.Values.{Assignment, val}
 use Rattle.fn_lib.specs.Methods.{Method}
 use Rattle.fn_lib.specs.Methods as lib
-use Rattle.fn_profile.specs.declared.profile.Library.{Library}
-use Rattle.fn_profile.specs.declared.profile.Library.TheVariants as library
+use Rattle.fn_normal.specs.declared.profile.Library.{Library}
+use Rattle.fn_normal.specs.declared.profile.Library.TheVariants as library
 use Rattle.fn_fits.specs.Fits.{vals}
 use Rattle.fn_holds.specs.declared.coding.Coding.{Coding}
 use Rattle.fn_holds.specs.declared.coding.Coding.TheVariants as coding
@@ -17,6 +17,15 @@ with_covered covered (coding.Irregular len) = lib.irregular len
 with_covered covered coding.Static = lib.static
 with_covered covered (coding.Lsb k offset) = lib.lsb k offset
 with_covered covered (coding.Crc n polynomial initial len) = lib.crc n polynomial initial covered len
+
+-- the method refers to the context
+abbrev pub has_reference : Coding → Bool
+has_reference coding.Static = true
+has_reference (coding.Lsb k offset) = true
+has_reference (coding.UncompressedValue len v) = false
+has_reference (coding.CompressedValue len v) = false
+has_reference (coding.Irregular len) = false
+has_reference (coding.Crc n polynomial initial len) = false
 
 abbrev pub pair_of : (ℤ → ℤ → Coding) → Option ℤ → Option ℤ → Option Coding
 pair_of f (Some x) (Some y) = Some (f x y)

@@ -1,23 +1,19 @@
 -- One level of a filling, as its expressions see it.
-use Rattle.std.specs.Prelude.{◌≡◌, ℕ, nat_le, Bool, List, map, length, slice_get, ℤ, pos, Some, None, if◌then◌else◌}
-use Rattle.fn_bits.specs.Number.{num}
+use Rattle.std.specs.Prelude.{◌≡◌, ℕ, List, map, length, slice_get, Some}
 use Rattle.fn_source.specs.declared.span.Span.{Span}
-use Rattle.fn_expr.specs.declared.known.Numbers.{Numbers}
-use Rattle.fn_expr.specs.declared.known.SideNumbers.{SideNumbers}
 use Rattle.fn_expr.specs.declared.known.Known.{Known}
 use Rattle.fn_expr.specs.declared.expr.Expr.{Expr}
 use Rattle.fn_expr.specs.declared.expr.Cond.{Cond}
 use Rattle.fn_expr.specs.Values.{Assignment, val, truth}
 use Rattle.fn_expr.specs.Known.{assignment_of}
 use Rattle.fn_expr.specs.Spread.{IsRanged, AreRanged}
-use Rattle.fn_profile.specs.declared.profile.Sizes.{Sizes}
-use Rattle.fn_profile.specs.declared.profile.Constraint.{Constraint}
-use Rattle.fn_profile.specs.declared.profile.Constraint.TheVariants.{Bracket, Enforce}
-use Rattle.fn_profile.specs.declared.profile.Format.{Format}
+use Rattle.fn_normal.specs.declared.profile.Sizes.{Sizes}
+use Rattle.fn_normal.specs.declared.profile.Constraint.{Constraint}
+use Rattle.fn_normal.specs.declared.profile.Constraint.TheVariants.{Bracket, Enforce}
+use Rattle.fn_normal.specs.declared.profile.Format.{Format}
 use Rattle.fn_bounds.specs.Laws.{StandsIn}
-use Rattle.fn_filling.specs.declared.filling.Filling.{Filling}
 use Rattle.fn_filling.specs.declared.filling.FilledField.{FilledField}
-use Rattle.fn_filling.specs.Fillings.{Sides, sides_of, level, header, packed}
+use Rattle.fn_filling.specs.Fillings.{Sides, sides_of}
 use Rattle.fn_fits.specs.Bounded.{SidesLie}
 
 -- the two lengths of the field at a place lie in its bounds, if it has any
@@ -27,21 +23,6 @@ FieldLies sizes i s = (b : Sizes) → slice_get sizes i ≡ Some b → SidesLie 
 -- the same of each field
 abbrev pub FieldsLie : List Sizes → List FilledField → Type 0
 FieldsLie sizes fields = (i : ℕ) (s : Sides) → slice_get (map sides_of fields) i ≡ Some s → FieldLies sizes i s
-
--- the number that bits spell, up to 64 of them, and how many they are
-abbrev pub numbers : List Bool → Numbers
-numbers bits = record { value = if nat_le (length bits) 64 then Some (pos (num bits)) else None; length = Some (pos (length bits)) }
-
-abbrev pub numbers_of : Sides → SideNumbers
-numbers_of s = record { uncompressed = numbers s.uncompressed; compressed = numbers s.compressed }
-
--- those of the fields and of the whole, and the arguments
-abbrev pub known_level : Filling → List ℤ → Known
-known_level f args = record {
-  fields = map numbers_of (level f);
-  whole = record { uncompressed = numbers (header f); compressed = numbers (packed f) };
-  parameters = args;
-}
 
 -- each expression may be evaluated under the known numbers
 abbrev pub AllRanged : Known → List Expr → Type 0

@@ -1,20 +1,20 @@
 -- What a level of a filling is, and what makes it ready to be judged.
-use Rattle.std.specs.Prelude.{Bool, ◌≡◌, ◌<◌, ℕ, ℤ, List, length, slice_get, Option, Some, None, option_and_then}
+use Rattle.std.specs.Prelude.{Bool, ◌≡◌, ◌<◌, ℕ, ℤ, List, length, slice_get, Some, None}
 use Rattle.fn_source.specs.declared.span.Span.{Span}
 use Rattle.fn_expr.specs.declared.known.Known.{Known}
 use Rattle.fn_expr.specs.declared.expr.Expr.{Expr}
 use Rattle.fn_expr.specs.declared.expr.Cond.{Cond}
 use Rattle.fn_expr.specs.Known.{assignment_of}
 use Rattle.fn_expr.specs.Spread.{IsRanged, AreRanged}
-use Rattle.fn_profile.specs.declared.profile.Encoding.TheVariants as encoding
-use Rattle.fn_profile.specs.declared.profile.Field.{Field}
-use Rattle.fn_profile.specs.declared.profile.Constraint.TheVariants.{Enforce}
-use Rattle.fn_profile.specs.declared.profile.Format.{Format}
-use Rattle.fn_profile.specs.declared.profile.FormatSizes.{FormatSizes}
-use Rattle.fn_profile.specs.declared.profile.MethodSizes.{MethodSizes}
+use Rattle.fn_normal.specs.declared.profile.Encoding.TheVariants as encoding
+use Rattle.fn_normal.specs.declared.profile.Field.{Field}
+use Rattle.fn_normal.specs.declared.profile.Constraint.TheVariants.{Enforce}
+use Rattle.fn_normal.specs.declared.profile.Format.{Format}
+use Rattle.fn_normal.specs.declared.profile.FormatSizes.{FormatSizes}
+use Rattle.fn_normal.specs.declared.profile.MethodSizes.{MethodSizes}
 use Rattle.fn_bounds.specs.Laws.{StandsIn}
-use Rattle.fn_names.specs.Resolved.{Resolved}
-use Rattle.fn_profile.specs.declared.profile.Method.{Method}
+use Rattle.fn_profile.specs.Resolved.{Resolved}
+use Rattle.fn_normal.specs.declared.profile.Method.{Method}
 use Rattle.fn_expr.specs.Values.{Assignment}
 use Rattle.fn_filling.specs.declared.filling.Filling.{Filling, out-Filling}
 use Rattle.fn_filling.specs.declared.filling.FilledField.{FilledField}
@@ -22,14 +22,10 @@ use Rattle.fn_filling.specs.Fillings.{level, sides_of, inner_of, fields_of, list
 use Rattle.fn_filling.specs.Entries.{Path, below}
 use Rattle.fn_fits.specs.Fits.{Context, Fits, FieldFits, IsShaped, format_at, side_of, vals, method_of, reference_of}
 use Rattle.fn_lib.specs.Methods as lib
-use Rattle.fn_profile.specs.declared.profile.Library.{Library}
-use Rattle.fn_profile.specs.declared.profile.Library.TheVariants as library
-use Rattle.fn_fits.specs.Bounded.{LengthsLie, ArgumentsLie}
-use Rattle.fn_holds.specs.Level.{known_level}
-
--- the bounds of the format of the method k
-abbrev pub sizes_at : List MethodSizes → ℕ → ℕ → Option FormatSizes
-sizes_at table k n = option_and_then (λ s. slice_get s.formats n) (slice_get table k)
+use Rattle.fn_normal.specs.declared.profile.Library.{Library}
+use Rattle.fn_normal.specs.declared.profile.Library.TheVariants as library
+use Rattle.fn_fits.specs.Bounded.{sizes_at, LengthsLie, ArgumentsLie}
+use Rattle.fn_fits.specs.Numbers.{known_level}
 
 -- the arguments of the method k lie in the ranges of its parameters
 abbrev pub ArgumentsLieAt : Resolved → ℕ → List ℤ → Type 0

@@ -11,13 +11,14 @@ ghost use Rattle.fn_holds.specs.Coding as spec;
 use fn_bits::Bits;
 use fn_expr::{Known, value};
 use fn_lib::{
-    compressed_value_down, crc_down, irregular_down, lsb_down, static_down, uncompressed_value_down,
+    compressed_value_down, compressed_value_up, crc_down, crc_up, irregular_down, irregular_up,
+    lsb_down, lsb_up, static_down, static_up, uncompressed_value_down, uncompressed_value_up,
 };
-use fn_profile::Library;
+use fn_normal::Library;
 use std::alloc::{AllocError, Global};
 
 /// A library method with the values of its arguments (RFC 4997, section 4.11), without the bits that a crc covers.
-#[derive(Clone, Copy, Debug, PartialEq, Eq)]
+#[derive(Clone, Copy, PartialEq, Eq)]
 pub enum Coding {
     UncompressedValue {
         length: i128,
@@ -43,8 +44,23 @@ pub enum Coding {
     },
 }
 
+impl Coding {
+    /// Whether the method refers to the context: `static` and `lsb` do.
+    pub fn has_reference(self) -> bool
+        ensures { result ≡ spec.has_reference self }
+    {
+        match self {
+            Coding::Static | Coding::Lsb { .. } => true,
+            Coding::UncompressedValue { .. }
+            | Coding::CompressedValue { .. }
+            | Coding::Irregular { .. }
+            | Coding::Crc { .. } => false,
+        }
+    }
+}
+
 /// The method with the values of its arguments, none where one has no value.
-pub(crate) fn coding_of(library: &Library, known: &Known) -> Option<Coding>
+pub fn coding_of(library: &Library, known: &Known) -> Option<Coding>
     requires { AllRanged known.now (library_exprs library.now) }
     ensures { result ≡ spec.coding_of (assignment_of known.now) library.now }
 {
@@ -95,8 +111,9 @@ pub(crate) fn is_related(
     Ok(is_found(&found, compressed))
 }
 
-/// The compressed side that the method gives to an uncompressed one, none where it gives none.
-fn compressed_by(
+/// The compressed side that the method gives to an uncompressed one, where the covered bits of a crc and the reference are
+/// these. None where it gives none. The error is want of memory.
+pub fn compressed_by(
     alloc: Global,
     coding: Coding,
     covered: &Bits,
@@ -135,6 +152,37 @@ fn compressed_by(
     }
 }
 
+/// The uncompressed side that the method gives to a compressed one, likewise.
+pub fn uncompressed_by(
+    alloc: Global,
+    coding: Coding,
+    covered: &Bits,
+    reference: Option<&Bits>,
+    compressed: &Bits,
+) -> Result<Option<Bits>, AllocError>
+    ensures { IfOk result (IsOnly (λ u. Lib (spec.with_covered covered.now coding) (option_copied reference.entry) u compressed.now)) }
+{
+    match coding {
+        Coding::UncompressedValue { length, value } => {
+            uncompressed_value_up(alloc, length, value, compressed)
+        }
+        Coding::CompressedValue { length, value } => Ok(compressed_value_up(
+            alloc, length, value, compressed,
+        )),
+        Coding::Irregular { length } => irregular_up(alloc, length, compressed),
+        Coding::Static => static_up(alloc, reference, compressed),
+        Coding::Lsb { bits, offset } => lsb_up(alloc, bits, offset, reference, compressed),
+        Coding::Crc {
+            bits,
+            polynomial,
+            initial,
+            length,
+        } => Ok(crc_up(
+            alloc, bits, polynomial, initial, covered, length, compressed,
+        )),
+    }
+}
+
 /// Whether the found bits are there and are these.
 fn is_found(found: &Option<Bits>, bits: &Bits) -> bool
     ensures { IsTrue result ↔ (found.now ≡ Some bits.now) }
@@ -145,7 +193,7 @@ fn is_found(found: &Option<Bits>, bits: &Bits) -> bool
     }
 }
 
-pub(crate) fn is_same(one: &Bits, other: &Bits) -> bool
+fn is_same(one: &Bits, other: &Bits) -> bool
     ensures { IsTrue result ↔ (one.now ≡ other.now) }
 {
     *one == *other

@@ -5,14 +5,14 @@ ghost use Rattle.fn_expr.specs.Values.{val};
 ghost use Rattle.fn_expr.specs.Known.{assignment_of};
 ghost use Rattle.fn_expr.specs.declared.expr.Expr.{Expr};
 ghost use Rattle.fn_expr.specs.declared.expr.Subject.TheVariants as subject;
-ghost use Rattle.fn_profile.specs.declared.profile.Constraint.{Constraint};
+ghost use Rattle.fn_normal.specs.declared.profile.Constraint.{Constraint};
 ghost use Rattle.fn_filling.specs.Fillings.{level, listing_of};
 ghost use Rattle.fn_fits.specs.Fits.{Holds, side_of};
 ghost use Rattle.fn_holds.specs.Level.{AllRanged, ConstraintRanged};
 
 use fn_expr::{Expr, Known, Side, decide, value};
 use fn_filling::Filling;
-use fn_profile::Constraint;
+use fn_normal::Constraint;
 
 /// Whether all constraints of a format hold.
 pub(crate) fn constraints_hold(constraints: &[Constraint], filling: &Filling, known: &Known) -> bool

@@ -1,6 +1,6 @@
 //! Whether a filling fits: all its levels.
 
-ghost use Rattle.std.specs.Prelude.{◌≡◌, ◌<◌, ◌↔◌, IsTrue, IfOk, length};
+ghost use Rattle.std.specs.Prelude.{◌≡◌, false, ◌<◌, ◌↔◌, IsTrue, IfOk, length};
 ghost use Rattle.fn_context.specs.Entries.{bits_at};
 ghost use Rattle.fn_expr.specs.Known.{assignment_of};
 ghost use Rattle.fn_filling.specs.Fillings.{sides_of, header, packed};
@@ -11,18 +11,18 @@ ghost use Rattle.fn_holds.specs.Level.{AllRanged};
 use crate::constraints::constraints_hold;
 use crate::level::{Level, level_of, values_of};
 use crate::plain::{is_bare, is_coded};
-use crate::sides::{is_header, is_packed};
+use crate::sides::{header_of, is_header, is_packed, packed_of};
+use fn_bits::Bits;
 use fn_context::Context;
 use fn_expr::{Expr, Known};
 use fn_filling::{FilledField, Filling, below};
-use fn_names::Profile;
-use fn_profile::{Encoding, Field};
+use fn_normal::{Encoding, Field};
+use fn_profile::Profile;
 use std::alloc::{AllocError, Global};
 
 /// Whether the filling fits the method of the profile, under these arguments, below the path and in this context.
 ///
 /// The method goes by its index, and the path is that of the field that the filling fills, empty at the top. The error is want of memory.
-#[cycle(holding)]
 pub fn holds(
     alloc: Global,
     profile: &Profile,
@@ -37,13 +37,133 @@ pub fn holds(
     ensures { IfOk result (λ b. IsTrue b ↔ Fits profile.now.methods (bits_at context.now) method arguments.now path.now filling.now) }
 {
     profile.keeps();
-    let Some(level) = level_of(alloc, profile, method, arguments, filling)? else {
+    let Some(header) = header_of(alloc, filling)? else {
+        return Ok(false);
+    };
+    let Some(packed) = packed_of(alloc, filling)? else {
+        return Ok(false);
+    };
+    whole_holds(
+        alloc, profile, context, method, arguments, path, filling, &header, &packed,
+    )
+}
+
+/// Whether the filling fits, where its header and its packed bits are these.
+#[cycle(holding)]
+fn whole_holds(
+    alloc: Global,
+    profile: &Profile,
+    context: &Context,
+    method: usize,
+    arguments: &[i128],
+    path: &str,
+    filling: &Filling,
+    header_bits: &Bits,
+    packed_bits: &Bits,
+) -> Result<bool, AllocError>
+    requires within { method < length profile.now.methods }
+    requires arguments { ArgumentsLieAt profile.now method arguments.now }
+    requires header { header_bits.now ≡ header filling.now }
+    requires packed { packed_bits.now ≡ packed filling.now }
+    ensures { IfOk result (λ b. IsTrue b ↔ Fits profile.now.methods (bits_at context.now) method arguments.now path.now filling.now) }
+{
+    profile.keeps();
+    let level = level_of(
+        alloc,
+        profile,
+        method,
+        arguments,
+        filling,
+        header_bits,
+        packed_bits,
+    )?;
+    let Some(level) = level else {
         return Ok(false);
     };
     if !level_holds(profile, method, arguments, filling, &level) {
         return Ok(false);
     }
     fields_hold(alloc, profile, context, path, &level, filling)
+}
+
+/// Whether the filling's own level fits the method under these arguments, whatever the fillings inside its fields are.
+///
+/// The method and the path are as those of `holds`. The error is want of memory.
+pub fn level_fits(
+    alloc: Global,
+    profile: &Profile,
+    context: &Context,
+    method: usize,
+    arguments: &[i128],
+    path: &str,
+    filling: &Filling,
+) -> Result<bool, AllocError>
+    requires within { method < length profile.now.methods }
+    requires arguments { ArgumentsLieAt profile.now method arguments.now }
+    // False: it doesn't fit.
+    ensures { IfOk result (λ b. b ≡ false → Fits profile.now.methods (bits_at context.now) method arguments.now path.now filling.now → ⊥) }
+{
+    profile.keeps();
+    let Some(header) = header_of(alloc, filling)? else {
+        return Ok(false);
+    };
+    let Some(packed) = packed_of(alloc, filling)? else {
+        return Ok(false);
+    };
+    let level = level_of(alloc, profile, method, arguments, filling, &header, &packed)?;
+    let Some(level) = level else {
+        return Ok(false);
+    };
+    if !level_holds(profile, method, arguments, filling, &level) {
+        return Ok(false);
+    }
+    plain_fields_hold(alloc, profile, context, path, &level, filling)
+}
+
+/// Whether each field of the level that isn't called fits its encoding.
+fn plain_fields_hold(
+    alloc: Global,
+    profile: &Profile,
+    context: &Context,
+    path: &str,
+    level: &Level<'_>,
+    filling: &Filling,
+) -> Result<bool, AllocError>
+    requires same { level.now.filling.now ≡ filling.now }
+    requires ready { IsReady profile.now level.now.format.now level.now.known }
+    requires shown { IsShown level.now.format.now level.now.filling.now level.now.header.now level.now.packed.now }
+    ensures { IfOk result (λ b. b ≡ false → AllFit profile.now.methods (bits_at context.now) path.now level.now.format.now level.now.filling.now (assignment_of level.now.known) → ⊥) }
+{
+    let filled = filling.fields.as_slice();
+    for i in 0..filled.len() {
+        if !plain_field_holds(alloc, profile, context, path, level, i, &filled[i])? {
+            return Ok(false);
+        }
+    }
+    Ok(true)
+}
+
+/// Whether the field at the place fits its encoding, if it isn't called.
+fn plain_field_holds(
+    alloc: Global,
+    profile: &Profile,
+    context: &Context,
+    path: &str,
+    level: &Level<'_>,
+    place: usize,
+    filled: &FilledField,
+) -> Result<bool, AllocError>
+    requires within { place < length level.now.format.now.fields }
+    requires ready { IsReady profile.now level.now.format.now level.now.known }
+    requires shown { IsShown level.now.format.now level.now.filling.now level.now.header.now level.now.packed.now }
+    ensures { IfOk result (λ b. b ≡ false → FieldFitsAt profile.now.methods (bits_at context.now) path.now level.now.format.now level.now.filling.now (assignment_of level.now.known) place filled.now → ⊥) }
+{
+    let field = &level.format.fields.as_slice()[place];
+    match &field.encoding {
+        Encoding::Bare => Ok(is_bare(filled)),
+        Encoding::Library(library) => is_coded(alloc, context, path, level, field, library, filled),
+        Encoding::Call { .. } => Ok(true),
+    }
 }
 
 /// Whether the constraints of the level hold. All its lengths lie in their bounds, so what is not listed has no bits.
@@ -75,7 +195,7 @@ fn fields_hold(
 ) -> Result<bool, AllocError>
     requires same { level.now.filling.now ≡ filling.now }
     requires ready { IsReady profile.now level.now.format.now level.now.known }
-    requires shown { IsShown level.now.format.now level.now.filling.now level.now.header level.now.packed }
+    requires shown { IsShown level.now.format.now level.now.filling.now level.now.header.now level.now.packed.now }
     ensures { IfOk result (λ b. IsTrue b ↔ AllFit profile.now.methods (bits_at context.now) path.now level.now.format.now level.now.filling.now (assignment_of level.now.known)) }
 {
     let filled = filling.fields.as_slice();
@@ -100,7 +220,7 @@ fn field_holds(
 ) -> Result<bool, AllocError>
     requires within { place < length level.now.format.now.fields }
     requires ready { IsReady profile.now level.now.format.now level.now.known }
-    requires shown { IsShown level.now.format.now level.now.filling.now level.now.header level.now.packed }
+    requires shown { IsShown level.now.format.now level.now.filling.now level.now.header.now level.now.packed.now }
     ensures { IfOk result (λ b. IsTrue b ↔ FieldFitsAt profile.now.methods (bits_at context.now) path.now level.now.format.now level.now.filling.now (assignment_of level.now.known) place filled.now) }
 {
     let field = &level.format.fields.as_slice()[place];
@@ -174,18 +294,18 @@ fn inner_holds(
     let Some(inner) = &filled.inner else {
         return Ok(false);
     };
-    if !are_sides(alloc, filled, inner)? {
+    if !are_sides(filled, inner) {
         return Ok(false);
     }
-    holds(alloc, profile, context, method, arguments, path, inner)
+    let (header, packed) = (&filled.uncompressed, &filled.compressed);
+    whole_holds(
+        alloc, profile, context, method, arguments, path, inner, header, packed,
+    )
 }
 
 /// Whether the two sides of the field are the header and the packed bits of the filling.
-fn are_sides(alloc: Global, filled: &FilledField, inner: &Filling) -> Result<bool, AllocError>
-    ensures { IfOk result (λ b. IsTrue b ↔ (((sides_of filled.now).uncompressed ≡ header inner.now) × ((sides_of filled.now).compressed ≡ packed inner.now))) }
+fn are_sides(filled: &FilledField, inner: &Filling) -> bool
+    ensures { IsTrue result ↔ (((sides_of filled.now).uncompressed ≡ header inner.now) × ((sides_of filled.now).compressed ≡ packed inner.now)) }
 {
-    if !is_header(alloc, &filled.uncompressed, inner)? {
-        return Ok(false);
-    }
-    is_packed(alloc, &filled.compressed, inner)
+    is_header(&filled.uncompressed, inner) && is_packed(&filled.compressed, inner)
 }

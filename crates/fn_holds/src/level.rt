@@ -1,21 +1,21 @@
 //! What a level of a filling makes known to its expressions.
 
-ghost use Rattle.std.specs.Prelude.{◌≡◌, ◌<◌, ◌^◌, IfOk, IfSome, IfNone};
+ghost use Rattle.std.specs.Prelude.{◌≡◌, IfOk, IfSome, IfNone};
 ghost use Rattle.fn_filling.specs.Fillings.{header, packed};
 ghost use Rattle.std.specs.Option.{option_copied};
 ghost use Rattle.fn_fits.specs.Fits.{format_at, vals};
 ghost use Rattle.fn_expr.specs.Known.{assignment_of};
-ghost use Rattle.fn_fits.specs.Bounded.{LengthsLie};
+ghost use Rattle.fn_fits.specs.Bounded.{sizes_at};
+ghost use Rattle.fn_fits.specs.Numbers as fits;
 ghost use Rattle.fn_holds.specs.Level as spec;
 ghost use Rattle.fn_holds.specs.Ready as ready;
 
 use crate::shape::{is_bounded, is_shaped};
-use crate::sides::{header_of, packed_of};
 use fn_bits::Bits;
 use fn_expr::{Expr, Known, Numbers, SideNumbers, value};
 use fn_filling::Filling;
-use fn_names::Profile;
-use fn_profile::{Format, FormatSizes};
+use fn_normal::{Format, FormatSizes};
+use fn_profile::Profile;
 use sqlite_items::Items;
 use std::alloc::{AllocError, Global};
 
@@ -24,8 +24,8 @@ use std::alloc::{AllocError, Global};
 pub(crate) struct Level<'a> {
     pub(crate) format: &'a Format,
     pub(crate) filling: &'a Filling,
-    pub(crate) header: Bits,
-    pub(crate) packed: Bits,
+    pub(crate) header: &'a Bits,
+    pub(crate) packed: &'a Bits,
     pub(crate) known: Known,
 }
 
@@ -36,22 +36,20 @@ struct Place<'a> {
     sizes: &'a FormatSizes,
 }
 
-/// The two sides of a whole filling.
-#[derive(Drop)]
-struct Whole {
-    header: Bits,
-    packed: Bits,
-}
-
-/// The level of a filling of the method, none where no filling that fits is like it.
+/// The level of a filling of the method, where its header and its packed bits are these. None where no filling that fits is
+/// like it.
 pub(crate) fn level_of<'a>(
     alloc: Global,
     profile: &'a Profile,
     method: usize,
     arguments: &[i128],
     filling: &'a Filling,
+    header_bits: &'a Bits,
+    packed_bits: &'a Bits,
 ) -> Result<Option<Level<'a>>, AllocError>
-    ensures shown { IfOk result (λ o. IfSome o (λ l. (l.filling.now ≡ filling.now) × ready.IsShown l.format.now filling.now l.header l.packed)) }
+    requires header { header_bits.now ≡ header filling.now }
+    requires packed { packed_bits.now ≡ packed filling.now }
+    ensures shown { IfOk result (λ o. IfSome o (λ l. (l.filling.now ≡ filling.now) × ready.IsShown l.format.now filling.now l.header.now l.packed.now)) }
     ensures found { IfOk result (λ o. IfSome o (λ l. ready.HasLevel profile.now method arguments.now filling.now l.format.now l.known)) }
     ensures none { IfOk result (λ o. IfNone o (ready.NeverFits profile.now.methods method arguments.now filling.now)) }
 {
@@ -59,15 +57,15 @@ pub(crate) fn level_of<'a>(
     let Some(place) = place_of(profile, method, filling) else {
         return Ok(None);
     };
-    let Some(whole) = whole_of(alloc, place.sizes, filling)? else {
+    if !is_bounded(place.sizes, filling, header_bits, packed_bits) {
         return Ok(None);
-    };
-    let known = known_level(alloc, filling, &whole.header, &whole.packed, arguments)?;
+    }
+    let known = known_level(alloc, filling, header_bits, packed_bits, arguments)?;
     Ok(Some(Level {
         format: place.format,
         filling,
-        header: whole.header,
-        packed: whole.packed,
+        header: header_bits,
+        packed: packed_bits,
         known,
     }))
 }
@@ -93,33 +91,9 @@ fn format_of(profile: &Profile, method: usize, index: usize) -> Option<&Format>
 }
 
 fn sizes_of(profile: &Profile, method: usize, index: usize) -> Option<&FormatSizes>
-    ensures { option_copied result ≡ ready.sizes_at profile.now.sizes method index }
+    ensures { option_copied result ≡ sizes_at profile.now.sizes method index }
 {
     profile.sizes().get(method)?.formats.get(index)
-}
-
-/// The two sides of the whole filling, where all lengths lie in these bounds.
-fn whole_of(
-    alloc: Global,
-    sizes: &FormatSizes,
-    filling: &Filling,
-) -> Result<Option<Whole>, AllocError>
-    requires header { sizes.now.whole.uncompressed.most < 2 ^ 31 }
-    requires packed { sizes.now.whole.compressed.most < 2 ^ 31 }
-    ensures sides { IfOk result (λ o. IfSome o (λ w. (w.header ≡ header filling.now) × (w.packed ≡ packed filling.now))) }
-    ensures lie { IfOk result (λ o. IfSome o (λ w. LengthsLie sizes.now filling.now)) }
-    ensures none { IfOk result (λ o. IfNone o (LengthsLie sizes.now filling.now → ⊥)) }
-{
-    let Some(header) = header_of(alloc, filling)? else {
-        return Ok(None);
-    };
-    let Some(packed) = packed_of(alloc, filling)? else {
-        return Ok(None);
-    };
-    if !is_bounded(sizes, filling, &header, &packed) {
-        return Ok(None);
-    }
-    Ok(Some(Whole { header, packed }))
 }
 
 /// The numbers of the fields, of the whole and of the arguments.
@@ -132,7 +106,7 @@ pub(crate) fn known_level(
 ) -> Result<Known, AllocError>
     requires header { header_bits.now ≡ header filling.now }
     requires packed { packed_bits.now ≡ packed filling.now }
-    ensures { IfOk result (λ k. k ≡ spec.known_level filling.now arguments.now) }
+    ensures { IfOk result (λ k. k ≡ fits.known_level filling.now arguments.now) }
 {
     let mut fields = Items::new(alloc);
     for field in filling.fields.as_slice() {
@@ -152,7 +126,7 @@ pub(crate) fn known_level(
 }
 
 fn numbers(bits: &Bits) -> Numbers
-    ensures { result ≡ spec.numbers bits.now }
+    ensures { result ≡ fits.numbers bits.now }
 {
     Numbers {
         value: bits.value().map(|number| number as i128),
@@ -161,7 +135,7 @@ fn numbers(bits: &Bits) -> Numbers
 }
 
 /// The values of several expressions, where each has one.
-pub(crate) fn values_of(
+pub fn values_of(
     alloc: Global,
     expressions: &[Expr],
     known: &Known,

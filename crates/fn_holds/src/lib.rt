@@ -1,12 +1,12 @@
 //! Whether a filling fits.
 #![tactic(auto)]
 
-pub use holding::holds;
+pub use holding::{holds, level_fits};
 
-mod coding;
+pub mod coding;
 mod constraints;
 pub mod holding;
-mod level;
+pub mod level;
 mod plain;
 mod shape;
-mod sides;
+pub mod sides;

@@ -18,7 +18,7 @@ use fn_bits::Bits;
 use fn_context::Context;
 use fn_expr::{Side, Subject};
 use fn_filling::{FilledField, below};
-use fn_profile::{Field, Library};
+use fn_normal::{Field, Library};
 use std::alloc::{AllocError, Global};
 
 /// Whether a field without an encoding fits: it has at most 64 bits, and none is sent.
@@ -39,7 +39,7 @@ pub(crate) fn is_coded(
     filled: &FilledField,
 ) -> Result<bool, AllocError>
     requires ranged { AllRanged level.now.known (library_exprs library.now) }
-    requires shown { IsShown level.now.format.now level.now.filling.now level.now.header level.now.packed }
+    requires shown { IsShown level.now.format.now level.now.filling.now level.now.header.now level.now.packed.now }
     ensures { IfOk result (λ b. IsTrue b ↔ IsCoded (bits_at context.now) path.now level.now.filling.now (assignment_of level.now.known) field.now library.now filled.now) }
 {
     if filled.inner.is_some() {
@@ -48,10 +48,20 @@ pub(crate) fn is_coded(
     let Some(coding) = coding_of(library, &level.known) else {
         return Ok(false);
     };
-    let here = below(alloc, path, field.declared.name.as_str())?;
-    let reference = reference_of(context, field, here.as_str());
     let empty = Bits::new(alloc);
     let covered = covered_by(level, library, &empty);
+    if !coding.has_reference() {
+        return is_related(
+            alloc,
+            coding,
+            covered,
+            None,
+            &filled.uncompressed,
+            &filled.compressed,
+        );
+    }
+    let here = below(alloc, path, field.declared.name.as_str())?;
+    let reference = reference_of(context, field, here.as_str());
     is_related(
         alloc,
         coding,
@@ -65,15 +75,15 @@ pub(crate) fn is_coded(
 /// The bits that a crc covers, those of its side, and no bits for another method.
 fn covered_by<'a>(level: &'a Level<'_>, library: &Library, empty: &'a Bits) -> &'a Bits
     requires empty { empty.now ≡ [] }
-    requires shown { IsShown level.now.format.now level.now.filling.now level.now.header level.now.packed }
+    requires shown { IsShown level.now.format.now level.now.filling.now level.now.header.now level.now.packed.now }
     ensures { IsCovered level.now.filling.now library.now result.now }
 {
     let Library::Crc(crc) = library else {
         return empty;
     };
     match (crc.subject, crc.side) {
-        (Subject::This, Side::Uncompressed) => &level.header,
-        (Subject::This, Side::Compressed) => &level.packed,
+        (Subject::This, Side::Uncompressed) => level.header,
+        (Subject::This, Side::Compressed) => level.packed,
         (Subject::Field(index), side) => side_at(level, index, side, empty),
     }
 }

@@ -8,7 +8,7 @@ ghost use Rattle.fn_holds.specs.Level.{FieldLies, FieldsLie};
 
 use fn_bits::Bits;
 use fn_filling::{FilledField, Filling};
-use fn_profile::{Bounds, Declared, Field, Format, FormatSizes, Sizes};
+use fn_normal::{Bounds, Declared, Field, Format, FormatSizes, Sizes};
 
 /// Whether the filling has the listing and the fields of the format.
 pub(crate) fn is_shaped(format: &Format, filling: &Filling) -> bool

@@ -6,11 +6,10 @@ ghost use Rattle.fn_context.specs.Entries.{bits_at};
 ghost use Rattle.fn_filling.specs.Fillings.{header, packed};
 ghost use Rattle.fn_fits.specs.Fits as spec;
 
-use crate::coding::is_same;
-use fn_bits::{Bits, BitsError};
+use fn_bits::{Bits, BitsError, Cursor};
 use fn_context::Context;
 use fn_filling::Filling;
-use fn_profile::{Field, Part};
+use fn_normal::{Field, Part};
 use std::alloc::{AllocError, Global};
 
 /// The header, unless it is above the limit of `Bits`.
@@ -35,34 +34,39 @@ pub(crate) fn packed_of(alloc: Global, filling: &Filling) -> Result<Option<Bits>
     }
 }
 
-/// Whether these bits are the header of the filling.
-pub(crate) fn is_header(alloc: Global, bits: &Bits, filling: &Filling) -> Result<bool, AllocError>
-    ensures { IfOk result (λ b. IsTrue b ↔ (bits.now ≡ header filling.now)) }
+/// Whether these bits are the header of the filling. It takes no memory.
+pub(crate) fn is_header(bits: &Bits, filling: &Filling) -> bool
+    ensures { IsTrue result ↔ (bits.now ≡ header filling.now) }
 {
-    let _limit = bits.len();
-    let Some(found) = header_of(alloc, filling)? else {
-        return Ok(false);
-    };
-    Ok(is_same(bits, &found))
+    let mut cursor = Cursor::new(bits);
+    for field in filling.fields.as_slice() {
+        if let Part::Header = field.declared.part {
+            if !cursor.skip(&field.uncompressed) {
+                return false;
+            }
+        }
+    }
+    cursor.rest() == 0
 }
 
-/// Whether these bits are the packed bits of the filling.
-pub(crate) fn is_packed(alloc: Global, bits: &Bits, filling: &Filling) -> Result<bool, AllocError>
-    ensures { IfOk result (λ b. IsTrue b ↔ (bits.now ≡ packed filling.now)) }
+/// Whether these bits are the packed bits of the filling. It takes no memory.
+pub(crate) fn is_packed(bits: &Bits, filling: &Filling) -> bool
+    ensures { IsTrue result ↔ (bits.now ≡ packed filling.now) }
 {
-    let _limit = bits.len();
-    let Some(found) = packed_of(alloc, filling)? else {
-        return Ok(false);
-    };
-    Ok(is_same(bits, &found))
+    let mut cursor = Cursor::new(bits);
+    for i in filling.listing.as_slice() {
+        if let Some(field) = filling.fields.get(*i) {
+            if !cursor.skip(&field.compressed) {
+                return false;
+            }
+        }
+    }
+    cursor.rest() == 0
 }
 
-/// The reference of a field at its path: the context's bits, else the value of INITIAL. A local field has none.
-pub(crate) fn reference_of<'a>(
-    context: &'a Context,
-    field: &'a Field,
-    path: &str,
-) -> Option<&'a Bits>
+/// The reference of a field at its path (RFC 4997, section 4.11): the context's bits, else the value of INITIAL. A local
+/// field has none.
+pub fn reference_of<'a>(context: &'a Context, field: &'a Field, path: &str) -> Option<&'a Bits>
     ensures { option_copied result ≡ spec.reference_of field.now.declared.part (bits_at context.now) path.now field.now.initial }
 {
     match field.declared.part {

@@ -1,28 +1,49 @@
-use Rattle.std.proofs.Common.{◌≡◌, ℕ, suc, ◌+◌, ◌-◌, ◌*◌, ◌/◌, ◌%◌, ◌^◌, ◌<◌, ◌≤◌, ◌==◌, Bool, true, false, cond, List, [], ◌∷◌, length, take, drop, get_or, sym, ap, ◌∙◌, arith}
-use Rattle.std.specs.Prelude.{fold, reverse, slice_get, unwrap_or, bit_xor}
-use Rattle.std.proofs.lemmas.List.{get_or-reverse, get_or-take, get_or-drop, length-reverse, length-take-le, length-drop, drop-drop}
-use Rattle.std.proofs.lemmas.List.Sums.{fold_more, fold-append}
-use Rattle.std.proofs.lemmas.Option.{unwrap_or-slice_get}
-use Rattle.std.proofs.lemmas.Nat.{xor_lt}
-use Rattle.fn_bits.specs.Number.{bit}
+use Rattle.std.proofs.Common.{◌≡◌, ℕ, suc, ◌+◌, ◌-◌, ◌*◌, ◌/◌, ◌%◌, ◌^◌, ◌<◌, ◌≤◌, ◌==◌, Bool, true, false, cond, List, [], ◌∷◌, ◌++◌, length, take, drop, replicate, sym, ap, ◌∙◌, arith}
+use Rattle.std.specs.Prelude.{fold, reverse, bit_xor, unwrap_or, Option, Some, None}
+use Rattle.std.specs.Option.{SomeIff}
+use Rattle.std.proofs.lemmas.List.{reverse-append, length-take-le, length-drop, drop-drop}
+use Rattle.std.proofs.lemmas.List.Sums.{fold-append}
+use Rattle.std.proofs.lemmas.Nat.{xor_lt, shr-shr}
+use Rattle.fn_bits.specs.Number.{num, enc, bit}
+use Rattle.fn_bits.proofs.Numbers.{enc-num, enc_nil}
+use Rattle.fn_bits.proofs.Windows.{part_padded}
 use Rattle.fn_lib.specs.Crc.{crc_step, crc_register, low_bits_first}
 
 -- the bits of an octet, from its last to its first
-turned_at : (xs : List Bool) (start k : ℕ) → k < 8 → start + 8 ≤ length xs → get_or (reverse (take 8 (drop start xs))) k false ≡ get_or xs (start + 7 - k) false
-turned_at xs start k h l =
-    let n : length (take 8 (drop start xs)) ≡ 8 = length-take-le 8 (drop start xs) (omega (arith, length-drop start xs)) in
-    let j : length (take 8 (drop start xs)) - 1 - k ≡ 7 - k = omega (arith, n) in
-    let i : start + (7 - k) ≡ start + 7 - k = omega arith in
-    get_or-reverse (take 8 (drop start xs)) k false (omega (arith, n)) ∙ ap (λ x. get_or (take 8 (drop start xs)) x false) j
-    ∙ get_or-take 8 (drop start xs) (7 - k) false (omega arith) ∙ get_or-drop start xs (7 - k) false ∙ ap (λ x. get_or xs x false) i
+turned_more : (n v : ℕ) → reverse (enc (suc n) v) ≡ (v % 2 == 1) ∷ reverse (enc n (v / 2))
+unfolding enc
+turned_more n v = reverse-append (enc n (v / 2)) ((v % 2 == 1) ∷ [])
 
--- one more bit of an octet
-pub octet_more : (poly initial register : ℕ) (xs : List Bool) (start k : ℕ) (x : Bool) → k < 8 → start + 8 ≤ length xs → x ≡ unwrap_or (slice_get xs (start + 7 - k)) false
-    → register ≡ fold (crc_step poly) initial (take k (reverse (take 8 (drop start xs)))) → crc_step poly register x ≡ fold (crc_step poly) initial (take (k + 1) (reverse (take 8 (drop start xs))))
-octet_more poly initial register xs start k x h l is so_far =
-    let n : length (take 8 (drop start xs)) ≡ 8 = length-take-le 8 (drop start xs) (omega (arith, length-drop start xs)) in
-    let b : x ≡ get_or (reverse (take 8 (drop start xs))) k false = is ∙ unwrap_or-slice_get xs (start + 7 - k) false ∙ sym (turned_at xs start k h l) in
-    (λ i. crc_step poly (so_far i) (b i)) ∙ sym (fold_more (crc_step poly) initial (reverse (take 8 (drop start xs))) k false (omega (arith, n, length-reverse (take 8 (drop start xs)))))
+-- the register before an octet's bits, after one more of them, and after all
+pub octet_first : (poly register o : ℕ) → fold (crc_step poly) register (reverse (enc (8 - 0) (o / 2 ^ 0))) ≡ fold (crc_step poly) register (reverse (enc 8 o))
+octet_first poly register o =
+    let e : o / 1 ≡ o = omega arith in
+    ap (λ v. fold (crc_step poly) register (reverse (enc 8 v))) e
+
+pub octet_more : (poly register new o k : ℕ) → k < 8 → new ≡ crc_step poly register ((o / 2 ^ k) % 2 == 1)
+    → fold (crc_step poly) new (reverse (enc (8 - (k + 1)) (o / 2 ^ (k + 1)))) ≡ fold (crc_step poly) register (reverse (enc (8 - k) (o / 2 ^ k)))
+octet_more poly register new o k h is =
+    let n : 8 - k ≡ suc (8 - (k + 1)) = omega arith in
+    (λ i. fold (crc_step poly) (is i) (reverse (enc (8 - (k + 1)) (sym (shr-shr o k 1) i))))
+    ∙ sym (ap (λ m. fold (crc_step poly) register (reverse (enc m (o / 2 ^ k)))) n ∙ ap (fold (crc_step poly) register) (turned_more (8 - (k + 1)) (o / 2 ^ k)))
+
+pub octet_last : (poly register o k : ℕ) → 8 ≤ k → fold (crc_step poly) register (reverse (enc (8 - k) (o / 2 ^ k))) ≡ register
+octet_last poly register o k h =
+    let z : 8 - k ≡ 0 = omega arith in
+    ap (λ m. fold (crc_step poly) register (reverse (enc m (o / 2 ^ k)))) z ∙ ap (λ l. fold (crc_step poly) register (reverse l)) (enc_nil (o / 2 ^ k))
+
+-- what `octet` answers, where there is an octet
+pub octet_there : (r : Option ℕ) (xs : List Bool) (place o : ℕ) → 8 * place < length xs → SomeIff r (8 * place < length xs) (num (take 8 (drop (8 * place) (xs ++ replicate 8 false)))) → o ≡ unwrap_or r 0 → o ≡ num (take 8 (drop (8 * place) (xs ++ replicate 8 false)))
+octet_there (Some x) xs place o h s e = e ∙ s.1
+octet_there None xs place o h s e = absurd (s h)
+
+-- the octet that bits spell
+pub octet_bits : (xs : List Bool) (start o : ℕ) → start + 8 ≤ length xs → o ≡ num (take 8 (drop start (xs ++ replicate 8 false))) → enc 8 o ≡ take 8 (drop start xs)
+octet_bits xs start o l is =
+    let part : List Bool = take 8 (drop start xs) in
+    let n : length part ≡ 8 = length-take-le 8 (drop start xs) (omega (arith, length-drop start xs)) in
+    let e : take 8 (drop start (xs ++ replicate 8 false)) ≡ part = part_padded xs (replicate 8 false) start 8 l in
+    ap (enc 8) (is ∙ ap num e) ∙ ap (λ m. enc m (num part)) (sym n) ∙ enc-num part
 
 -- one more octet
 pub octets_more : (poly register new : ℕ) (xs : List Bool) (n o : ℕ) → o < n → new ≡ fold (crc_step poly) register (reverse (take 8 (drop (8 * o) xs)))

@@ -1,11 +1,10 @@
 //! The method that sends a checksum, and its register.
 ghost use Rattle.std.specs.Prelude.{◌≡◌, ℕ, ◌+◌, ◌%◌, ◌^◌, ◌<◌, ◌≤◌, ◌↔◌, Bool, List, Option, length, reverse, take, drop, fold, IsTrue, IfOk, IfSome, IfNone};
-ghost use Rattle.fn_bits.specs.Number.{num};
+ghost use Rattle.fn_bits.specs.Number.{num, enc};
 ghost use Rattle.fn_lib.specs.Crc.{crc_step, crc_register};
 ghost use Rattle.fn_lib.specs.Methods.{Lib, IsOnly, CrcHolds, crc};
 
-use crate::lsb::low_part;
-use fn_bits::Bits;
+use fn_bits::{Bits, has_spelling};
 use std::alloc::{AllocError, Global};
 
 /// The uncompressed side under `crc(bits, polynomial, initial, covered, length)`: no bits, `None` where the compressed side
@@ -70,22 +69,20 @@ pub fn crc_of(bits: usize, polynomial: u64, initial: u64, covered: &Bits) -> u64
     ensures fits { result < 2 ^ bits }
 {
     let mut register = initial;
-    for octet in 0..covered.len() / 8 {
-        register = after_octet(polynomial, register, covered, 8 * octet);
+    for place in 0..covered.len() / 8 {
+        let octet = covered.octet(place).unwrap_or(0);
+        register = after_octet(polynomial, register, octet);
     }
     register
 }
 
-/// The register after the octet that begins at a place, its lowest bit first.
-fn after_octet(polynomial: u64, before: u64, covered: &Bits, start: usize) -> u64
-    requires limit { length covered.now < 2 ^ 31 }
-    requires within { start + 8 ≤ length covered.now }
-    ensures { result ≡ fold (crc_step polynomial) before (reverse (take 8 (drop start covered.now))) }
+/// The register after an octet, its lowest bit first.
+fn after_octet(polynomial: u64, before: u64, octet: u8) -> u64
+    ensures { result ≡ fold (crc_step polynomial) before (reverse (enc 8 octet)) }
 {
     let mut register = before;
-    for k in 0..8 {
-        let bit = covered.get(start + 7 - k).unwrap_or(false);
-        register = after_bit(polynomial, register, bit);
+    for k in 0..8u32 {
+        register = after_bit(polynomial, register, (octet >> k) % 2 == 1);
     }
     register
 }
@@ -102,7 +99,7 @@ fn after_bit(polynomial: u64, register: u64, bit: bool) -> u64
 }
 
 /// A register and how many bits it has.
-#[derive(Debug, Drop)]
+#[derive(Drop)]
 struct Checksum {
     bits: usize,
     register: u64,
@@ -138,21 +135,14 @@ fn register_of(
     if count == 0 {
         return None;
     }
-    if !has_room(count, poly) {
+    if !has_spelling(count, poly) {
         return None;
     }
-    if !has_room(count, init) {
+    if !has_spelling(count, init) {
         return None;
     }
     Some(Checksum {
         bits: count,
         register: crc_of(count, poly, init, covered),
     })
-}
-
-/// Whether a number fits in so many bits, which are at most 64.
-fn has_room(bits: usize, value: u64) -> bool
-    ensures { IsTrue result ↔ ((bits ≤ 64) × (value < 2 ^ bits)) }
-{
-    bits <= 64 && low_part(bits, value) == value
 }

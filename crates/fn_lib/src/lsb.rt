@@ -89,7 +89,7 @@ pub fn low_bits(alloc: Global, count: i128, value: u64) -> Result<Option<Bits>, 
 }
 
 /// The remainder of a number at that power of two.
-pub(crate) fn low_part(bits: usize, value: u64) -> u64
+fn low_part(bits: usize, value: u64) -> u64
     requires { bits ≤ 64 }
     ensures { result ≡ value % 2 ^ bits }
 {

@@ -2,8 +2,8 @@
 use Rattle.std.proofs.Common.{◌≡◌, ◌∙◌, ℕ, ◌+◌, inl, inr, List, [], ◌∷◌, ◌++◌, ◌≤◌, length, refl, sym, subst, drop, true, false, suc, zero, arith, append_assoc, append-nil}
 use Rattle.std.specs.Prelude.{slice_get, Some, None}
 use Rattle.fn_tree.specs.declared.tree.Section.{Section}
-use Rattle.fn_profile.specs.Judging.{earlier, Judged}
-use Rattle.fn_profile.proofs.Judgements.{neither, which}
+use Rattle.fn_normal.specs.Judging.{earlier, Judged}
+use Rattle.fn_normal.proofs.Judgements.{neither, which}
 use Rattle.fn_sections.specs.declared.mention.Group.TheVariants as groups
 use Rattle.fn_sections.specs.Mentions.{is_in}
 use Rattle.fn_formats.specs.declared.drafts.Setting.{Setting}

@@ -2,12 +2,12 @@
 use Rattle.std.proofs.Common.{◌≡◌, ◌∙◌, inl, inr, Bool, List, map, sym, subst}
 use Rattle.std.specs.Prelude.{Option}
 use Rattle.fn_tree.specs.declared.tree.Method.{Method as TreeMethod}
-use Rattle.fn_profile.specs.declared.fault.ProfileFault.{ProfileFault}
-use Rattle.fn_profile.specs.declared.profile.Method.{Method}
-use Rattle.fn_profile.specs.declared.profile.Format.{Format}
-use Rattle.fn_profile.specs.Judging.{earlier, Judged}
-use Rattle.fn_profile.specs.Words.{word}
-use Rattle.fn_profile.proofs.Judgements.{neither, which}
+use Rattle.fn_normal.specs.declared.fault.ProfileFault.{ProfileFault}
+use Rattle.fn_normal.specs.declared.profile.Method.{Method}
+use Rattle.fn_normal.specs.declared.profile.Format.{Format}
+use Rattle.fn_normal.specs.Judging.{earlier, Judged}
+use Rattle.fn_normal.specs.Words.{word}
+use Rattle.fn_normal.proofs.Judgements.{neither, which}
 use Rattle.fn_sections.specs.declared.mention.Mention.{Mention}
 use Rattle.fn_sections.specs.Names.{NameCause}
 use Rattle.fn_sections.specs.Causes.{Answers}

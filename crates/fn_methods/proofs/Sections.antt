@@ -4,8 +4,8 @@ use Rattle.std.proofs.lemmas.List.Sums.{fold-append}
 use Rattle.std.specs.Prelude.{slice_get, Some, Option}
 use Rattle.fn_tree.specs.declared.tree.Section.{Section}
 use Rattle.fn_tree.specs.declared.tree.Item.{Item}
-use Rattle.fn_profile.specs.declared.fault.ProfileFault.{ProfileFault}
-use Rattle.fn_profile.proofs.Loops.{dropped}
+use Rattle.fn_normal.specs.declared.fault.ProfileFault.{ProfileFault}
+use Rattle.fn_normal.proofs.Loops.{dropped}
 use Rattle.fn_methods.specs.Defaults.{default_part, default_items}
 
 pub next_section : (f : Option ProfileFault → Item → Option ProfileFault) (sections : List Section) (i : ℕ) (section : Section) (before after whole : Option ProfileFault)

@@ -1,9 +1,9 @@
 -- The formats of a method, a format for each COMPRESSED section.
 use Rattle.std.specs.Prelude.{◌≡◌, ℕ, ◌+◌, true, false, List, [], ◌∷◌, ◌++◌, Some, None, slice_get}
 use Rattle.fn_tree.specs.declared.tree.Section.{Section}
-use Rattle.fn_profile.specs.declared.profile.Format.{Format}
-use Rattle.fn_profile.specs.declared.fault.ProfileFault.{ProfileFault}
-use Rattle.fn_profile.specs.Judging.{earlier}
+use Rattle.fn_normal.specs.declared.profile.Format.{Format}
+use Rattle.fn_normal.specs.declared.fault.ProfileFault.{ProfileFault}
+use Rattle.fn_normal.specs.Judging.{earlier}
 use Rattle.fn_sections.specs.declared.mention.Group.TheVariants as groups
 use Rattle.fn_sections.specs.Mentions.{is_in}
 use Rattle.fn_formats.specs.declared.drafts.Setting.{Setting}

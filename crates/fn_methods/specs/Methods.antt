@@ -1,10 +1,10 @@
 -- The methods of a file in their normal form.
 use Rattle.std.specs.Prelude.{◌≡◌, Bool, List, [], map, Option, Some, None}
 use Rattle.fn_tree.specs.declared.tree.Method.{Method as TreeMethod}
-use Rattle.fn_profile.specs.declared.profile.Format.{Format}
-use Rattle.fn_profile.specs.declared.profile.Method.{Method}
-use Rattle.fn_profile.specs.declared.fault.ProfileFault.{ProfileFault}
-use Rattle.fn_profile.specs.Words.{word}
+use Rattle.fn_normal.specs.declared.profile.Format.{Format}
+use Rattle.fn_normal.specs.declared.profile.Method.{Method}
+use Rattle.fn_normal.specs.declared.fault.ProfileFault.{ProfileFault}
+use Rattle.fn_normal.specs.Words.{word}
 use Rattle.fn_sections.specs.declared.mention.Mention.{Mention}
 use Rattle.fn_sections.specs.Names.{NameCause}
 use Rattle.fn_terms.specs.Names.{Names, names}

@@ -1,7 +1,7 @@
 -- The names of a method's parameters.
 use Rattle.std.specs.Prelude.{ℕ, List, [], fold}
 use Rattle.fn_source.specs.declared.span.Span.{Span}
-use Rattle.fn_profile.specs.Words.{word, with_word}
+use Rattle.fn_normal.specs.Words.{word, with_word}
 
 -- each name once, in the order of the text
 abbrev pub distinct_words : List ℕ → List Span → List (List ℕ)

@@ -1,13 +1,13 @@
 //! The statements of DEFAULT, in use or not.
 
 ghost use Rattle.std.specs.Prelude.{◌≡◌, IfOk, fold};
-ghost use Rattle.fn_profile.specs.Judging.{earlier as first};
+ghost use Rattle.fn_normal.specs.Judging.{earlier as first};
 ghost use Rattle.fn_sections.specs.Tables.{IsTable};
 ghost use Rattle.fn_methods.specs.Defaults as spec;
 
 use fn_expr::Side;
 use fn_formats::Setting;
-use fn_profile::{ProfileFault, earlier, fault_of};
+use fn_normal::{ProfileFault, earlier, fault_of};
 use fn_sections::mention::is_in;
 use fn_sections::{Group, Table, mentions};
 use fn_statements::{Methods, encoding, section_constraints};

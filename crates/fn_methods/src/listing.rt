@@ -2,13 +2,13 @@
 
 ghost use Rattle.std.specs.Prelude.{◌≡◌, ◌+◌, ◌∷◌, List, Some, IfOk, OnOk, slice_get};
 ghost use Rattle.fn_tree.specs.declared.tree.Section.{Section as GivenSection};
-ghost use Rattle.fn_profile.specs.Judging.{Judged};
+ghost use Rattle.fn_normal.specs.Judging.{Judged};
 ghost use Rattle.fn_sections.specs.Tables.{IsTable};
 ghost use Rattle.fn_formats.specs.Drafts as drafts;
 ghost use Rattle.fn_methods.specs.Listing as spec;
 
 use fn_formats::{Setting, section_format};
-use fn_profile::{Format, ProfileFault, earlier};
+use fn_normal::{Format, ProfileFault, earlier};
 use fn_sections::Group;
 use fn_sections::mention::is_in;
 use fn_tree::Section;
@@ -16,7 +16,7 @@ use sqlite_items::Items;
 use std::alloc::{AllocError, Global};
 
 /// The formats of a method in the order of the text, and the earliest fault in them. With a fault they are not whole.
-#[derive(Debug, Drop)]
+#[derive(Drop)]
 pub struct Formats {
     pub found: Items<Format>,
     pub fault: Option<ProfileFault>,

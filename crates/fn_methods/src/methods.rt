@@ -1,7 +1,7 @@
 //! A method of a file in its normal form.
 
 ghost use Rattle.std.specs.Prelude.{◌≡◌, List, IfOk};
-ghost use Rattle.fn_profile.specs.Judging.{Judged};
+ghost use Rattle.fn_normal.specs.Judging.{Judged};
 ghost use Rattle.fn_sections.specs.declared.mention.Mention.{Mention as ListedMention};
 ghost use Rattle.fn_sections.specs.Tables.{IsTable};
 ghost use Rattle.fn_sections.specs.Mentions.{encoded as encoded_mentions, mentions_in as mentions_of_group};
@@ -12,7 +12,7 @@ use crate::listing::listed_formats;
 use crate::parameters::{parameter_names, parameter_table};
 use fn_formats::{Setting, name_of};
 use fn_given::{Givens, given};
-use fn_profile::{Format, Method, ProfileFault, Words, earlier, word};
+use fn_normal::{Format, Method, ProfileFault, Words, earlier, word};
 use fn_sections::{Group, Table, encoded, judge, mentions};
 use fn_statements::Methods;
 use fn_terms::Scope;
@@ -32,7 +32,7 @@ pub struct FileSetting<'a, 't> {
 }
 
 /// A method, and the earliest fault in it. With a fault the method is not whole.
-#[derive(Debug, Drop)]
+#[derive(Drop)]
 pub struct MethodDraft {
     pub method: Method,
     pub fault: Option<ProfileFault>,
@@ -63,7 +63,7 @@ pub fn resolved_method(
 }
 
 /// What a method's sections give, and the earliest fault in them but for their names.
-#[derive(Debug, Drop)]
+#[derive(Drop)]
 pub struct MethodBody {
     pub formats: Items<Format>,
     pub fault: Option<ProfileFault>,

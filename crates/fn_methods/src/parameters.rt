@@ -1,11 +1,11 @@
 //! The parameters of a method.
 
 ghost use Rattle.std.specs.Prelude.{◌≡◌, map, IfOk};
-ghost use Rattle.fn_profile.specs.Words.{word as words};
+ghost use Rattle.fn_normal.specs.Words.{word as words};
 ghost use Rattle.fn_methods.specs.Parameters as spec;
 
 use fn_formats::name_of;
-use fn_profile::{Name, Words, word};
+use fn_normal::{Name, Words, word};
 use fn_source::Span;
 use sqlite_items::Items;
 use std::alloc::{AllocError, Global};

@@ -7,7 +7,8 @@ use Rattle.fn_calls.specs.Calls.{Calls, Has}
 use Rattle.fn_calls.specs.Order.{IsOrder}
 use Rattle.fn_calls.specs.Measures.{number_at}
 use Rattle.fn_calls.proofs.Measuring.{read_row}
-use Rattle.fn_names.specs.Limits.{Chain, at_top, called, AreDepthsFrom, Raised}
+use Rattle.fn_profile.specs.Limits.{Chain, at_top, called}
+use Rattle.fn_names.specs.Limits.{AreDepthsFrom, Raised}
 
 set_same : (xs : List ℕ) (c v : ℕ) → c < length xs → number_at (slice_set xs c v) c ≡ v
 set_same xs c v within = grind (arith, common_steps)

@@ -3,22 +3,22 @@ use Rattle.std.proofs.Common.{◌≡◌, ◌∙◌, ap, ℕ, suc, zero, ◌<◌,
 use Rattle.std.specs.Prelude.{Option, Some, slice_get}
 use Rattle.std.proofs.lemmas.List.{length-map, length-replicate}
 use Rattle.std.proofs.lemmas.Option.{slice_get_within}
-use Rattle.fn_profile.specs.declared.profile.Method.{Method}
+use Rattle.fn_normal.specs.declared.profile.Method.{Method}
 use Rattle.fn_calls.specs.Measures.{number_at, format_weight, greatest_by, weight_by, FieldCalls, AreWeights}
 use Rattle.fn_calls.specs.Order.{IsOrder}
 use Rattle.fn_calls.proofs.Filling.{Filled, filled_none, filled_more, filled_all}
 use Rattle.fn_calls.proofs.Measuring.{weight_is_local, read_at}
 use Rattle.fn_calls.proofs.Pushing.{some_is}
-use Rattle.fn_names.specs.Large.{field_limit, AreShort, IsLight, IsWithinLimits}
-use Rattle.fn_names.specs.Limits.{IsShallow, Chain, at_top, called}
-use Rattle.fn_names.specs.Uses.{Uses, method_uses, uses_of, used_graph, IsReached, AreReached}
+use Rattle.fn_profile.specs.Limits.{field_limit, AreShort, IsLight, IsWithinLimits}
+use Rattle.fn_profile.specs.Limits.{IsShallow, Chain, at_top, called}
+use Rattle.fn_profile.specs.Uses.{Uses, method_uses, uses_of, used_graph, IsReached, AreReached}
 use Rattle.fn_names.proofs.SoundKept.{surely_from, surely_less, reached_on, with_format}
 use Rattle.fn_names.proofs.Using.{element_at, row_made, calls_are_uses, uses_are_calls, field_calls_are_uses, order_of_fields}
 
 -- ---- chains of calls
 
 -- what a kept method calls it called before, where the top reaches it
-uses_before : (methods kept : List Method) (top i j : ℕ) → AreReached methods top kept → IsReached methods top i → Uses kept i j → Uses methods i j
+pub uses_before : (methods kept : List Method) (top i j : ℕ) → AreReached methods top kept → IsReached methods top i → Uses kept i j → Uses methods i j
 uses_before methods kept top i j are way uses =
     let old = element_at methods i (omega (arith, slice_get_within kept i uses.method uses.at, are.each)) in
     let same : old.0 ≡ uses.method = some_is (sym (are.reached i old.0 old.1 way) ∙ uses.at) in

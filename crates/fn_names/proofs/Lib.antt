@@ -15,7 +15,14 @@ pub mod Within
 pub mod Constrained
 pub mod Encoded
 pub mod FirstNames
+pub mod Mentioned
+pub mod Standing
+pub mod Chosen
+pub mod Fielded
 pub mod SoundFormats
 pub mod SoundMethods
 pub mod SoundKept
 pub mod KeptLimits
+pub mod NamedMethods
+pub mod KeptNames
+pub mod Refusing

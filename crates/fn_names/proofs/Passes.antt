@@ -3,26 +3,30 @@ use Rattle.std.proofs.Common.{◌≡◌, ◌∙◌, ap, ℕ, ◌<◌, List, refl
 use Rattle.std.proofs.lemmas.List.{length-map}
 use Rattle.std.specs.Prelude.{Some, Option}
 use Rattle.fn_tree.specs.declared.tree.Part.{Part}
-use Rattle.fn_profile.specs.declared.fault.ProfileFault.{ProfileFault}
-use Rattle.fn_profile.specs.declared.fault.ResolveError.{ResolveError}
-use Rattle.fn_profile.specs.declared.fault.ResolveError.TheVariants as errors
-use Rattle.fn_profile.specs.declared.profile.Method.{Method}
-use Rattle.fn_profile.specs.declared.profile.MethodSizes.{MethodSizes}
-use Rattle.fn_profile.specs.Judging.{Blames}
+use Rattle.fn_normal.specs.declared.fault.ProfileFault.{ProfileFault}
+use Rattle.fn_normal.specs.declared.fault.ResolveError.{ResolveError}
+use Rattle.fn_normal.specs.declared.fault.ResolveError.TheVariants as errors
+use Rattle.fn_normal.specs.declared.profile.Method.{Method}
+use Rattle.fn_normal.specs.declared.profile.MethodSizes.{MethodSizes}
+use Rattle.fn_normal.specs.Judging.{Blames}
 use Rattle.fn_calls.specs.Calls.{Calls}
 use Rattle.fn_calls.specs.Order.{IsOrder}
 use Rattle.fn_bounds.specs.Methods as bounds
 use Rattle.fn_bounds.specs.Outcome as sizes
 use Rattle.fn_names.specs.Parts.{methods_of, method_names}
 use Rattle.fn_names.specs.Calls.{graph_of}
-use Rattle.fn_names.specs.Large.{IsWithinLimits}
+use Rattle.fn_profile.specs.Limits.{IsWithinLimits}
 use Rattle.fn_names.specs.Methods.{HaveForm}
-use Rattle.fn_names.specs.Uses.{Uses, AreReached}
+use Rattle.fn_profile.specs.Uses.{Uses, AreReached}
 use Rattle.fn_names.specs.Twice.{AreDistinct}
-use Rattle.fn_names.specs.Resolved.{Resolved, top_of, OrderOfText, IsProfile, IsNormalForm, ProfileCause, no_bounds, IsSound}
-use Rattle.fn_names.specs.WellFormed.{AreWellFormed}
+use Rattle.fn_profile.specs.Resolved.{Resolved, IsSound}
+use Rattle.fn_names.specs.Resolved.{top_of, OrderOfText, IsProfile, IsNormalForm, ProfileCause, no_bounds}
+use Rattle.fn_profile.specs.Named.{AreNamed}
+use Rattle.fn_profile.specs.Rooted.{IsPlain, HaveFormats}
+use Rattle.fn_profile.specs.WellFormed.{AreWellFormed}
 use Rattle.fn_names.proofs.SoundKept.{kept_well_formed}
 use Rattle.fn_names.proofs.KeptLimits.{kept_within_limits}
+use Rattle.fn_names.proofs.KeptNames.{kept_named, kept_rooted}
 use Rattle.fn_names.proofs.Bridging.{uses_of_text, as_many}
 use Rattle.fn_names.proofs.Using.{order_of_uses, order_of_kept}
 
@@ -58,13 +62,15 @@ forms_ordered text parts top all order form ordered =
 
 -- the methods that the top reaches, with bounds
 pub sound : (all kept : List Method) (table : List MethodSizes) (top : ℕ) (order : List ℕ) → IsOrder (Uses all) (length all) order → top < length all → AreReached all top kept
-    → sizes.AreSizes kept table → AreWellFormed all → IsWithinLimits all top → IsSound (record { methods = kept; sizes = table; top = top })
-sound all kept table top order ordered within reached sized well_formed limits = record {
+    → sizes.AreSizes kept table → AreWellFormed all → AreNamed all → IsPlain all top → HaveFormats all → IsWithinLimits all top → IsSound (record { methods = kept; sizes = table; top = top })
+sound all kept table top order ordered within reached sized well_formed named plain formats limits = record {
   order = order;
   ordered = order_of_kept (length all) order all kept top refl ordered reached;
   sized = sized;
   within = subst (λ n. top < n) (sym reached.each) within;
   well_formed = kept_well_formed all kept top well_formed reached;
+  named = kept_named all kept top named reached;
+  rooted = kept_rooted all kept top plain formats reached;
   limits = kept_within_limits all kept top order ordered within reached limits;
 }
 

@@ -7,10 +7,11 @@ use Rattle.fn_tree.specs.declared.tree.Part.{Part}
 use Rattle.fn_calls.specs.Calls.{Calls}
 use Rattle.fn_calls.specs.Order.{IsOrder}
 use Rattle.fn_calls.specs.Measures.{number_at}
-use Rattle.fn_profile.specs.Judging.{Judged}
-use Rattle.fn_profile.specs.declared.fault.ProfileFault.{ProfileFault}
+use Rattle.fn_normal.specs.Judging.{Judged}
+use Rattle.fn_normal.specs.declared.fault.ProfileFault.{ProfileFault}
 use Rattle.fn_names.specs.Parts.{methods_of}
-use Rattle.fn_names.specs.Limits.{Chain, at_top, called, IsDepth, AreDepthsFrom, IsShallow, too_deep, first_deep, IsTooDeep, stands_deep}
+use Rattle.fn_profile.specs.Limits.{Chain, at_top, called, IsShallow}
+use Rattle.fn_names.specs.Limits.{IsDepth, AreDepthsFrom, too_deep, first_deep, IsTooDeep, stands_deep}
 
 record DeepAt (depths : List ℕ) (k : ℕ) (ms : List Method) (f : ProfileFault) : Type 0 where
   place : ℕ

@@ -3,19 +3,14 @@ use Rattle.std.specs.Prelude.{◌≡◌, ℕ, ◌<◌, ◌≤◌, nat_lt, Bool, 
 use Rattle.std.specs.List.{list_any}
 use Rattle.fn_tree.specs.declared.tree.Part.{Part}
 use Rattle.fn_calls.specs.Measures.{number_at, AreWeights}
-use Rattle.fn_profile.specs.declared.profile.Format.{Format}
-use Rattle.fn_profile.specs.declared.profile.Method.{Method}
-use Rattle.fn_profile.specs.declared.fault.ProfileFault.{ProfileFault}
-use Rattle.fn_profile.specs.declared.fault.ProfileFaultKind.TheVariants as kinds
-use Rattle.fn_profile.specs.Faults.{about}
-use Rattle.fn_names.specs.Limits.{IsShallow, IsTooDeep}
-use Rattle.fn_names.specs.Uses.{uses_of, used_graph}
-
-abbrev pub field_limit : ℕ
-field_limit = 128
-
-abbrev pub weight_limit : ℕ
-weight_limit = 4096
+use Rattle.fn_normal.specs.declared.profile.Format.{Format}
+use Rattle.fn_normal.specs.declared.profile.Method.{Method}
+use Rattle.fn_normal.specs.declared.fault.ProfileFault.{ProfileFault}
+use Rattle.fn_normal.specs.declared.fault.ProfileFaultKind.TheVariants as kinds
+use Rattle.fn_normal.specs.Faults.{about}
+use Rattle.fn_profile.specs.Limits.{field_limit, weight_limit}
+use Rattle.fn_names.specs.Limits.{IsTooDeep}
+use Rattle.fn_profile.specs.Uses.{uses_of, used_graph}
 
 abbrev pub too_large_at : Method → ProfileFault
 too_large_at method = about kinds.TooLarge method.place
@@ -26,19 +21,6 @@ is_long format = nat_lt field_limit (length format.fields)
 -- the fault of a method that has a format of more fields
 abbrev pub long_format : Method → Option ProfileFault
 long_format method = if list_any is_long method.formats then Some (too_large_at method) else None
-
--- each format of each method has at most so many fields
-abbrev pub AreShort : List Method → Type 0
-AreShort methods = (i k : ℕ) (m : Method) (f : Format) → slice_get methods i ≡ Some m → slice_get m.formats k ≡ Some f → length f.fields ≤ field_limit
-
--- the top's message has at most so many fields, with those of the methods that encode its fields
-abbrev pub IsLight : List Method → ℕ → Type 0
-IsLight methods top = (weights : List ℕ) → AreWeights (uses_of methods) weights → number_at weights top ≤ weight_limit
-
-pub record IsWithinLimits (methods : List Method) (top : ℕ) : Type 0 where
-  pub shallow : IsShallow (used_graph methods) top
-  pub short : AreShort methods
-  pub light : IsLight methods top
 
 -- a format of a method has more fields
 pub data IsLong (methods : List Method) : ProfileFault → Type 0 where

@@ -5,9 +5,9 @@ pub mod Parts
 pub mod Recursion
 pub mod Top
 pub mod Twice
-pub mod Uses
 pub mod Large
 pub mod Reached
 pub mod Methods
 pub mod Resolved
 pub mod WellFormed
+pub mod Readings

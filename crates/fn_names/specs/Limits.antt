@@ -3,17 +3,13 @@ use Rattle.std.specs.Prelude.{◌≡◌, ◌==◌, ℕ, suc, ◌<◌, ◌≤◌,
 use Rattle.fn_source.specs.declared.span.Span.{Span}
 use Rattle.fn_tree.specs.declared.tree.Method.{Method}
 use Rattle.fn_tree.specs.declared.tree.Part.{Part}
-use Rattle.fn_calls.specs.Calls.{Calls, Has}
+use Rattle.fn_calls.specs.Calls.{Has}
 use Rattle.fn_calls.specs.Measures.{number_at}
-use Rattle.fn_profile.specs.Faults.{about}
-use Rattle.fn_profile.specs.declared.fault.ProfileFault.{ProfileFault}
-use Rattle.fn_profile.specs.declared.fault.ProfileFaultKind.TheVariants as kinds
+use Rattle.fn_normal.specs.Faults.{about}
+use Rattle.fn_normal.specs.declared.fault.ProfileFault.{ProfileFault}
+use Rattle.fn_normal.specs.declared.fault.ProfileFaultKind.TheVariants as kinds
+use Rattle.fn_profile.specs.Limits.{Chain, depth_limit}
 use Rattle.fn_names.specs.Parts.{methods_of}
-
--- a chain of calls from the top to this method has so many methods, both among them
-pub data Chain (graph : List (List ℕ)) (top : ℕ) : ℕ → ℕ → Type 0 where
-  at_top : Chain graph top 1 top
-  called : {n i j : ℕ} → Chain graph top n i → Calls graph i j → Chain graph top (suc n) j
 
 -- a method's depth: how many methods the longest chain to it has
 pub record IsDepth (graph : List (List ℕ)) (top j n : ℕ) : Type 0 where
@@ -32,13 +28,6 @@ pub record Raised (old callees : List ℕ) (depth count : ℕ) (new : List ℕ) 
   pub kept : (j : ℕ) → number_at old j ≤ number_at new j
   pub all : (n : ℕ) → n < count → depth ≤ number_at new (number_at callees n)
   pub only : (j : ℕ) → (number_at new j ≡ number_at old j) ⊎ (Has callees j × (number_at new j ≡ depth))
-
--- no chain of calls is longer
-abbrev pub depth_limit : ℕ
-depth_limit = 16
-
-abbrev pub IsShallow : List (List ℕ) → ℕ → Type 0
-IsShallow graph top = (j n : ℕ) → Chain graph top n j → n ≤ depth_limit
 
 abbrev pub too_deep : Span → ProfileFault
 too_deep name = about kinds.TooLarge name

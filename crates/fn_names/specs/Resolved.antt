@@ -1,9 +1,8 @@
 -- The normal form of a file, and why a file has none (docs/NOTATION.md).
-use Rattle.std.specs.Prelude.{◌≡◌, ℕ, ◌<◌, List, Option, Some, None, length, position}
+use Rattle.std.specs.Prelude.{◌≡◌, ℕ, List, Option, Some, None, length, position}
 use Rattle.fn_tree.specs.declared.tree.Part.{Part}
-use Rattle.fn_profile.specs.declared.profile.Method.{Method}
-use Rattle.fn_profile.specs.declared.profile.MethodSizes.{MethodSizes}
-use Rattle.fn_profile.specs.declared.fault.ProfileFault.{ProfileFault}
+use Rattle.fn_normal.specs.declared.profile.Method.{Method}
+use Rattle.fn_normal.specs.declared.fault.ProfileFault.{ProfileFault}
 use Rattle.fn_calls.specs.Calls.{Calls}
 use Rattle.fn_calls.specs.Order.{IsOrder}
 use Rattle.fn_bounds.specs.Methods as bounds
@@ -15,26 +14,10 @@ use Rattle.fn_names.specs.Methods.{HaveForm, FormCause}
 use Rattle.fn_names.specs.Top.{is_top, no_top}
 use Rattle.fn_names.specs.Calls.{graph_of}
 use Rattle.fn_names.specs.Recursion.{IsRecursive}
-use Rattle.fn_names.specs.Large.{IsWithinLimits, IsTooLarge}
-use Rattle.fn_names.specs.Uses.{AreReached}
-use Rattle.fn_names.specs.WellFormed.{AreWellFormed}
-
--- what a resolved profile shows: its methods in the order of the text, where those that the top doesn't reach have no formats; the bounds of each; and the place of the top
-pub record Resolved : Type 0 where
-  pub methods : List Method
-  pub sizes : List MethodSizes
-  pub top : ℕ
-
--- what every value of the type keeps: callees can come first, the bounds are those of the methods, the top is one of them, and they are within the limits
-pub record IsSound (p : Resolved) : Type 0 where
-  pub order : List ℕ
-  pub ordered : bounds.IsOrder p.methods order
-  pub sized : sizes.AreSizes p.methods p.sizes
-  pub within : p.top < length p.methods
-  -- indices are in range, and calls have as many arguments as the called method has parameters
-  pub well_formed : AreWellFormed p.methods
-  -- no call chain, format or message is too large, by the methods as they are kept
-  pub limits : IsWithinLimits p.methods p.top
+use Rattle.fn_profile.specs.Limits.{IsWithinLimits}
+use Rattle.fn_names.specs.Large.{IsTooLarge}
+use Rattle.fn_profile.specs.Resolved.{Resolved}
+use Rattle.fn_profile.specs.Uses.{AreReached}
 
 -- the place of the top method of this name
 abbrev pub top_of : List ℕ → List Part → List ℕ → Option ℕ

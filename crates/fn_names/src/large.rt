@@ -3,17 +3,19 @@
 ghost use Rattle.std.specs.Prelude.{◌≡◌, ◌<◌, ℕ, length, slice_get, Some, IfOk};
 ghost use Rattle.std.specs.List.{list_any};
 ghost use Rattle.fn_calls.specs.Order.{IsOrder};
-ghost use Rattle.fn_profile.specs.Judging.{Judged, earliest};
+ghost use Rattle.fn_normal.specs.Judging.{Judged, earliest};
+ghost use Rattle.fn_profile.specs.Limits as limits;
 ghost use Rattle.fn_names.specs.Large as spec;
 ghost use Rattle.fn_names.specs.Parts.{methods_of};
-ghost use Rattle.fn_names.specs.Uses.{Uses};
+ghost use Rattle.fn_profile.specs.Uses.{Uses, used_graph};
 
 use crate::limits::deep_call;
-use crate::uses::{used_graph, uses_of};
+use crate::uses::uses_of;
 use fn_calls::depth::number_at;
 use fn_calls::weights;
-use fn_profile::{Format, Method, ProfileFault, ProfileFaultKind, earlier};
+use fn_normal::{Format, Method, ProfileFault, ProfileFaultKind, earlier};
 use fn_tree::Part;
+use sqlite_items::Items;
 use std::alloc::{AllocError, Global};
 
 /// No format has more fields.
@@ -23,21 +25,22 @@ pub const FIELD_LIMIT: usize = 128;
 pub const WEIGHT_LIMIT: usize = 4096;
 
 /// The earliest fault of sizes: calls deeper than 16 methods from the top, a format of more than 128 fields (of any method),
-/// more than 4,096 fields on all paths from the top.
+/// more than 4,096 fields on all paths from the top. The graph is that of the calls in use.
 pub(crate) fn too_large(
     alloc: Global,
     parts: &[Part],
     methods: &[Method],
+    graph: &[Items<usize>],
     order: &[usize],
     top: usize,
 ) -> Result<Option<ProfileFault>, AllocError>
     requires order { IsOrder (Uses methods.now) (length methods.now) order.now }
     requires top { top < length methods.now }
     requires named { length methods.now ≡ length (methods_of parts.now) }
-    ensures { IfOk result (Judged (spec.IsWithinLimits methods.now top) (spec.IsTooLarge parts.now methods.now top)) }
+    requires graph { graph.now ≡ used_graph methods.now }
+    ensures { IfOk result (Judged (limits.IsWithinLimits methods.now top) (spec.IsTooLarge parts.now methods.now top)) }
 {
-    let graph = used_graph(alloc, methods)?;
-    let deep = deep_call(alloc, parts, graph.as_slice(), order, top)?;
+    let deep = deep_call(alloc, parts, graph, order, top)?;
     let heavy = heavy_top(alloc, methods, order, top)?;
     Ok(earlier(earlier(deep, first_long(methods)), heavy))
 }
@@ -87,7 +90,7 @@ fn heavy_top(
 ) -> Result<Option<ProfileFault>, AllocError>
     requires order { IsOrder (Uses methods.now) (length methods.now) order.now }
     requires top { top < length methods.now }
-    ensures { IfOk result (Judged (spec.IsLight methods.now top) (spec.IsHeavy methods.now top)) }
+    ensures { IfOk result (Judged (limits.IsLight methods.now top) (spec.IsHeavy methods.now top)) }
 {
     let uses = uses_of(alloc, methods)?;
     let weights = weights(alloc, uses.as_slice(), order)?;

@@ -2,7 +2,7 @@
 
 ghost use Rattle.fn_names.specs.WellFormed as laws;
 
-/// Indices in the normal forms of a file's methods are in range, and calls have as many arguments as the called method has parameters.
+/// The normal forms of a file's methods are well formed: indices are in range, calls have as many arguments as the called method has parameters, and fields have what their formats need.
 pub fn form_is_well_formed()
     ensures { laws.FormIsWellFormed }
 {}

@@ -1,7 +1,7 @@
-//! From the tree of a profile's text to its normal form.
+//! From the octets of a profile, or the tree of its text, to its normal form.
 #![tactic(auto)]
 
-pub use profile::Profile;
+pub use reading::{ReadError, read};
 pub use resolving::resolve;
 
 pub mod calls;
@@ -11,8 +11,8 @@ pub mod laws;
 pub mod limits;
 pub mod methods;
 pub mod parts;
-pub mod profile;
 pub mod reached;
+pub mod reading;
 pub mod recursion;
 pub mod resolving;
 pub mod top;

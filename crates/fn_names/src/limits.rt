@@ -3,12 +3,13 @@
 ghost use Rattle.std.specs.Prelude.{◌≡◌, ◌<◌, ℕ, length, IfOk};
 ghost use Rattle.fn_calls.specs.Calls.{Calls, Has};
 ghost use Rattle.fn_calls.specs.Order.{IsOrder};
-ghost use Rattle.fn_profile.specs.Judging.{Judged};
+ghost use Rattle.fn_normal.specs.Judging.{Judged};
+ghost use Rattle.fn_profile.specs.Limits as limits;
 ghost use Rattle.fn_names.specs.Limits as spec;
 ghost use Rattle.fn_names.specs.Parts.{methods_of};
 
 use fn_calls::depth::{number_at, zeros};
-use fn_profile::{ProfileFault, ProfileFaultKind};
+use fn_normal::{ProfileFault, ProfileFaultKind};
 use fn_tree::Part;
 use sqlite_items::Items;
 use std::alloc::{AllocError, Global};
@@ -28,7 +29,7 @@ pub(crate) fn deep_call(
     requires order { IsOrder (Calls calls.now) (length calls.now) order.now }
     requires top { top < length calls.now }
     requires methods { length calls.now ≡ length (methods_of parts.now) }
-    ensures { IfOk result (Judged (spec.IsShallow calls.now top) (spec.IsTooDeep calls.now top parts.now)) }
+    ensures { IfOk result (Judged (limits.IsShallow calls.now top) (spec.IsTooDeep calls.now top parts.now)) }
 {
     let depths = depths_from(alloc, calls, order, top)?;
     Ok(first_deep(parts, depths.as_slice()))

@@ -3,14 +3,14 @@
 ghost use Rattle.std.specs.Prelude.{◌≡◌, ◌+◌, ◌∷◌, List, Option, ℕ, IfOk, IfErr, OnOk};
 ghost use Rattle.fn_tree.specs.declared.tree.Method.{Method as TreeMethod};
 ghost use Rattle.fn_tree.specs.declared.tree.Part.{Part as GivenPart};
-ghost use Rattle.fn_profile.specs.Judging.{Blames, Judged};
+ghost use Rattle.fn_normal.specs.Judging.{Blames, Judged};
 ghost use Rattle.fn_sections.specs.Tables.{IsTable};
 ghost use Rattle.fn_names.specs.Methods as spec;
 ghost use Rattle.fn_names.specs.Parts.{methods_of};
 
 use crate::heads::Head;
 use fn_methods::{FileSetting, resolved_method};
-use fn_profile::{Method, ProfileFault, ResolveError, earlier};
+use fn_normal::{Method, ProfileFault, ResolveError, earlier};
 use fn_sections::mention::listed;
 use fn_sections::{Mention, Table};
 use fn_statements::Methods;
@@ -19,7 +19,7 @@ use sqlite_items::Items;
 use std::alloc::{AllocError, Global};
 
 /// The methods so far in the order of the text, and the earliest fault in them.
-#[derive(Debug, Drop)]
+#[derive(Drop)]
 pub struct Drafts {
     pub found: Items<Method>,
     pub fault: Option<ProfileFault>,

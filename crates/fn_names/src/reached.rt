@@ -1,27 +1,27 @@
 //! The methods that the top reaches.
 
-ghost use Rattle.std.specs.Prelude.{◌≡◌, ◌<◌, ◌++◌, ℕ, length, reverse, IfOk};
+ghost use Rattle.std.specs.Prelude.{◌≡◌, ◌<◌, ℕ, length, IfOk};
 ghost use Rattle.fn_names.specs.Reached as marking;
-ghost use Rattle.fn_names.specs.Uses as spec;
+ghost use Rattle.fn_profile.specs.Uses as spec;
 
-use crate::uses::used_graph;
 use fn_calls::reached;
-use fn_profile::Method;
+use fn_normal::{Method, reversed};
 use sqlite_items::Items;
 use std::alloc::{AllocError, Global};
 
-/// The methods with formats for those alone that the top reaches. The formats of the others are let go.
+/// The methods with formats for those alone that the top reaches, by what they call. The formats of the others are let go.
 pub(crate) fn reached_methods(
     alloc: Global,
     methods: Items<Method>,
+    graph: &[Items<usize>],
     top: usize,
 ) -> Result<Items<Method>, AllocError>
     requires top { top < length methods }
     requires within { (i j : ℕ) → spec.Uses methods i j → j < length methods }
+    requires graph { graph.now ≡ spec.used_graph methods }
     ensures { IfOk result (spec.AreReached methods top) }
 {
-    let graph = used_graph(alloc, methods.as_slice())?;
-    let mut is_reached = reached(alloc, graph.as_slice(), top)?;
+    let mut is_reached = reached(alloc, graph, top)?;
     is_reached.set(top, true);
     marked_methods(alloc, methods, is_reached.as_slice())
 }
@@ -46,16 +46,6 @@ fn marked_methods(
         kept.push(kept_method)?;
     }
     Ok(kept)
-}
-
-fn reversed(alloc: Global, mut methods: Items<Method>) -> Result<Items<Method>, AllocError>
-    ensures { IfOk result (λ turned. turned ≡ reverse methods) }
-{
-    let mut turned = Items::new(alloc);
-    while let Some(method) = methods.pop() {
-        turned.push(method)?;
-    }
-    Ok(turned)
 }
 
 fn is_marked_at(marks: &[bool], place: usize) -> bool

@@ -2,21 +2,24 @@
 
 ghost use Rattle.std.specs.Prelude.{◌≡◌, ◌<◌, length, IfOk, IfErr};
 ghost use Rattle.fn_calls.specs.Order.{IsOrder};
-ghost use Rattle.fn_profile.specs.Judging.{Blames};
+ghost use Rattle.fn_normal.specs.Judging.{Blames};
 ghost use Rattle.fn_names.specs.Parts.{methods_of};
 ghost use Rattle.fn_names.specs.Resolved as spec;
-ghost use Rattle.fn_names.specs.Uses.{Uses};
-ghost use Rattle.fn_names.specs.WellFormed.{AreWellFormed};
+ghost use Rattle.fn_profile.specs.Named.{AreNamed};
+ghost use Rattle.fn_profile.specs.Rooted.{IsPlain, HaveFormats};
+ghost use Rattle.fn_profile.specs.Uses.{Uses};
+ghost use Rattle.fn_profile.specs.WellFormed.{AreWellFormed};
 
 use crate::heads::head_of;
 use crate::large::too_large;
 use crate::methods::resolved_methods;
-use crate::profile::Profile;
 use crate::reached::reached_methods;
 use crate::recursion::ordered;
 use crate::top::{no_top, top};
+use crate::uses::used_graph;
 use fn_bounds::sizes;
-use fn_profile::{Method, ResolveError};
+use fn_normal::{Method, ResolveError};
+use fn_profile::Profile;
 use fn_tree::Part;
 use sqlite_items::Items;
 use std::alloc::Global;
@@ -56,13 +59,18 @@ fn profile_of(
     requires top { top < length methods }
     requires named { length methods ≡ length (methods_of parts.now) }
     requires well_formed { AreWellFormed methods }
+    requires names { AreNamed methods }
+    requires plain { IsPlain methods top }
+    requires formats { HaveFormats methods }
     ensures found { IfOk result (spec.IsProfile methods top) }
     ensures refused { IfErr result (Blames (spec.ProfileCause parts.now methods top)) }
 {
-    if let Some(fault) = too_large(alloc, parts, methods.as_slice(), order, top)? {
+    let graph = used_graph(alloc, methods.as_slice())?;
+    let graph = graph.as_slice();
+    if let Some(fault) = too_large(alloc, parts, methods.as_slice(), graph, order, top)? {
         return Err(ResolveError::Fault(fault));
     }
-    let methods = reached_methods(alloc, methods, top)?;
+    let methods = reached_methods(alloc, methods, graph, top)?;
     match sizes(alloc, methods.as_slice(), order) {
         Ok(sizes) => Ok(Profile::of(methods, sizes, top)),
         Err(error) => Err(error),

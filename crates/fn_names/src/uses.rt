@@ -1,9 +1,9 @@
 //! What the methods of a resolved profile call.
 
 ghost use Rattle.std.specs.Prelude.{◌≡◌, ◌++◌, IfOk, OnOk};
-ghost use Rattle.fn_names.specs.Uses as spec;
+ghost use Rattle.fn_profile.specs.Uses as spec;
 
-use fn_profile::{Encoding, Field, Format, Method};
+use fn_normal::{Encoding, Field, Format, Method};
 use sqlite_items::Items;
 use std::alloc::{AllocError, Global};
 

@@ -1,3 +1,6 @@
-pub mod Faults
-pub mod Words
-pub mod Judging
+pub mod Uses
+pub mod Limits
+pub mod Named
+pub mod Rooted
+pub mod WellFormed
+pub mod Resolved

@@ -1,135 +1,76 @@
-//! The methods of a profile in their normal form, and the bounds on their lengths.
+//! Resolved profiles.
 
-use crate::name::Name;
-use fn_bits::Bits;
-use fn_expr::{Cond, Expr, Interval, Side, Subject};
-use fn_source::Span;
+ghost use Rattle.std.specs.Prelude.{◌≡◌};
+ghost use Rattle.fn_profile.specs.Resolved.{IsSound};
+
+use fn_normal::{Method, MethodSizes};
 use sqlite_items::Items;
+use std::marker::Model;
 
-/// Which list of a method declares a field (RFC 4997, section 4.10).
-#[derive(Clone, Copy, Debug, PartialEq, Eq)]
-pub enum Part {
-    /// UNCOMPRESSED: a field of the header.
-    Header,
-    /// CONTROL: a field that is in no header, and that the context holds.
-    Control,
-    /// A COMPRESSED section alone: a field of that format, which is in no header and no context.
-    Local,
+/// A resolved profile: its methods in the order of the text, where those that the top doesn't reach have no formats; the bounds of each; and the place of
+/// the top among them. It is within the limits of `too_large`.
+#[derive(Drop)]
+pub struct Profile {
+    methods: Items<Method>,
+    sizes: Items<MethodSizes>,
+    top: usize,
 }
 
-/// A field as each filling shows it.
-#[derive(Debug, Drop)]
-pub struct Declared {
-    pub name: Name,
-    pub part: Part,
-    /// Whether the packer is given its value: a control field of the top method, see docs/NOTATION.md.
-    pub asked: bool,
+impl Model for Profile {
+    ghost use Rattle.fn_profile.specs.Resolved.{Resolved, IsSound};
+    ghost use Rattle.fn_expr.specs.contracts.expr.Expr as expr;
+    ghost use Rattle.fn_expr.specs.contracts.expr.Cond as cond;
+    ghost use Rattle.std.specs.Coded.{codes};
+
+    ghost Value = { Resolved };
+
+    ghost coded = { Prim.hlevel (codes, expr.the_row.coded, cond.the_row.coded) };
+
+    ghost view = { λ p. record { methods = p.methods; sizes = p.sizes; top = p.top } };
+
+    ghost invariant = { λ p. IsSound (record { methods = p.methods; sizes = p.sizes; top = p.top }) };
 }
 
-/// A library method with its arguments (RFC 4997, section 4.11).
-#[derive(Debug, Drop)]
-pub enum Library {
-    UncompressedValue { length: Expr, value: Expr },
-    CompressedValue { length: Expr, value: Expr },
-    Irregular { length: Expr },
-    Static,
-    Lsb { bits: Expr, offset: Expr },
-    Crc(CrcArguments),
-}
+impl Profile {
+    /// The profile of these methods with their bounds.
+    pub fn of(methods: Items<Method>, sizes: Items<MethodSizes>, top: usize) -> Profile
+        requires { IsSound (record { methods = methods; sizes = sizes; top = top }) }
+        ensures methods { result.methods ≡ methods }
+        ensures sizes { result.sizes ≡ sizes }
+        ensures top { result.top ≡ top }
+    {
+        Profile {
+            methods,
+            sizes,
+            top,
+        }
+    }
 
-/// The arguments of `crc`. Its data are the bits of a side of a field or of the whole.
-#[derive(Debug, Drop)]
-pub struct CrcArguments {
-    pub bits: Expr,
-    pub polynomial: Expr,
-    pub initial: Expr,
-    pub subject: Subject,
-    pub side: Side,
-    pub length: Expr,
-}
+    /// The methods in the order of the text.
+    pub fn methods(&self) -> &[Method]
+        ensures { result.now ≡ self.now.methods }
+    {
+        self.methods.as_slice()
+    }
 
-/// How a field is encoded in a format.
-#[derive(Debug, Drop)]
-pub enum Encoding {
-    /// No encoding.
-    Bare,
-    Library(Library),
-    /// A method of the profile, by its index, with its arguments.
-    Call {
-        method: usize,
-        arguments: Items<Expr>,
-    },
-}
+    /// The bounds of each method.
+    pub fn sizes(&self) -> &[MethodSizes]
+        ensures { result.now ≡ self.now.sizes }
+    {
+        self.sizes.as_slice()
+    }
 
-/// A field of a format.
-#[derive(Debug, Drop)]
-pub struct Field {
-    pub declared: Declared,
-    pub encoding: Encoding,
-    /// The context's value while it holds none, from INITIAL.
-    pub initial: Option<Bits>,
-}
+    /// A law of profiles: what each one keeps.
+    pub fn keeps(&self)
+        ensures { IsSound self.now }
+    {
+        let _ = &self.methods;
+    }
 
-/// A numbered constraint of a format.
-#[derive(Debug, Drop)]
-pub enum Constraint {
-    /// The length of a side of the field, by its index, is the value of one of the expressions. The place is that of the bracket.
-    Bracket {
-        field: usize,
-        side: Side,
-        lengths: Items<Expr>,
-        place: Span,
-    },
-    /// A conjunct of an ENFORCE, with the place of its first token.
-    Enforce {
-        condition: Cond,
-        place: Span,
-    },
-}
-
-/// A format: its fields in field order, which of them it lists by their indices, and its constraints by their numbers.
-#[derive(Debug, Drop)]
-pub struct Format {
-    pub name: Option<Name>,
-    pub fields: Items<Field>,
-    pub listing: Items<usize>,
-    pub constraints: Items<Constraint>,
-}
-
-/// A method: its name with its place in the text, its parameters and its formats.
-#[derive(Debug, Drop)]
-pub struct Method {
-    pub name: Name,
-    pub place: Span,
-    pub parameters: Items<Name>,
-    pub formats: Items<Format>,
-}
-
-/// The least and the greatest length, in bits. The least may be above the greatest: then no length is right.
-#[derive(Clone, Copy, Debug, PartialEq, Eq)]
-pub struct Bounds {
-    pub least: u128,
-    pub most: u128,
-}
-
-/// Bounds on the lengths of both sides.
-#[derive(Clone, Copy, Debug, PartialEq, Eq)]
-pub struct Sizes {
-    pub uncompressed: Bounds,
-    pub compressed: Bounds,
-}
-
-/// The bounds of a format: those of its fields in field order; of its header and of its packed bits.
-#[derive(Debug, Drop)]
-pub struct FormatSizes {
-    pub fields: Items<Sizes>,
-    pub whole: Sizes,
-}
-
-/// The bounds of a method: those of its formats, their hull, and the ranges of its parameters.
-#[derive(Debug, Drop)]
-pub struct MethodSizes {
-    pub formats: Items<FormatSizes>,
-    pub whole: Sizes,
-    pub parameters: Items<Interval>,
+    /// The place of the top among the methods.
+    pub fn top(&self) -> usize
+        ensures { result ≡ self.now.top }
+    {
+        self.top
+    }
 }

@@ -1,9 +1,9 @@
 -- Of several faults the earliest is answered: where none is answered none has a cause, and what is answered has one.
 use Rattle.std.proofs.Common.{◌≡◌, ◌∙◌, ap, ℕ, ◌<◌, ◌⊎◌, inl, inr, List, [], ◌∷◌, fold, map, ◌++◌, get_or, drop, ◌+◌, refl, sym, suc, zero, length, Some, None, Option, arith, subst}
 use Rattle.std.proofs.lemmas.List.{append_assoc}
-use Rattle.fn_profile.specs.declared.fault.ProfileFault.{ProfileFault}
-use Rattle.fn_profile.specs.Judging.{earlier}
-use Rattle.fn_profile.proofs.Judgements.{which, neither}
+use Rattle.fn_normal.specs.declared.fault.ProfileFault.{ProfileFault}
+use Rattle.fn_normal.specs.Judging.{earlier}
+use Rattle.fn_normal.proofs.Judgements.{which, neither}
 use Rattle.fn_sections.specs.declared.mention.Mention.{Mention}
 use Rattle.fn_sections.specs.declared.table.Table.{Table}
 use Rattle.fn_sections.specs.Mentions.{first_of}

@@ -6,8 +6,8 @@ use Rattle.std.proofs.lemmas.Option.{slice_get_within}
 use Rattle.std.proofs.lemmas.Bool.{cases_order}
 use Rattle.fn_source.specs.declared.span.Span.{Span}
 use Rattle.fn_tree.specs.declared.tree.Section.{Section}
-use Rattle.fn_profile.specs.declared.fault.ProfileFault.{ProfileFault}
-use Rattle.fn_profile.specs.Judging.{earlier}
+use Rattle.fn_normal.specs.declared.fault.ProfileFault.{ProfileFault}
+use Rattle.fn_normal.specs.Judging.{earlier}
 use Rattle.fn_sections.specs.declared.mention.Mention.{Mention}
 use Rattle.fn_sections.specs.declared.mention.Group.TheVariants as groups
 use Rattle.fn_sections.specs.declared.names.Lists.{Lists}

@@ -1,14 +1,14 @@
 -- What stands behind a fault of a method's names and sections.
-pub use Rattle.fn_profile.specs.Judging.{earliest}
+pub use Rattle.fn_normal.specs.Judging.{earliest}
 use Rattle.std.specs.Prelude.{◌≡◌, ◌&&◌, ℕ, List, slice_get, take, Option, Some, None, option_map, is_some, if◌then◌else◌, nat_lt, nat_eq}
 use Rattle.std.specs.Option.{option_or}
 use Rattle.fn_source.specs.declared.span.Span.{Span}
-use Rattle.fn_profile.specs.declared.fault.ProfileFault.{ProfileFault}
-use Rattle.fn_profile.specs.declared.fault.ProfileFaultKind.{ProfileFaultKind}
-use Rattle.fn_profile.specs.declared.fault.ProfileFaultKind.TheVariants as kinds
-use Rattle.fn_profile.specs.Faults.{about}
-use Rattle.fn_profile.specs.Judging.{Judged}
-use Rattle.fn_profile.specs.Words.{word}
+use Rattle.fn_normal.specs.declared.fault.ProfileFault.{ProfileFault}
+use Rattle.fn_normal.specs.declared.fault.ProfileFaultKind.{ProfileFaultKind}
+use Rattle.fn_normal.specs.declared.fault.ProfileFaultKind.TheVariants as kinds
+use Rattle.fn_normal.specs.Faults.{about}
+use Rattle.fn_normal.specs.Judging.{Judged}
+use Rattle.fn_normal.specs.Words.{word}
 use Rattle.fn_sections.specs.declared.mention.Mention.{Mention}
 use Rattle.fn_sections.specs.Mentions.{first_of}
 

@@ -10,7 +10,7 @@ use Rattle.fn_tree.specs.declared.tree.Encoding.TheVariants as encodings
 use Rattle.fn_tree.specs.declared.tree.Item.{Item}
 use Rattle.fn_tree.specs.declared.tree.Item.TheVariants as items
 use Rattle.fn_tree.specs.declared.tree.Section.{Section}
-use Rattle.fn_profile.specs.Words.{word}
+use Rattle.fn_normal.specs.Words.{word}
 use Rattle.fn_sections.specs.declared.mention.Mention.{Mention}
 use Rattle.fn_sections.specs.declared.mention.Group.{Group}
 use Rattle.fn_sections.specs.declared.mention.Group.TheVariants as groups

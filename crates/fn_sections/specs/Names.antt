@@ -6,7 +6,7 @@ use Rattle.fn_tree.specs.declared.tree.SectionKind.{SectionKind}
 use Rattle.fn_tree.specs.declared.tree.SectionKind.TheVariants as kinds
 use Rattle.fn_tree.specs.declared.tree.Section.{Section}
 use Rattle.fn_tree.specs.declared.tree.Method.{Method}
-use Rattle.fn_profile.specs.declared.fault.ProfileFault.{ProfileFault}
+use Rattle.fn_normal.specs.declared.fault.ProfileFault.{ProfileFault}
 use Rattle.fn_sections.specs.declared.mention.Mention.{Mention}
 use Rattle.fn_sections.specs.declared.mention.Group.TheVariants as groups
 use Rattle.fn_sections.specs.declared.names.Lists.{Lists}

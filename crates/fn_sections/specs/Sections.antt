@@ -1,8 +1,8 @@
 -- Which sections a method has.
 use Rattle.std.specs.Prelude.{◌&&◌, ◌||◌, ℕ, Bool, List, length, filter, Option, Some, None, if◌then◌else◌, nat_eq, nat_lt}
-use Rattle.fn_profile.specs.declared.fault.ProfileFault.{ProfileFault}
-use Rattle.fn_profile.specs.declared.fault.ProfileFaultKind.TheVariants as faults
-use Rattle.fn_profile.specs.Faults.{about}
+use Rattle.fn_normal.specs.declared.fault.ProfileFault.{ProfileFault}
+use Rattle.fn_normal.specs.declared.fault.ProfileFaultKind.TheVariants as faults
+use Rattle.fn_normal.specs.Faults.{about}
 use Rattle.fn_tree.specs.declared.tree.Section.{Section}
 use Rattle.fn_tree.specs.declared.tree.Method.{Method}
 use Rattle.fn_sections.specs.Mentions.{is_in}

@@ -9,7 +9,7 @@ ghost use Rattle.fn_sections.specs.Fields as spec;
 use crate::mention::{Group, Mention, mentions};
 use crate::names::joined;
 use crate::table::Table;
-use fn_profile::word;
+use fn_normal::word;
 use fn_tree::{Encoding, Item, Section};
 use sqlite_items::Items;
 use std::alloc::{AllocError, Global};

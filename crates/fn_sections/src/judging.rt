@@ -4,7 +4,7 @@ ghost use Rattle.std.specs.Prelude.{◌≡◌};
 ghost use Rattle.fn_sections.specs.Causes as spec;
 
 use crate::mention::Mention;
-use fn_profile::{ProfileFault, ProfileFaultKind};
+use fn_normal::{ProfileFault, ProfileFaultKind};
 use fn_source::Span;
 
 /// The span that starts later.

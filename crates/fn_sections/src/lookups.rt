@@ -7,7 +7,7 @@ ghost use Rattle.fn_sections.specs.Tables.{find_in};
 use crate::judging::later;
 use crate::mention::Mention;
 use crate::table::Table;
-use fn_profile::{ProfileFault, ProfileFaultKind, earlier, word};
+use fn_normal::{ProfileFault, ProfileFaultKind, earlier, word};
 
 fn defined_before(text: &[u8], table: &Table<'_>, mention: Mention) -> Option<ProfileFault>
     ensures { result ≡ spec.defined_before text.now (find_in table.now) mention }

@@ -3,14 +3,14 @@
 ghost use Rattle.std.specs.Prelude.{◌≡◌, ◌++◌, IfOk, OnOk, map};
 ghost use Rattle.fn_sections.specs.Mentions as spec;
 
-use fn_profile::{same, word};
+use fn_normal::{same, word};
 use fn_source::Span;
 use fn_tree::{Encoding, Item, Section, SectionKind};
 use sqlite_items::Items;
 use std::alloc::{AllocError, Global};
 
 /// A name that a method gives, and what the rules of names ask of it.
-#[derive(Clone, Copy, Debug, PartialEq, Eq)]
+#[derive(Clone, Copy, PartialEq, Eq)]
 pub struct Mention {
     pub name: Span,
     /// The place of its section in the method.
@@ -23,7 +23,7 @@ pub struct Mention {
 }
 
 /// Sections that are looked at together.
-#[derive(Clone, Copy, Debug, PartialEq, Eq)]
+#[derive(Clone, Copy, PartialEq, Eq)]
 pub enum Group {
     /// UNCOMPRESSED
     Header,

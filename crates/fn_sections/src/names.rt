@@ -13,14 +13,14 @@ use crate::mention::{Group, Mention, all_listed, encoded, is_in, listed, mention
 use crate::repeats::second;
 use crate::sections::incomplete;
 use crate::table::Table;
-use fn_profile::{ProfileFault, earlier};
+use fn_normal::{ProfileFault, earlier};
 use fn_source::Span;
 use fn_tree::{Method, Section, SectionKind};
 use sqlite_items::Items;
 use std::alloc::{AllocError, Global};
 
 /// The mentions in the groups of a method's sections, each list in text order.
-#[derive(Debug, Drop)]
+#[derive(Drop)]
 pub struct Lists {
     pub base: Items<Mention>,
     pub initial: Items<Mention>,

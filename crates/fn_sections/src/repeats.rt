@@ -6,7 +6,7 @@ ghost use Rattle.fn_sections.specs.Causes as spec;
 use crate::judging::second_statement;
 use crate::mention::Mention;
 use crate::table::Table;
-use fn_profile::{ProfileFault, word};
+use fn_normal::{ProfileFault, word};
 use std::alloc::{AllocError, Global};
 
 /// The first mention of a name that an earlier one has.

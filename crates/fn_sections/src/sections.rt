@@ -4,7 +4,7 @@ ghost use Rattle.std.specs.Prelude.{◌≡◌};
 ghost use Rattle.fn_sections.specs.Sections as spec;
 
 use crate::mention::{Group, is_in};
-use fn_profile::{ProfileFault, ProfileFaultKind};
+use fn_normal::{ProfileFault, ProfileFaultKind};
 use fn_tree::{Method, Section};
 
 fn count_in(sections: &[Section], group: Group) -> usize

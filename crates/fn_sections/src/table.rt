@@ -5,7 +5,7 @@ ghost use Rattle.fn_sections.specs.Mentions as spec;
 ghost use Rattle.fn_sections.specs.Tables as tables;
 
 use crate::mention::Mention;
-use fn_profile::{Words, word};
+use fn_normal::{Words, word};
 use sqlite_items::Items;
 use std::alloc::{AllocError, Global};
 

@@ -2,10 +2,10 @@
 use Rattle.std.specs.Prelude.{ℕ, List, [], ◌++◌, Option, Some, None, codes}
 use Rattle.std.specs.Str.Lossy.{utf8_lossy}
 use Rattle.fn_source.specs.declared.span.Span.{Span}
-use Rattle.fn_profile.specs.Words.{word}
-use Rattle.fn_profile.specs.declared.fault.ProfileFault.{ProfileFault}
-use Rattle.fn_profile.specs.declared.fault.ProfileFaultKind.{ProfileFaultKind}
-use Rattle.fn_profile.specs.declared.fault.ProfileFaultKind.TheVariants as f
+use Rattle.fn_normal.specs.Words.{word}
+use Rattle.fn_normal.specs.declared.fault.ProfileFault.{ProfileFault}
+use Rattle.fn_normal.specs.declared.fault.ProfileFaultKind.{ProfileFaultKind}
+use Rattle.fn_normal.specs.declared.fault.ProfileFaultKind.TheVariants as f
 
 -- a name that a fault shows: a part of the text, or nothing
 abbrev pub named : List ℕ → Option Span → List ℕ

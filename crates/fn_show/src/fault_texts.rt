@@ -3,7 +3,7 @@
 ghost use Rattle.std.specs.Prelude.{◌≡◌, IfOk, string_bytes};
 ghost use Rattle.fn_show.specs.Texts as spec;
 
-use fn_profile::{ProfileFault, ProfileFaultKind, word};
+use fn_normal::{ProfileFault, ProfileFaultKind, word};
 use fn_source::Span;
 use std::alloc::{AllocError, Global};
 

@@ -4,7 +4,7 @@ ghost use Rattle.std.specs.Prelude.{◌≡◌, IfOk, slice_get, string_bytes};
 ghost use Rattle.fn_show.specs.Shown as spec;
 
 use crate::places::Places;
-use fn_profile::{Bounds, Constraint, Format, FormatSizes, Method, MethodSizes, Name};
+use fn_normal::{Bounds, Constraint, Format, FormatSizes, Method, MethodSizes, Name};
 use fn_source::Span;
 use std::alloc::{AllocError, Global};
 

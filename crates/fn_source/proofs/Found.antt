@@ -256,5 +256,3 @@ stop_found f.TooLong from at to h = absurd h
 stop_found f.NotUtf8 from at to h = absurd h
 stop_found f.Unexpected from at to h = absurd h
 stop_found f.TooManyParts from at to h = absurd h
-stop_found f.NoTop from at to h = absurd h
-stop_found f.ProfileTooLarge from at to h = absurd h

@@ -1,5 +1,5 @@
 -- The tokens so far, in the words of the code.
-use Rattle.std.proofs.Common.{◌≡◌, ◌==◌, ℕ, ◌<◌, List, [], ◌∷◌, ◌++◌, length, Option, Some, None, Result, Ok, Err, true, refl, sym, ap, subst, ◌∙◌, append_assoc, length-append, arith}
+use Rattle.std.proofs.Common.{◌≡◌, ◌==◌, ℕ, ◌<◌, List, [], ◌∷◌, ◌++◌, length, Option, Some, None, Result, Ok, Err, true, sym, ap, subst, ◌∙◌, append_assoc, length-append, arith}
 use Rattle.std.proofs.lemmas.List.{append-nil}
 use Rattle.std.proofs.lemmas.Bool.{eqb-true}
 use Rattle.std.specs.Borrow.{Bor}
@@ -85,7 +85,7 @@ is_lexed text [] tokens f e = front_lexes text [] tokens f
 is_lexed text (c ∷ cs) tokens f e = absurd (omega (arith, eqb-true (length (c ∷ cs)) 0 e))
 
 pub is_stopped : (text rest : List ℕ) (tokens : List Token) (stop : Stop) (span : Span) → Front text rest tokens → Stops stop.kind rest stop.at.now stop.to.now
-    → span ≡ span_of (length text) stop.at.now stop.to.now → IsStopped text (record { kind = stop.kind; at = span; first = None; second = None })
+    → span ≡ span_of (length text) stop.at.now stop.to.now → IsStopped text (record { kind = stop.kind; at = span })
 is_stopped text rest tokens stop span f h place = record {
   rest = rest;
   front = tokens;
@@ -94,6 +94,4 @@ is_stopped text rest tokens stop span f h place = record {
   lexes = front_lexes text rest tokens f;
   stops = h;
   place = place;
-  first = refl;
-  second = refl;
 }

@@ -21,8 +21,8 @@ found_from text from front f (Ok p) h on = by_kind p.0 p.1 h
     by_kind (Some kind) to g = on to (front ++ record { kind = kind; span = span_of (length text) from to } ∷ []) (token_len g) (front_token text from to front kind f g)
 found_from text from front f (Err e) h on =
     inr (
-      record { kind = e.0; at = span_of (length text) e.1 e.2; first = None; second = None },
-      record { rest = from; front = front; at = e.1; to = e.2; lexes = front_lexes text from front f; stops = h; place = refl; first = refl; second = refl },
+      record { kind = e.0; at = span_of (length text) e.1 e.2 },
+      record { rest = from; front = front; at = e.1; to = e.2; lexes = front_lexes text from front f; stops = h; place = refl },
     )
 
 each_from : (n : ℕ) (text from : List ℕ) (front : List Token) → length from < n → Front text from front → Each text

@@ -93,8 +93,6 @@ one_fault text a b g h =
     (λ i. record {
       kind = (e i).0;
       at = (g.place ∙ ap (λ (p : FaultKind × List ℕ × List ℕ). span_of (length text) p.1 p.2) e ∙ sym h.place) i;
-      first = (g.first ∙ sym h.first) i;
-      second = (g.second ∙ sym h.second) i;
     })
 
 bad_some : {from at : List ℕ} → IsBad from at → 0 < length from
@@ -124,8 +122,6 @@ stop_some f.TooLong from at to h = absurd h
 stop_some f.NotUtf8 from at to h = absurd h
 stop_some f.Unexpected from at to h = absurd h
 stop_some f.TooManyParts from at to h = absurd h
-stop_some f.NoTop from at to h = absurd h
-stop_some f.ProfileTooLarge from at to h = absurd h
 
 end_refused : IsRefusedAt []
 unfolding lexeme

@@ -248,8 +248,6 @@ pub record IsStopped (text : List ℕ) (fault : Fault) : Type 0 where
   pub lexes : Lexes (length text) text rest front
   pub stops : Stops fault.kind rest at to
   pub place : fault.at ≡ span_of (length text) at to
-  pub first : fault.first ≡ None
-  pub second : fault.second ≡ None
 
 -- What a failed reading of the tokens says of the text.
 abbrev pub Refuses : List ℕ → SourceError → Type 0

@@ -1,14 +1,14 @@
 -- Which octets are the text of a profile, and where an octet stands in it (docs/FORMATS.md).
-use Rattle.std.specs.Prelude.{◌≡◌, ℕ, ◌+◌, ◌^◌, ◌<◌, ◌≤◌, Bool, ◌||◌, ◌==◌, nat_lt, nat_le, ◌⊎◌, List, length, take, count_by, None, IsUtf8}
+use Rattle.std.specs.Prelude.{◌≡◌, ℕ, ◌+◌, ◌^◌, ◌<◌, ◌≤◌, Bool, ◌||◌, ◌==◌, nat_lt, nat_le, ◌⊎◌, List, length, take, count_by, IsUtf8}
 use Rattle.std.specs.List.{after_last}
 use Rattle.std.specs.Str.Lossy.{utf8_valid_len}
 use Rattle.fn_source.specs.declared.fault.Fault.{Fault}
 use Rattle.fn_source.specs.declared.fault.FaultKind.{FaultKind}
 use Rattle.fn_source.specs.declared.fault.FaultKind.TheVariants as f
 
--- a fault whose text shows no names
+-- a fault at the octets from one to another
 abbrev pub fault_at : FaultKind → ℕ → ℕ → Fault
-fault_at kind from to = record { kind = kind; at = record { from = from; to = to }; first = None; second = None }
+fault_at kind from to = record { kind = kind; at = record { from = from; to = to } }
 
 -- octets that are the text of a profile: UTF-8 of at most 1 MiB
 abbrev pub IsText : List ℕ → Type 0

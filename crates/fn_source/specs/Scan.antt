@@ -9,12 +9,22 @@ use Rattle.fn_source.specs.declared.token.Kind.{Kind}
 use Rattle.fn_source.specs.declared.token.Kind.TheVariants as k
 use Rattle.fn_source.specs.declared.token.Mark.{Mark}
 use Rattle.fn_source.specs.declared.token.Mark.TheVariants as m
+use Rattle.fn_source.specs.declared.lexer.Class.{Class}
+use Rattle.fn_source.specs.declared.lexer.Class.TheVariants as classes
 use Rattle.fn_source.specs.declared.lexer.Stop.{Stop}
 use Rattle.fn_source.specs.Lexical.{is_word, is_space, is_bit, is_hex, is_in_line, is_next, number_of, text_of}
 
 unfoldable pub after_run : (ℕ → Bool) → List ℕ → List ℕ
 after_run test [] = []
 after_run test (c ∷ cs) = if test c then after_run test cs else c ∷ cs
+
+-- the octets of a class
+abbrev pub is_in : Class → ℕ → Bool
+is_in classes.Word = is_word
+is_in classes.Digit = is_ascii_digit
+is_in classes.Bit = is_bit
+is_in classes.Hex = is_hex
+is_in classes.Line = is_in_line
 
 -- a token, or none for a gap, and what is left after it; or the fault's kind and what is left at and after its place
 abbrev pub Found : Type 0

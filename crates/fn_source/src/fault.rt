@@ -4,7 +4,7 @@ ghost use Rattle.std.specs.Prelude.{◌≡◌};
 ghost use Rattle.fn_source.specs.Faults as spec;
 
 use crate::span::Span;
-use std::alloc::{AllocError, AllocFailed};
+use std::alloc::AllocFailed;
 use thiserror::Error;
 
 /// What is wrong, without its place.
@@ -32,10 +32,6 @@ pub enum FaultKind {
     MixedRemainder,
     #[error("too many parts")]
     TooManyParts,
-    #[error("no such top method without parameters")]
-    NoTop,
-    #[error("profile is too large")]
-    ProfileTooLarge,
 }
 
 impl FaultKind {
@@ -55,20 +51,16 @@ impl FaultKind {
             FaultKind::RepeatedSection => "E13",
             FaultKind::MixedRemainder => "E14",
             FaultKind::TooManyParts => "E15",
-            FaultKind::NoTop => "E27",
-            FaultKind::ProfileTooLarge => "E34",
         }
     }
 }
 
-/// A fault of a profile at its place. The names that its text shows are parts of the profile.
+/// A fault of a profile at its place.
 #[derive(Clone, Copy, Debug, PartialEq, Eq, Error)]
 #[error("{kind}")]
 pub struct Fault {
     pub kind: FaultKind,
     pub at: Span,
-    pub first: Option<Span>,
-    pub second: Option<Span>,
 }
 
 /// Why there is no answer on a profile.
@@ -78,28 +70,6 @@ pub enum SourceError {
     Fault(Fault),
     #[error("out of memory")]
     OutOfMemory,
-}
-
-impl From<Fault> for SourceError {
-    ghost use Rattle.std.specs.Prelude.{◌≡◌};
-    ghost use Rattle.fn_source.specs.declared.fault.SourceError.TheVariants as errors;
-
-    ghost from_gives = { λ fault e. e ≡ errors.Fault fault };
-
-    fn from(fault: Fault) -> SourceError {
-        SourceError::Fault(fault)
-    }
-}
-
-impl From<AllocError> for SourceError {
-    ghost use Rattle.std.specs.Prelude.{◌≡◌};
-    ghost use Rattle.fn_source.specs.declared.fault.SourceError.TheVariants as errors;
-
-    ghost from_gives = { λ _ e. e ≡ errors.OutOfMemory };
-
-    fn from(_error: AllocError) -> SourceError {
-        SourceError::OutOfMemory
-    }
 }
 
 impl<T: Drop> From<AllocFailed<T>> for SourceError {

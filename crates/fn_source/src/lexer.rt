@@ -67,6 +67,28 @@ fn is_hex(c: u8) -> bool
     c.is_ascii_digit() || (b'a' <= c && c <= b'f') || (b'A' <= c && c <= b'F')
 }
 
+/// The octets of which a run is made.
+#[derive(Clone, Copy)]
+enum Class {
+    Word,
+    Digit,
+    Bit,
+    Hex,
+    Line,
+}
+
+fn is_in(class: Class, c: u8) -> bool
+    ensures { result ≡ scan.is_in class c }
+{
+    match class {
+        Class::Word => is_word(c),
+        Class::Digit => c.is_ascii_digit(),
+        Class::Bit => is_bit(c),
+        Class::Hex => is_hex(c),
+        Class::Line => c != b'\n',
+    }
+}
+
 /// Whether that octet comes next.
 fn is_next(c: u8, text: &[u8]) -> bool
     ensures { result ≡ spec.is_next c text.now }
@@ -87,74 +109,14 @@ fn after_one(text: &[u8]) -> &[u8]
     }
 }
 
-/// What is left after a name's letters, digits and underscores.
+/// What is left after the octets of a class.
 #[tactic(auto, unfolding(crate::specs::Scan::after_run))]
-fn after_word(text: &[u8]) -> &[u8]
-    ensures { result.now ≡ scan.after_run spec.is_word text.now }
+fn after_run(class: Class, text: &[u8]) -> &[u8]
+    ensures { result.now ≡ scan.after_run (scan.is_in class) text.now }
 {
     let mut rest = text;
     'run: while let [first, tail @ ..] = rest {
-        if !is_word(*first) {
-            break;
-        }
-        rest = tail;
-    }
-    rest
-}
-
-/// What is left after the digits of a decimal number.
-#[tactic(auto, unfolding(crate::specs::Scan::after_run))]
-fn after_digits(text: &[u8]) -> &[u8]
-    ensures { result.now ≡ scan.after_run is_ascii_digit text.now }
-{
-    let mut rest = text;
-    'run: while let [first, tail @ ..] = rest {
-        if !first.is_ascii_digit() {
-            break;
-        }
-        rest = tail;
-    }
-    rest
-}
-
-/// What is left after the digits 0 and 1.
-#[tactic(auto, unfolding(crate::specs::Scan::after_run))]
-fn after_bits(text: &[u8]) -> &[u8]
-    ensures { result.now ≡ scan.after_run spec.is_bit text.now }
-{
-    let mut rest = text;
-    'run: while let [first, tail @ ..] = rest {
-        if !is_bit(*first) {
-            break;
-        }
-        rest = tail;
-    }
-    rest
-}
-
-/// What is left after the digits of a hexadecimal number.
-#[tactic(auto, unfolding(crate::specs::Scan::after_run))]
-fn after_hex(text: &[u8]) -> &[u8]
-    ensures { result.now ≡ scan.after_run spec.is_hex text.now }
-{
-    let mut rest = text;
-    'run: while let [first, tail @ ..] = rest {
-        if !is_hex(*first) {
-            break;
-        }
-        rest = tail;
-    }
-    rest
-}
-
-/// What is left at the line's end.
-#[tactic(auto, unfolding(crate::specs::Scan::after_run))]
-fn after_line(text: &[u8]) -> &[u8]
-    ensures { result.now ≡ scan.after_run spec.is_in_line text.now }
-{
-    let mut rest = text;
-    'run: while let [first, tail @ ..] = rest {
-        if *first == b'\n' {
+        if !is_in(class, *first) {
             break;
         }
         rest = tail;
@@ -232,24 +194,16 @@ fn number<'a>(base: u64, text: &'a [u8], digits: &[u8], rest: &'a [u8]) -> Lexem
     }
 }
 
-/// A number in base 2, `digits` being what comes after its prefix.
+/// A number of a base whose digits are of a class, `digits` being what comes after its prefix.
 #[tactic(auto, unfolding(crate::specs::Scan::prefixed))]
-fn binary<'a>(text: &'a [u8], digits: &'a [u8]) -> Lexeme<'a>
-    ensures { scan.seen result ≡ scan.prefixed spec.is_bit 2 text.now digits.now }
+fn prefixed<'a>(class: Class, base: u64, text: &'a [u8], digits: &'a [u8]) -> Lexeme<'a>
+    requires { 0 < base }
+    ensures { scan.seen result ≡ scan.prefixed (scan.is_in class) base text.now digits.now }
 {
     match digits {
-        [first, rest @ ..] if is_bit(*first) => number(2, text, digits, after_bits(rest)),
-        _ => Err(stray(digits)),
-    }
-}
-
-/// A number in base 16, `digits` being what comes after its prefix.
-#[tactic(auto, unfolding(crate::specs::Scan::prefixed))]
-fn hexadecimal<'a>(text: &'a [u8], digits: &'a [u8]) -> Lexeme<'a>
-    ensures { scan.seen result ≡ scan.prefixed spec.is_hex 16 text.now digits.now }
-{
-    match digits {
-        [first, rest @ ..] if is_hex(*first) => number(16, text, digits, after_hex(rest)),
+        [first, rest @ ..] if is_in(class, *first) => {
+            number(base, text, digits, after_run(class, rest))
+        }
         _ => Err(stray(digits)),
     }
 }
@@ -261,11 +215,11 @@ fn numeral<'a>(text: &'a [u8], first: u8, rest: &'a [u8]) -> Lexeme<'a>
     ensures { scan.seen result ≡ scan.numeral first rest.now }
 {
     if first == b'0' && is_next(b'b', rest) {
-        binary(text, after_one(rest))
+        prefixed(Class::Bit, 2, text, after_one(rest))
     } else if first == b'0' && is_next(b'x', rest) {
-        hexadecimal(text, after_one(rest))
+        prefixed(Class::Hex, 16, text, after_one(rest))
     } else {
-        number(10, text, text, after_digits(rest))
+        number(10, text, text, after_run(Class::Digit, rest))
     }
 }
 
@@ -352,7 +306,7 @@ fn quoted<'a>(text: &'a [u8], digits: &[u8], rest: &'a [u8]) -> Lexeme<'a>
 fn bit_text<'a>(text: &'a [u8], inside: &'a [u8]) -> Lexeme<'a>
     ensures { scan.seen result ≡ scan.bit_text text.now inside.now }
 {
-    let rest = after_bits(inside);
+    let rest = after_run(Class::Bit, inside);
     let digits = text_of(inside, rest);
     match rest {
         [b'\'', after @ ..] => quoted(text, digits, after),
@@ -367,7 +321,7 @@ fn slash<'a>(text: &'a [u8], rest: &'a [u8]) -> Lexeme<'a>
     ensures { scan.seen result ≡ scan.slash rest.now }
 {
     match rest {
-        [b'/', inside @ ..] => Ok((None, after_line(inside))),
+        [b'/', inside @ ..] => Ok((None, after_run(Class::Line, inside))),
         [b'*', inside @ ..] => match after_comment(inside) {
             Some(after) => Ok((None, after)),
             None => Err(Stop {
@@ -473,7 +427,7 @@ fn lexeme(text: &[u8]) -> Lexeme<'_>
     if is_space(first) {
         Ok((None, rest))
     } else if first.is_ascii_alphabetic() {
-        let after = after_word(rest);
+        let after = after_run(Class::Word, rest);
         Ok((Some(word(text_of(text, after))), after))
     } else if first.is_ascii_digit() {
         numeral(text, first, rest)
@@ -521,8 +475,6 @@ fn tokens_of(alloc: Global, text: &[u8]) -> Result<Vec<Token>, SourceError>
                 return Err(SourceError::Fault(Fault {
                     kind: stop.kind,
                     at: span_of(text, stop.at, stop.to),
-                    first: None,
-                    second: None,
                 }));
             }
         }

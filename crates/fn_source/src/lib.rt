@@ -5,7 +5,7 @@ pub use fault::{Fault, FaultKind, SourceError};
 pub use lexer::lex;
 pub use source::{Position, Source, line_column};
 pub use span::Span;
-pub use token::{Kind, Mark, Token, is_mark, same_mark};
+pub use token::{Kind, Mark, Token, is_mark};
 
 pub mod fault;
 pub mod laws;

@@ -11,7 +11,7 @@ use std::marker::Model;
 pub const MOST_OCTETS: usize = 1_048_576;
 
 /// The text of a profile: UTF-8 of at most 1 MiB. Contracts see its octets.
-#[derive(Debug, Drop)]
+#[derive(Drop)]
 pub struct Source<'a> {
     content: &'a str,
 }
@@ -27,7 +27,7 @@ impl<'a> Model for Source<'a> {
 }
 
 /// A place in a text. Lines and columns count from 1, columns in characters.
-#[derive(Clone, Copy, Debug, PartialEq, Eq)]
+#[derive(Clone, Copy, PartialEq, Eq)]
 pub struct Position {
     pub line: usize,
     pub column: usize,
@@ -43,8 +43,6 @@ impl<'a> Source<'a> {
             return Err(Fault {
                 kind: FaultKind::TooLong,
                 at: Span { from: 0, to: 0 },
-                first: None,
-                second: None,
             });
         }
         match str::from_utf8(octets) {
@@ -54,8 +52,6 @@ impl<'a> Source<'a> {
                 Err(Fault {
                     kind: FaultKind::NotUtf8,
                     at: Span { from, to: from + 1 },
-                    first: None,
-                    second: None,
                 })
             }
         }

@@ -6,7 +6,7 @@ ghost use Rattle.fn_source.specs.Kinds as spec;
 use crate::span::Span;
 
 /// A mark or a reserved word of the notation.
-#[derive(Clone, Copy, Debug, PartialEq, Eq)]
+#[derive(Clone, Copy, PartialEq, Eq)]
 pub enum Mark {
     /// `{`
     OpenBrace,
@@ -91,7 +91,7 @@ pub enum Mark {
 }
 
 /// What a token is. A bit text has so many digits, which spell the value, the first digit highest.
-#[derive(Clone, Copy, Debug, PartialEq, Eq)]
+#[derive(Clone, Copy, PartialEq, Eq)]
 pub enum Kind {
     Name,
     Number(u64),
@@ -100,7 +100,7 @@ pub enum Kind {
 }
 
 /// A token and its place in the text.
-#[derive(Clone, Copy, Debug, PartialEq, Eq)]
+#[derive(Clone, Copy, PartialEq, Eq)]
 pub struct Token {
     pub kind: Kind,
     pub span: Span,
@@ -108,7 +108,7 @@ pub struct Token {
 
 /// Whether the marks are the same.
 #[tactic(auto, unfolding(crate::specs::Kinds::same_mark))]
-pub fn same_mark(a: Mark, b: Mark) -> bool
+fn same_mark(a: Mark, b: Mark) -> bool
     ensures same { IsTrue result ↔ (a ≡ b) }
     ensures test { result ≡ spec.same_mark a b }
 {

@@ -3,10 +3,10 @@ use Rattle.std.proofs.Common.{IfErr}
 use Rattle.std.specs.Prelude.{Result, Ok, Err}
 use Rattle.fn_source.specs.declared.span.Span.{Span}
 use Rattle.fn_tree.specs.declared.tree.Expr.{Expr as Tree}
-use Rattle.fn_profile.specs.declared.fault.ProfileFault.{ProfileFault}
-use Rattle.fn_profile.specs.declared.fault.ResolveError.{ResolveError}
-use Rattle.fn_profile.specs.declared.fault.ResolveError.TheVariants as errors
-use Rattle.fn_profile.specs.Judging.{Blames}
+use Rattle.fn_normal.specs.declared.fault.ProfileFault.{ProfileFault}
+use Rattle.fn_normal.specs.declared.fault.ResolveError.{ResolveError}
+use Rattle.fn_normal.specs.declared.fault.ResolveError.TheVariants as errors
+use Rattle.fn_normal.specs.Judging.{Blames}
 use Rattle.fn_terms.specs.Constants as constants
 use Rattle.fn_terms.specs.Names.{Names}
 use Rattle.fn_statements.specs.Initial.{at_field, IsNoValue, no_constant}

@@ -5,10 +5,10 @@ use Rattle.std.specs.Option.{option_or}
 use Rattle.fn_source.specs.declared.span.Span.{Span}
 use Rattle.fn_tree.specs.declared.tree.Expr.{Expr as Tree}
 use Rattle.fn_expr.specs.declared.expr.Expr.{Expr}
-use Rattle.fn_profile.specs.declared.fault.ProfileFault.{ProfileFault}
-use Rattle.fn_profile.specs.declared.fault.ProfileFaultKind.TheVariants as kinds
-use Rattle.fn_profile.specs.declared.profile.CrcArguments.{CrcArguments}
-use Rattle.fn_profile.specs.Faults.{about}
+use Rattle.fn_normal.specs.declared.fault.ProfileFault.{ProfileFault}
+use Rattle.fn_normal.specs.declared.fault.ProfileFaultKind.TheVariants as kinds
+use Rattle.fn_normal.specs.declared.profile.CrcArguments.{CrcArguments}
+use Rattle.fn_normal.specs.Faults.{about}
 use Rattle.fn_terms.specs.declared.term.Kind.TheVariants as kind
 use Rattle.fn_terms.specs.declared.term.Term.TheVariants.{Number}
 use Rattle.fn_terms.specs.CrcData.{IsData, data_fault}

@@ -1,5 +1,5 @@
 -- What the name of a method stands for (RFC 4997, section 4.11).
-use Rattle.std.specs.Prelude.{ℕ, List, Option, None, Some, codes, position, slice_get, if◌then◌else◌}
+use Rattle.std.specs.Prelude.{ℕ, Bool, List, Option, None, Some, is_some, codes, position, slice_get, if◌then◌else◌}
 use Rattle.std.specs.Option.{option_map, option_or, unwrap_or}
 use Rattle.std.specs.Str.{bytes_eq}
 use Rattle.fn_statements.specs.declared.callee.Callee.{Callee}
@@ -14,6 +14,9 @@ library name =
     if bytes_eq name (codes "static") then Some callees.Static else
     if bytes_eq name (codes "lsb") then Some callees.Lsb else
     if bytes_eq name (codes "crc") then Some callees.Crc else None
+
+abbrev pub is_library : List ℕ → Bool
+is_library name = is_some (library name)
 
 -- a library method, or else one of the file
 abbrev pub callee : Methods → List ℕ → Option Callee

@@ -10,9 +10,9 @@ use Rattle.fn_tree.specs.declared.tree.Item.{Item}
 use Rattle.fn_tree.specs.declared.tree.Item.TheVariants as items
 use Rattle.fn_expr.specs.declared.expr.Expr.{Expr}
 use Rattle.fn_expr.specs.declared.expr.Side.{Side}
-use Rattle.fn_profile.specs.declared.fault.ProfileFault.{ProfileFault}
-use Rattle.fn_profile.specs.declared.profile.Constraint.{Constraint}
-use Rattle.fn_profile.specs.declared.profile.Constraint.TheVariants as constraints
+use Rattle.fn_normal.specs.declared.fault.ProfileFault.{ProfileFault}
+use Rattle.fn_normal.specs.declared.profile.Constraint.{Constraint}
+use Rattle.fn_normal.specs.declared.profile.Constraint.TheVariants as constraints
 use Rattle.fn_terms.specs.declared.term.Kind.TheVariants as kind
 use Rattle.fn_terms.specs.Conjuncts.{AreConjuncts}
 use Rattle.fn_terms.specs.Judged.{fault_of, first_of}

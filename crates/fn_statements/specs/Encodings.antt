@@ -6,15 +6,15 @@ use Rattle.fn_tree.specs.declared.tree.Encoding.{Encoding as TreeEncoding}
 use Rattle.fn_tree.specs.declared.tree.Encoding.TheVariants as given
 use Rattle.fn_expr.specs.declared.expr.Expr.{Expr}
 use Rattle.fn_expr.specs.declared.expr.Expr.TheVariants as expr
-use Rattle.fn_profile.specs.declared.fault.ProfileFault.{ProfileFault}
-use Rattle.fn_profile.specs.declared.fault.ProfileFaultKind.TheVariants as kinds
-use Rattle.fn_profile.specs.declared.profile.CrcArguments.{CrcArguments}
-use Rattle.fn_profile.specs.declared.profile.Encoding.{Encoding}
-use Rattle.fn_profile.specs.declared.profile.Encoding.TheVariants as encoding
-use Rattle.fn_profile.specs.declared.profile.Library.{Library}
-use Rattle.fn_profile.specs.declared.profile.Library.TheVariants as library
-use Rattle.fn_profile.specs.Faults.{about}
-use Rattle.fn_profile.specs.Words.{word}
+use Rattle.fn_normal.specs.declared.fault.ProfileFault.{ProfileFault}
+use Rattle.fn_normal.specs.declared.fault.ProfileFaultKind.TheVariants as kinds
+use Rattle.fn_normal.specs.declared.profile.CrcArguments.{CrcArguments}
+use Rattle.fn_normal.specs.declared.profile.Encoding.{Encoding}
+use Rattle.fn_normal.specs.declared.profile.Encoding.TheVariants as encoding
+use Rattle.fn_normal.specs.declared.profile.Library.{Library}
+use Rattle.fn_normal.specs.declared.profile.Library.TheVariants as library
+use Rattle.fn_normal.specs.Faults.{about}
+use Rattle.fn_normal.specs.Words.{word}
 use Rattle.fn_terms.specs.Names.{Names}
 use Rattle.fn_statements.specs.declared.arguments.Pair.{Pair}
 use Rattle.fn_statements.specs.declared.callee.Callee.{Callee}

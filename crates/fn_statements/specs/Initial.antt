@@ -8,12 +8,12 @@ use Rattle.fn_tree.specs.declared.tree.Encoding.{Encoding}
 use Rattle.fn_tree.specs.declared.tree.Encoding.TheVariants as given
 use Rattle.fn_tree.specs.declared.tree.Expr.{Expr as Tree}
 use Rattle.fn_lib.specs.Methods.{Spells}
-use Rattle.fn_profile.specs.declared.fault.ProfileFault.{ProfileFault}
-use Rattle.fn_profile.specs.declared.fault.ProfileFaultKind.TheVariants as kinds
-use Rattle.fn_profile.specs.declared.fault.ResolveError.{ResolveError}
-use Rattle.fn_profile.specs.declared.fault.ResolveError.TheVariants as errors
-use Rattle.fn_profile.specs.Faults.{unnamed}
-use Rattle.fn_profile.specs.Words.{word}
+use Rattle.fn_normal.specs.declared.fault.ProfileFault.{ProfileFault}
+use Rattle.fn_normal.specs.declared.fault.ProfileFaultKind.TheVariants as kinds
+use Rattle.fn_normal.specs.declared.fault.ResolveError.{ResolveError}
+use Rattle.fn_normal.specs.declared.fault.ResolveError.TheVariants as errors
+use Rattle.fn_normal.specs.Faults.{unnamed}
+use Rattle.fn_normal.specs.Words.{word}
 use Rattle.fn_terms.specs.Constants as constants
 use Rattle.fn_terms.specs.Names.{Names}
 

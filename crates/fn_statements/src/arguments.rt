@@ -5,7 +5,7 @@ ghost use Rattle.fn_terms.specs.Judged.{Refuses};
 ghost use Rattle.fn_statements.specs.Arguments as spec;
 
 use fn_expr::Expr;
-use fn_profile::{CrcArguments, ProfileFault, ProfileFaultKind, ResolveError};
+use fn_normal::{CrcArguments, ProfileFault, ProfileFaultKind, ResolveError};
 use fn_source::Span;
 use fn_terms::{Scope, data_of, number, numbers};
 use fn_tree::tree;
@@ -13,7 +13,7 @@ use sqlite_items::Items;
 use std::alloc::Global;
 
 /// Two arguments.
-#[derive(Debug, Drop)]
+#[derive(Drop)]
 pub struct Pair {
     pub first: Expr,
     pub second: Expr,

@@ -3,7 +3,7 @@
 ghost use Rattle.std.specs.Prelude.{◌≡◌, length};
 ghost use Rattle.fn_statements.specs.Callees as spec;
 
-use fn_profile::Words;
+use fn_normal::Words;
 
 /// The methods of a file, by their names, with how many parameters each has.
 #[derive(Drop)]
@@ -13,7 +13,7 @@ pub struct Methods<'a> {
 }
 
 /// A library method (RFC 4997, section 4.11), or one of the file by its place among the methods.
-#[derive(Clone, Copy, Debug, PartialEq, Eq)]
+#[derive(Clone, Copy, PartialEq, Eq)]
 pub enum Callee {
     UncompressedValue,
     CompressedValue,
@@ -46,6 +46,13 @@ fn library(name: &[u8]) -> Option<Callee>
         return Some(Callee::Crc);
     }
     None
+}
+
+/// Whether a library method has this name.
+pub fn is_library(name: &[u8]) -> bool
+    ensures { result ≡ spec.is_library name.now }
+{
+    library(name).is_some()
 }
 
 impl<'a> Methods<'a> {

@@ -5,7 +5,7 @@ ghost use Rattle.fn_terms.specs.Judged.{Refuses};
 ghost use Rattle.fn_statements.specs.Constraints as spec;
 
 use fn_expr::{Expr, Side};
-use fn_profile::{Constraint, ResolveError};
+use fn_normal::{Constraint, ResolveError};
 use fn_source::Span;
 use fn_terms::{Scope, conjuncts, numbers};
 use fn_tree::{Bracket, Item};

@@ -1,12 +1,12 @@
 //! The values that INITIAL gives.
 
 ghost use Rattle.std.specs.Prelude.{◌≡◌, ◌∷◌, [], IfOk, IfErr};
-ghost use Rattle.fn_profile.specs.Judging.{Blames};
+ghost use Rattle.fn_normal.specs.Judging.{Blames};
 ghost use Rattle.fn_statements.specs.Initial as spec;
 
 use fn_bits::Bits;
 use fn_lib::uncompressed_value_up;
-use fn_profile::{ProfileFault, ProfileFaultKind, ResolveError, word};
+use fn_normal::{ProfileFault, ProfileFaultKind, ResolveError, word};
 use fn_source::Span;
 use fn_terms::{Scope, constant_value};
 use fn_tree::{Bound, tree};

@@ -1,7 +1,7 @@
 //! What the statements of a method mean: their encodings, brackets and ENFORCE conjuncts.
 #![tactic(auto)]
 
-pub use callee::{Callee, Methods};
+pub use callee::{Callee, Methods, is_library};
 pub use constraints::section_constraints;
 pub use initial::initial_bits;
 pub use resolving::encoding;

@@ -7,7 +7,7 @@ ghost use Rattle.fn_statements.specs.Encodings as spec;
 use crate::arguments::{no_arguments, of_crc, one_argument, several, two_arguments};
 use crate::callee::{Callee, Methods};
 use fn_expr::Expr;
-use fn_profile::{Encoding, Library, ProfileFault, ProfileFaultKind, ResolveError, word};
+use fn_normal::{Encoding, Library, ProfileFault, ProfileFaultKind, ResolveError, word};
 use fn_source::Span;
 use fn_terms::Scope;
 use fn_tree::tree;

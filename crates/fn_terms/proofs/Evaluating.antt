@@ -15,21 +15,21 @@ use Rattle.fn_expr.specs.declared.expr.Measure.TheVariants.{Value, Length}
 use Rattle.fn_expr.specs.declared.interval.Interval.{Interval}
 use Rattle.fn_expr.specs.declared.known.SideNumbers.{SideNumbers}
 use Rattle.fn_expr.specs.declared.fault.RangeFault.{RangeFault}
-use Rattle.fn_expr.specs.Known.{assignment_of, no_numbers, subject_numbers, side_numbers, measured}
+use Rattle.fn_expr.specs.Known.{nothing_known, assignment_of, no_numbers, subject_numbers, side_numbers, measured}
 use Rattle.fn_expr.specs.Rules.{IsIn}
 use Rattle.fn_expr.specs.Ranged.{Bounding, ranged}
 use Rattle.fn_expr.specs.Spread.{LieIn, IsRanged}
-use Rattle.fn_profile.specs.declared.fault.ResolveError.{ResolveError}
-use Rattle.fn_profile.specs.declared.fault.ResolveError.TheVariants as errors
+use Rattle.fn_normal.specs.declared.fault.ResolveError.{ResolveError}
+use Rattle.fn_normal.specs.declared.fault.ResolveError.TheVariants as errors
 use Rattle.fn_terms.specs.declared.term.Kind.TheVariants as kinds
 use Rattle.fn_terms.specs.Names.{Names}
 use Rattle.fn_terms.specs.Judged.{fault_of, Refuses}
-use Rattle.fn_terms.specs.Constants.{nothing, Blames, ValueFault, ill_formed}
+use Rattle.fn_terms.specs.Constants.{Blames, ValueFault, ill_formed}
 
 abbrev no_sides : SideNumbers
 no_sides = record { uncompressed = no_numbers; compressed = no_numbers }
 
-of_subject : (u : Subject) → subject_numbers nothing u ≡ no_sides
+of_subject : (u : Subject) → subject_numbers nothing_known u ≡ no_sides
 of_subject (Field i) = ap (λ o. unwrap_or o no_sides) (slice_get_past [] i (omega arith))
 of_subject This = refl
 
@@ -39,17 +39,17 @@ of_sides Uncompressed Length = refl
 of_sides Compressed Value = refl
 of_sides Compressed Length = refl
 
-no_attribute : (t : Attribute) → (assignment_of nothing).attribute t ≡ None
+no_attribute : (t : Attribute) → (assignment_of nothing_known).attribute t ≡ None
 no_attribute t = ap (λ sides. measured (side_numbers sides t.side) t.measure) (of_subject t.subject) ∙ of_sides t.side t.measure
 
-nothing_lies : (b : Bounding) → LieIn (assignment_of nothing) b
+nothing_lies : (b : Bounding) → LieIn (assignment_of nothing_known) b
 nothing_lies b = record {
   attributes = λ t. subst (λ o. IfSome o (IsIn (b.attribute t))) (sym (no_attribute t)) tt;
   parameters = λ i. subst (λ o. IfSome o (IsIn (b.parameter i))) (sym (slice_get_past [] i (omega arith))) tt;
 }
 
 -- an accepted expression may be evaluated
-pub may_evaluate : (b : Bounding) (e : Expr) (i : Interval) → Ok i ≡ ranged b e → IsRanged (assignment_of nothing) e
+pub may_evaluate : (b : Bounding) (e : Expr) (i : Interval) → Ok i ≡ ranged b e → IsRanged (assignment_of nothing_known) e
 may_evaluate b e i is = record { ranges = b; lie = nothing_lies b; accepted = subst (λ (r : Result Interval RangeFault). IsOk r) is refl }
 
 pub ill : (s : Names) (part : Tree) (e : ResolveError) → Refuses (fault_of kinds.Number s part) e → Blames (ValueFault s part) e

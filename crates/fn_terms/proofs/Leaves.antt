@@ -13,7 +13,7 @@ use Rattle.fn_expr.specs.declared.expr.Expr.TheVariants as expr
 use Rattle.fn_expr.specs.declared.expr.Subject.{Subject}
 use Rattle.fn_expr.specs.declared.expr.Side.{Side}
 use Rattle.fn_expr.specs.declared.expr.Measure.{Measure}
-use Rattle.fn_profile.specs.declared.fault.ProfileFault.{ProfileFault}
+use Rattle.fn_normal.specs.declared.fault.ProfileFault.{ProfileFault}
 use Rattle.fn_terms.specs.declared.term.Kind.TheVariants as kinds
 use Rattle.fn_terms.specs.declared.term.Term.TheVariants.{Number}
 use Rattle.fn_terms.specs.Names.{Names, plain, subject_of, side_of, measure_of}

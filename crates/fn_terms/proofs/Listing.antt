@@ -13,9 +13,9 @@ use Rattle.fn_tree.specs.declared.tree.Constant.{Constant}
 use Rattle.fn_tree.specs.declared.tree.Method.{Method}
 use Rattle.fn_tree.specs.declared.tree.Part.{Part}
 use Rattle.fn_tree.specs.declared.tree.Part.TheVariants as parts
-use Rattle.fn_profile.specs.declared.fault.ResolveError.{ResolveError}
-use Rattle.fn_profile.specs.declared.fault.ResolveError.TheVariants as errors
-use Rattle.fn_profile.specs.Words.{word, is_new, with_word}
+use Rattle.fn_normal.specs.declared.fault.ResolveError.{ResolveError}
+use Rattle.fn_normal.specs.declared.fault.ResolveError.TheVariants as errors
+use Rattle.fn_normal.specs.Words.{word, is_new, with_word}
 use Rattle.fn_terms.specs.Constants.{constant_part, constants_in, constant_names, AreDistinct, AreValues, IsValue, next_value, IsFirstFault, ValueFault, Blames, earlier}
 
 take_next : {A : Type 0} → (xs : List A) (i : ℕ) (x : A) → i < length xs → x ≡ get_or xs i x → take (suc i) xs ≡ take i xs ++ x ∷ []

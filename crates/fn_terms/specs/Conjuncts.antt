@@ -7,8 +7,8 @@ use Rattle.fn_tree.specs.declared.tree.Expr.TheVariants as t
 use Rattle.fn_tree.specs.declared.tree.Operator.TheVariants.{And}
 use Rattle.fn_tree.specs.Spans.{span_of}
 use Rattle.fn_expr.specs.declared.expr.Cond.{Cond}
-use Rattle.fn_profile.specs.declared.profile.Constraint.{Constraint}
-use Rattle.fn_profile.specs.declared.profile.Constraint.TheVariants.{Enforce}
+use Rattle.fn_normal.specs.declared.profile.Constraint.{Constraint}
+use Rattle.fn_normal.specs.declared.profile.Constraint.TheVariants.{Enforce}
 use Rattle.fn_terms.specs.declared.term.Term.TheVariants.{Truth}
 use Rattle.fn_terms.specs.Names.{Names}
 use Rattle.fn_terms.specs.Means.{Means}

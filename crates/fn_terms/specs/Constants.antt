@@ -1,5 +1,4 @@
 -- The values of constants (docs/NOTATION.md, Constants).
-pub use Rattle.fn_terms.specs.Ranges.{anything, range_of, kind_of, of_range}
 use Rattle.std.specs.Prelude.{◌≡◌, ◌≢◌, ⊤, ℕ, ℤ, false, List, [], ◌∷◌, ◌++◌, map, Option, Some, None, Result, Ok, Err}
 use Rattle.std.specs.List.{filter_map, AllPairs}
 use Rattle.fn_source.specs.declared.span.Span.{Span}
@@ -10,28 +9,24 @@ use Rattle.fn_tree.specs.declared.tree.Part.TheVariants as parts
 use Rattle.fn_tree.specs.Spans.{span_of}
 use Rattle.fn_expr.specs.declared.expr.Expr.{Expr}
 use Rattle.fn_expr.specs.declared.interval.Interval.{Interval}
-use Rattle.fn_expr.specs.declared.known.Known.{Known}
 use Rattle.fn_expr.specs.declared.fault.RangeFault.{RangeFault}
-use Rattle.fn_expr.specs.Known.{assignment_of, no_numbers}
+use Rattle.fn_expr.specs.Known.{assignment_of, nothing_known}
 use Rattle.fn_expr.specs.Values.{val}
-use Rattle.fn_profile.specs.declared.fault.ProfileFault.{ProfileFault}
-use Rattle.fn_profile.specs.declared.fault.ProfileFaultKind.TheVariants as f
-use Rattle.fn_profile.specs.declared.fault.ResolveError.{ResolveError}
-use Rattle.fn_profile.specs.declared.fault.ResolveError.TheVariants as errors
-use Rattle.fn_profile.specs.Faults.{unnamed}
-use Rattle.fn_profile.specs.Words.{word}
+use Rattle.fn_normal.specs.declared.fault.ProfileFault.{ProfileFault}
+use Rattle.fn_normal.specs.declared.fault.ProfileFaultKind.TheVariants as f
+use Rattle.fn_normal.specs.declared.fault.ResolveError.{ResolveError}
+use Rattle.fn_normal.specs.declared.fault.ResolveError.TheVariants as errors
+use Rattle.fn_normal.specs.Faults.{of_range, unnamed}
+use Rattle.fn_normal.specs.Words.{word}
 use Rattle.fn_terms.specs.declared.term.Kind.TheVariants as kinds
 use Rattle.fn_terms.specs.declared.term.Term.TheVariants.{Number}
 use Rattle.fn_terms.specs.Names.{Names}
+use Rattle.fn_terms.specs.Ranges.{range_of}
 use Rattle.fn_terms.specs.Judged.{fault_of}
 use Rattle.fn_terms.specs.Means.{Means}
 
--- no attribute and no parameter has a number
-abbrev pub nothing : Known
-nothing = record { fields = []; whole = record { uncompressed = no_numbers; compressed = no_numbers }; parameters = [] }
-
 abbrev pub value_of : Expr → Option ℤ
-value_of e = val (assignment_of nothing) e
+value_of e = val (assignment_of nothing_known) e
 
 -- ---- the constants of a file
 

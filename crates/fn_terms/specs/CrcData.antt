@@ -12,7 +12,7 @@ use Rattle.fn_expr.specs.declared.expr.Measure.TheVariants.{Value, Length}
 use Rattle.fn_expr.specs.declared.expr.Subject.{Subject}
 use Rattle.fn_expr.specs.declared.expr.Side.{Side}
 use Rattle.fn_expr.specs.declared.expr.Expr.TheVariants as expr
-use Rattle.fn_profile.specs.declared.fault.ProfileFault.{ProfileFault}
+use Rattle.fn_normal.specs.declared.fault.ProfileFault.{ProfileFault}
 use Rattle.fn_terms.specs.declared.crc_data.CrcData.{CrcData}
 use Rattle.fn_terms.specs.declared.term.Term.{Term}
 use Rattle.fn_terms.specs.declared.term.Term.TheVariants.{Number}

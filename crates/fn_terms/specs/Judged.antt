@@ -20,11 +20,11 @@ use Rattle.fn_expr.specs.declared.expr.Expr.TheVariants as expr
 use Rattle.fn_expr.specs.declared.expr.Expr.TheVariants.{Parameter, Binary'}
 use Rattle.fn_expr.specs.declared.expr.Cond.{Cond}
 use Rattle.fn_expr.specs.declared.expr.Cond.TheVariants.{Constant, Compare, Not', And', Or'}
-use Rattle.fn_profile.specs.declared.fault.ProfileFault.{ProfileFault}
-use Rattle.fn_profile.specs.declared.fault.ProfileFaultKind.TheVariants as f
-use Rattle.fn_profile.specs.declared.fault.ResolveError.{ResolveError}
-use Rattle.fn_profile.specs.declared.fault.ResolveError.TheVariants as errors
-use Rattle.fn_profile.specs.Faults.{about, unnamed}
+use Rattle.fn_normal.specs.declared.fault.ProfileFault.{ProfileFault}
+use Rattle.fn_normal.specs.declared.fault.ProfileFaultKind.TheVariants as f
+use Rattle.fn_normal.specs.declared.fault.ResolveError.{ResolveError}
+use Rattle.fn_normal.specs.declared.fault.ResolveError.TheVariants as errors
+use Rattle.fn_normal.specs.Faults.{about, unnamed}
 use Rattle.fn_terms.specs.declared.term.Kind.{Kind}
 use Rattle.fn_terms.specs.declared.term.Kind.TheVariants.{Number, Truth}
 use Rattle.fn_terms.specs.declared.term.Term.{Term}

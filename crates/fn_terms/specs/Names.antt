@@ -15,7 +15,7 @@ use Rattle.fn_expr.specs.declared.expr.Subject.{Subject}
 use Rattle.fn_expr.specs.declared.expr.Subject.TheVariants as subjects
 use Rattle.fn_expr.specs.declared.expr.Expr.{Expr}
 use Rattle.fn_expr.specs.declared.expr.Expr.TheVariants as expr
-use Rattle.fn_profile.specs.Words.{word}
+use Rattle.fn_normal.specs.Words.{word}
 
 pub record Names : Type 0 where
   pub text : List ℕ

@@ -8,12 +8,12 @@ use crate::scope::Scope;
 use crate::term::{Term, wrong_kind};
 use crate::typing::term;
 use fn_expr::{Attribute, Expr, Measure, Side, Subject};
-use fn_profile::ResolveError;
+use fn_normal::ResolveError;
 use fn_tree::tree;
 use std::alloc::Global;
 
 /// The bits of a side of a field or of the whole.
-#[derive(Clone, Copy, Debug, PartialEq, Eq)]
+#[derive(Clone, Copy, PartialEq, Eq)]
 pub struct CrcData {
     pub subject: Subject,
     pub side: Side,

@@ -7,7 +7,7 @@ ghost use Rattle.fn_terms.specs.Conjuncts as spec;
 use crate::scope::Scope;
 use crate::term::Kind;
 use crate::typing::condition;
-use fn_profile::{Constraint, ResolveError};
+use fn_normal::{Constraint, ResolveError};
 use fn_tree::tree;
 use sqlite_items::Items;
 use std::alloc::Global;

@@ -6,7 +6,7 @@ ghost use Rattle.fn_terms.specs.Constants.{earlier};
 ghost use Rattle.fn_terms.specs.Judged.{owner_fault, place_of};
 
 use fn_expr::{Expr, Measure, Side, Subject};
-use fn_profile::{ProfileFault, ProfileFaultKind, Words, word};
+use fn_normal::{ProfileFault, ProfileFaultKind, Words, word};
 use fn_source::Span;
 use fn_tree::tree;
 use std::marker::Model;

@@ -5,7 +5,7 @@ ghost use Rattle.fn_terms.specs.Constants as spec;
 
 use crate::constant::constant_value;
 use crate::scope::Scope;
-use fn_profile::{ResolveError, Words, word};
+use fn_normal::{ResolveError, Words, word};
 use fn_tree::tree;
 use sqlite_items::Items;
 use std::alloc::{AllocError, Global};

@@ -5,26 +5,26 @@ ghost use Rattle.fn_terms.specs.Judged as spec;
 ghost use Rattle.fn_terms.specs.Operators as operators;
 
 use fn_expr::{Comparison, Cond, Expr, Operator};
-use fn_profile::{ProfileFault, ProfileFaultKind};
+use fn_normal::{ProfileFault, ProfileFaultKind};
 use fn_source::Span;
 use fn_tree::tree;
 
 /// What an expression is of: whole numbers, or truth.
-#[derive(Clone, Copy, Debug, PartialEq, Eq)]
+#[derive(Clone, Copy, PartialEq, Eq)]
 pub enum Kind {
     Number,
     Truth,
 }
 
 /// A typed expression of either kind.
-#[derive(Debug, Drop)]
+#[derive(Drop)]
 pub enum Term {
     Number(Expr),
     Truth(Cond),
 }
 
 /// What an operator means.
-#[derive(Clone, Copy, Debug, PartialEq, Eq)]
+#[derive(Clone, Copy, PartialEq, Eq)]
 pub enum Meaning {
     Arithmetic(Operator),
     Comparison(Comparison),

@@ -10,7 +10,7 @@ use crate::ranges::within;
 use crate::scope::{Scope, measure, side};
 use crate::term::{Kind, Meaning, Term, meaning_of, wrong_kind};
 use fn_expr::{Attribute, Cond, Expr, Operator};
-use fn_profile::{ProfileFault, ProfileFaultKind, ResolveError};
+use fn_normal::{ProfileFault, ProfileFaultKind, ResolveError};
 use fn_source::Span;
 use fn_tree::tree;
 use sqlite_items::Items;

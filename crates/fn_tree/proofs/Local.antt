@@ -67,7 +67,8 @@ stands_after f.TooManyParts at first front rest (inr h) =
     inr (h.0, first ++ h.1, ap (λ (us : List Token). first ++ us) h.2 ∙ sym (append_assoc first h.1 (name_at h.0 ∷ [])), h.3)
 stands_after f.EmptyBracket at first front rest h =
     (h.0, h.1, first ++ h.2, h.3, ap (λ (us : List Token). first ++ us) h.4 ∙ sym (append_assoc first h.2 (mark m.OpenSquare h.0 ∷ [])), h.5, h.6)
-stands_after _ at first front rest h = tt
+stands_after f.MixedRemainder at first front rest h = tt
+stands_after _ at first front rest h = absurd h
 
 pub ok_is : {A : Type 0} {x y : A} → ◌≡◌ {A = Result A Refusal} (Ok x) (Ok y) → x ≡ y
 ok_is e = cc

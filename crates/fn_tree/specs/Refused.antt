@@ -1,5 +1,5 @@
 -- What a refusal says of the tokens.
-use Rattle.std.specs.Prelude.{◌≡◌, ℕ, ◌⊎◌, Bool, true, false, List, [], ◌∷◌, ◌++◌, None}
+use Rattle.std.specs.Prelude.{◌≡◌, ℕ, ◌⊎◌, Bool, true, false, List, [], ◌∷◌, ◌++◌}
 use Rattle.fn_source.specs.declared.span.Span.{Span}
 use Rattle.fn_source.specs.declared.fault.Fault.{Fault}
 use Rattle.fn_source.specs.declared.fault.FaultKind.{FaultKind}
@@ -58,7 +58,7 @@ stands_once _ = false
 
 -- Where a fault stands, if the tokens in front are taken and the rest begins with the one that can't go on: at that
 -- one, which is `(` or `!` (nesting) or the word of a section that may not repeat; at the NAME before it (a constant or
--- method too many); or at the `[` before it (an empty bracket).
+-- method too many); or at the `[` before it (an empty bracket). Where a `%` is refused, `AtPercent` says. No other fault is of the grammar.
 abbrev pub Stands : FaultKind → Place → List Token → List Token → Type 0
 Stands f.Unexpected at front rest = at ≡ place rest
 Stands f.Nesting at front rest = (at ≡ place rest) × (begins nests rest ≡ true)
@@ -66,7 +66,8 @@ Stands f.RepeatedSection at front rest = (at ≡ place rest) × (begins stands_o
 Stands f.TooManyParts at front rest = (at ≡ place rest) ⊎ ((name : Span) × (start : List Token) × (front ≡ start ++ name_at name ∷ []) × (at ≡ places.At name))
 Stands f.EmptyBracket at front rest = (first last : Span) × (start after : List Token)
     × (front ≡ start ++ mark m.OpenSquare first ∷ []) × (rest ≡ mark m.CloseSquare last ∷ after) × (at ≡ places.At first)
-Stands _ at front rest = Unit {0}
+Stands f.MixedRemainder at front rest = Unit {0}
+Stands _ at front rest = ⊥
 
 -- one of the tokens is a `%` at this place
 abbrev pub IsPercent : List Token → Span → Type 0
@@ -92,7 +93,7 @@ span_at len (places.At at) = at
 span_at len places.End = record { from = len; to = len }
 
 abbrev pub fault_of : ℕ → Refusal → Fault
-fault_of len refusal = record { kind = refusal.kind; at = span_at len refusal.at; first = None; second = None }
+fault_of len refusal = record { kind = refusal.kind; at = span_at len refusal.at }
 
 -- What a failed reading says of the tokens, in a text of so many octets.
 abbrev pub Refuses : ℕ → List Token → SourceError → Type 0

@@ -27,8 +27,6 @@ fn fault_of(len: usize, refusal: Refusal) -> Fault
     Fault {
         kind: refusal.kind,
         at,
-        first: None,
-        second: None,
     }
 }
 

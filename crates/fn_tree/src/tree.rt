@@ -1,13 +1,14 @@
 //! The tree of a profile, as its grammar gives it. Names are places of the text.
 
 ghost use Rattle.std.specs.Prelude.{◌≡◌};
+ghost use Rattle.fn_tree.specs.Limits.{is_initial_kind};
 ghost use Rattle.fn_tree.specs.Spans as spec;
 
 use fn_source::Span;
 use sqlite_items::{Boxed, Items};
 
 /// An operator between two operands. `!` is none.
-#[derive(Clone, Copy, Debug, PartialEq, Eq)]
+#[derive(Clone, Copy, PartialEq, Eq)]
 pub enum Operator {
     /// `^`
     Power,
@@ -40,7 +41,7 @@ pub enum Operator {
 }
 
 /// A word that can stand after the dot.
-#[derive(Clone, Copy, Debug, PartialEq, Eq)]
+#[derive(Clone, Copy, PartialEq, Eq)]
 pub enum Attribute {
     Uvalue,
     Ulength,
@@ -49,7 +50,7 @@ pub enum Attribute {
 }
 
 /// What an attribute belongs to.
-#[derive(Clone, Copy, Debug, PartialEq, Eq)]
+#[derive(Clone, Copy, PartialEq, Eq)]
 pub enum Owner {
     /// The field of this name.
     Field(Span),
@@ -58,7 +59,7 @@ pub enum Owner {
 }
 
 /// An expression, whole number or boolean. The first place of each case is that of the whole part.
-#[derive(Debug, Drop)]
+#[derive(Drop)]
 pub enum Expr {
     Number(Span, u64),
     /// A minus sign and a number.
@@ -95,7 +96,7 @@ impl Expr {
 }
 
 /// How a field is encoded.
-#[derive(Debug, Drop)]
+#[derive(Drop)]
 pub enum Encoding {
     /// A bit text: its place, how many digits it has, and the number that they spell.
     Bits(Span, usize, u64),
@@ -104,7 +105,7 @@ pub enum Encoding {
 }
 
 /// What square brackets hold. The place goes from `[` to `]`.
-#[derive(Debug, Drop)]
+#[derive(Drop)]
 pub enum Bracket {
     /// `VARIABLE`
     Variable(Span),
@@ -112,7 +113,7 @@ pub enum Bracket {
 }
 
 /// A field that is bound to its encoding by `=:=`.
-#[derive(Debug, Drop)]
+#[derive(Drop)]
 pub struct Bound {
     pub name: Span,
     pub encoding: Encoding,
@@ -120,7 +121,7 @@ pub struct Bound {
 }
 
 /// A statement of a section.
-#[derive(Debug, Drop)]
+#[derive(Drop)]
 pub enum Item {
     /// A field's name and its bracket, without an encoding.
     Field(Span, Option<Bracket>),
@@ -130,7 +131,7 @@ pub enum Item {
 }
 
 /// What a section gives.
-#[derive(Clone, Copy, Debug, PartialEq, Eq)]
+#[derive(Clone, Copy, PartialEq, Eq)]
 pub enum SectionKind {
     Uncompressed,
     Control,
@@ -140,8 +141,20 @@ pub enum SectionKind {
     Compressed(Option<Span>),
 }
 
+impl SectionKind {
+    /// Whether the section is INITIAL.
+    pub fn is_initial(self) -> bool
+        ensures { result ≡ is_initial_kind self }
+    {
+        match self {
+            SectionKind::Initial => true,
+            _ => false,
+        }
+    }
+}
+
 /// A section of a method. The sections INITIAL and DEFAULT hold only bound fields.
-#[derive(Debug, Drop)]
+#[derive(Drop)]
 pub struct Section {
     pub kind: SectionKind,
     /// The place of the section's first word.
@@ -149,27 +162,27 @@ pub struct Section {
     pub items: Items<Item>,
 }
 
-#[derive(Debug, Drop)]
+#[derive(Drop)]
 pub struct Constant {
     pub name: Span,
     pub value: Expr,
 }
 
-#[derive(Debug, Drop)]
+#[derive(Drop)]
 pub struct Method {
     pub name: Span,
     pub parameters: Items<Span>,
     pub sections: Items<Section>,
 }
 
-#[derive(Debug, Drop)]
+#[derive(Drop)]
 pub enum Part {
     Constant(Constant),
     Method(Method),
 }
 
 /// A profile: its constants and methods, in the order of the text.
-#[derive(Debug, Drop)]
+#[derive(Drop)]
 pub struct File {
     pub parts: Items<Part>,
 }

@@ -5,3 +5,7 @@ pub mod ProgramReplies
 pub mod Replying
 pub mod WordsLemmas
 pub mod WordsRead
+pub mod BundleHeld
+pub mod BundleLines
+pub mod BundleParts
+pub mod BundleSpelled

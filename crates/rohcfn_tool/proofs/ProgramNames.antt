@@ -2,8 +2,8 @@
 use Rattle.std.proofs.Common.{◌≡◌, ◌∙◌, ℕ, Bool, true, false, List, if◌then◌else◌, refl, sym, ap, Bor, codes}
 use Rattle.std.specs.Str.{IsUtf8, is_utf8}
 use Rattle.std.proofs.lemmas.Str.{IsUtf8-from_is_utf8, is_utf8-from_IsUtf8}
-use Rattle.rohcfn_bundle.specs.declared.bundle.BadPart.{BadPart}
-use Rattle.rohcfn_bundle.specs.declared.bundle.BadPart.TheVariants.{Named}
+use Rattle.rohcfn_tool.specs.declared.bundle.BadPart.{BadPart}
+use Rattle.rohcfn_tool.specs.declared.bundle.BadPart.TheVariants.{Named}
 use Rattle.rohcfn_tool.specs.Program.{shown_name}
 
 pub not_utf8 : (text : List ℕ) → ¬ (IsUtf8 text) → is_utf8 text ≡ false

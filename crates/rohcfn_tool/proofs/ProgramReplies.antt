@@ -7,11 +7,11 @@ use Rattle.std.specs.Str.Lines.{lines}
 use Rattle.std.proofs.lemmas.Bool.Decides.{Decides-eqb}
 use Rattle.std.proofs.lemmas.List.{length-map}
 use Rattle.std.proofs.lemmas.Str.{is_utf8-from_IsUtf8}
-use Rattle.rohcfn_bundle.specs.Bundle.{BlamesPart, HoldsParts, IsBundle, parts_of}
+use Rattle.rohcfn_tool.specs.Bundle.{BlamesPart, HoldsParts, IsBundle, parts_of}
 use Rattle.rohcfn_tool.specs.Program.{RunPrints, RefusesBy, Replies, RepliesBy, Tells, TellsBy, bad_part_line, large_line, most_octets, shown_name, words_in, words_of, words_of_line}
 use Rattle.rohcfn_tool.specs.Program.RunPrints.{large, bad_part, no_words, answered}
-use Rattle.rohcfn_bundle.specs.declared.bundle.BadPart.{BadPart}
-use Rattle.rohcfn_bundle.specs.declared.bundle.Parts.{Parts}
+use Rattle.rohcfn_tool.specs.declared.bundle.BadPart.{BadPart}
+use Rattle.rohcfn_tool.specs.declared.bundle.Parts.{Parts}
 use Rattle.rohcfn_tool.specs.declared.program.Reply.{Reply}
 use Rattle.rohcfn_tool.specs.declared.program.Reply.TheVariants.{Print, Tell}
 use Rattle.rohcfn_tool.specs.declared.status.Status.{Status}

@@ -5,15 +5,15 @@ use Rattle.std.specs.Prelude.{Some, None, codes, decimal, Result, Ok, Err, IfOk,
 use Rattle.std.specs.Global.{Global}
 use Rattle.std.specs.declared.alloc.AllocError.{AllocError}
 use Rattle.std.proofs.lemmas.List.{append-nil, drop_more, drop_all}
-use Rattle.fn_names.specs.Resolved.{Resolved}
-use Rattle.fn_profile.specs.declared.fault.ProfileFault.{ProfileFault}
+use Rattle.fn_profile.specs.Resolved.{Resolved}
+use Rattle.fn_normal.specs.declared.fault.ProfileFault.{ProfileFault}
 use Rattle.fn_source.specs.declared.fault.Fault.{Fault}
-use Rattle.fn_reading.specs.Readings.{HasCause, IsTextFault, Reads}
+use Rattle.fn_names.specs.Readings.{HasCause, IsTextFault, Reads}
 use Rattle.fn_show.specs.Shown as listing
 use Rattle.rohcfn_tool.specs.declared.status.Answer.{Answer}
 use Rattle.rohcfn_tool.specs.declared.status.Status.{Status}
 use Rattle.rohcfn_tool.specs.declared.status.Status.TheVariants as status
-use Rattle.rohcfn_bundle.specs.declared.bundle.Parts.{Parts}
+use Rattle.rohcfn_tool.specs.declared.bundle.Parts.{Parts}
 use Rattle.rohcfn_tool.specs.declared.words.Command.TheVariants.{Show, Run}
 use Rattle.rohcfn_tool.specs.declared.words.Direction.{Direction}
 use Rattle.rohcfn_tool.specs.declared.words.Order.{Order}

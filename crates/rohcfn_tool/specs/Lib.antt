@@ -2,3 +2,4 @@ pub mod Printed
 pub mod Program
 pub mod Status
 pub mod Words
+pub mod Bundle

@@ -6,10 +6,10 @@ use Rattle.fn_bits.specs.Text.{IsText, ReadsAs}
 use Rattle.fn_bits.specs.Lines.{numbered_lines, broken_line}
 use Rattle.fn_source.specs.declared.fault.Fault.{Fault}
 use Rattle.fn_source.specs.Faults.{code_of}
-use Rattle.fn_profile.specs.declared.fault.ProfileFault.{ProfileFault}
-use Rattle.fn_profile.specs.Faults as profiles
-use Rattle.fn_names.specs.Resolved.{Resolved}
-use Rattle.fn_reading.specs.Readings.{HasCause, IsTextFault, Reads}
+use Rattle.fn_normal.specs.declared.fault.ProfileFault.{ProfileFault}
+use Rattle.fn_normal.specs.Faults as profiles
+use Rattle.fn_profile.specs.Resolved.{Resolved}
+use Rattle.fn_names.specs.Readings.{HasCause, IsTextFault, Reads}
 use Rattle.fn_show.specs.Shown as listing
 use Rattle.fn_show.specs.Texts.{fault_words}
 use Rattle.fn_source.specs.Places.{line_of, column_of}
@@ -17,7 +17,7 @@ use Rattle.fn_filling.specs.declared.filling.Filling.{Filling}
 use Rattle.fn_filling.specs.Fillings.{header, packed, item}
 use Rattle.fn_fits.specs.Fits.{Context}
 use Rattle.fn_fits.specs.Fronts.{InFronts}
-use Rattle.rohcfn_bundle.specs.declared.bundle.Parts.{Parts}
+use Rattle.rohcfn_tool.specs.declared.bundle.Parts.{Parts}
 use Rattle.fn_engine.specs.declared.reader.UnpackFault.{UnpackFault}
 use Rattle.fn_engine.specs.declared.reader.UnpackFault.TheVariants.{Truncated, Refused, OutOfMemory}
 use Rattle.rohcfn_tool.specs.declared.status.Answer.{Answer}

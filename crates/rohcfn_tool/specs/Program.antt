@@ -4,12 +4,12 @@ use Rattle.std.specs.Str.{is_utf8}
 use Rattle.std.specs.Str.Lines.{lines}
 use Rattle.std.specs.List.{slice_split}
 use Rattle.std.specs.Io.KnownBytes.{Appends, Keeps}
-use Rattle.rohcfn_bundle.specs.Bundle.{BlamesPart, HoldsParts, IsBundle, parts_of, text_named}
+use Rattle.rohcfn_tool.specs.Bundle.{BlamesPart, HoldsParts, IsBundle, parts_of, text_named}
 use Rattle.rohcfn_tool.specs.Printed.{Answered}
 use Rattle.rohcfn_tool.specs.Words.{AskHelp, asked, asked_of}
-use Rattle.rohcfn_bundle.specs.declared.bundle.BadPart.{BadPart}
-use Rattle.rohcfn_bundle.specs.declared.bundle.BadPart.TheVariants.{Front, Named}
-use Rattle.rohcfn_bundle.specs.declared.bundle.Parts.{Parts}
+use Rattle.rohcfn_tool.specs.declared.bundle.BadPart.{BadPart}
+use Rattle.rohcfn_tool.specs.declared.bundle.BadPart.TheVariants.{Front, Named}
+use Rattle.rohcfn_tool.specs.declared.bundle.Parts.{Parts}
 use Rattle.rohcfn_tool.specs.declared.program.Input.{Input}
 use Rattle.rohcfn_tool.specs.declared.program.Input.TheVariants.{Whole, Large}
 use Rattle.rohcfn_tool.specs.declared.program.Outcome.{Outcome}

@@ -1,6 +1,7 @@
 //! The program, octets in to octets out.
 #![tactic(auto)]
 
+pub mod bundle;
 pub mod inputs;
 pub mod program;
 pub mod replies;

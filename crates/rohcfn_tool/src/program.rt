@@ -5,15 +5,15 @@ ghost use Rattle.std.specs.Str.Lines.{lines};
 ghost use Rattle.std.specs.Io.KnownBytes.{Appends, Consumes, IsAtEnd};
 ghost use Rattle.rohcfn_tool.specs.Program.{IsInput, IsShortInput, large_line, RefusesBy, Replies, RepliesBy, RunGives, bad_part_line, most_octets, shown_name, words_in};
 
+use crate::bundle::{BadPart, Parts, split};
 use crate::replies::answer;
 use crate::status::{Answer, Status};
 use crate::words::{WordsError, read_order};
-use rohcfn_bundle::{BadPart, Parts, split};
 use std::alloc::{AllocError, Global};
 use std::io::{Read, Write};
 
 /// How a run ended, and the text for the person who called, of a usage fault or a request for help.
-#[derive(Debug, Drop)]
+#[derive(Drop)]
 pub struct Outcome {
     pub status: Status,
     pub usage: Option<String>,
@@ -34,7 +34,7 @@ enum Reply {
 }
 
 // A read failed, or memory was refused.
-#[derive(Debug, Drop)]
+#[derive(Drop)]
 struct Stopped;
 
 impl From<AllocError> for Stopped {

@@ -4,20 +4,20 @@ ghost use Rattle.std.specs.Prelude.{◌≡◌, ◌∷◌, ◌++◌, [], ℕ, Lis
 ghost use Rattle.fn_engine.specs.Fragment.{IsFragment};
 ghost use Rattle.rohcfn_tool.specs.Printed.{IsPrinted, IsProfileFault, IsRefusal, Prints, Answers, AnswersBy, AnswersFor, AnswersRun, input_name, bad_line_words};
 
+use crate::bundle::Parts;
 use crate::inputs::{BadLine, read_inputs};
 use crate::showing::{answer_listing, error_line};
 use crate::status::{Answer, Status};
 use crate::words::{Command, Direction, Order};
 use fn_bits::{Bits, Cursor};
 use fn_engine::{Fragment, PackFault, Read, UnpackFault, Written, pack, unpack};
-use fn_names::Profile;
-use fn_reading::read;
+use fn_names::read;
+use fn_profile::Profile;
 use fn_source::{Fault, line_column};
-use rohcfn_bundle::Parts;
 use std::alloc::{AllocError, Global};
 
 /// A line of the output.
-#[derive(Debug, Drop)]
+#[derive(Drop)]
 pub enum Printed {
     /// The line of an item or a packet.
     Line(String),

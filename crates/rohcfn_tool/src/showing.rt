@@ -1,15 +1,15 @@
 //! What is printed of a profile alone.
 
 ghost use Rattle.std.specs.Prelude.{◌≡◌, ℕ, List, IfOk, string_bytes};
-ghost use Rattle.fn_reading.specs.Readings.{Refuses};
+ghost use Rattle.fn_names.specs.Readings.{Refuses};
 ghost use Rattle.fn_show.specs.Shown as listing;
 ghost use Rattle.rohcfn_tool.specs.Printed.{IsFaultLine, Shows, cause_line};
 
 use crate::replies::{fault_line, profile_line, refusal};
 use crate::status::{Answer, Status};
-use fn_names::Profile;
-use fn_profile::ProfileFault;
-use fn_reading::{ReadError, read};
+use fn_names::{ReadError, read};
+use fn_normal::ProfileFault;
+use fn_profile::Profile;
 use fn_show::{fault_text, show};
 use fn_source::line_column;
 use std::alloc::{AllocError, Global};

@@ -10,7 +10,7 @@ use std::alloc::{AllocError, AllocFailed, Global};
 use thiserror::Error;
 
 /// What the program does.
-#[derive(Clone, Copy, Debug, PartialEq, Eq)]
+#[derive(Clone, Copy, PartialEq, Eq)]
 pub enum Command {
     /// Lists what the part `profile` says.
     Show,
@@ -19,7 +19,7 @@ pub enum Command {
 }
 
 /// From which lines to which.
-#[derive(Clone, Copy, Debug, PartialEq, Eq)]
+#[derive(Clone, Copy, PartialEq, Eq)]
 pub enum Direction {
     /// Items to packed bits.
     Pack,
@@ -28,7 +28,7 @@ pub enum Direction {
 }
 
 /// A call: the command, and the name of the method at which it starts.
-#[derive(Clone, Copy, Debug)]
+#[derive(Clone, Copy)]
 pub struct Order<'a> {
     pub command: Command,
     pub top: &'a str,

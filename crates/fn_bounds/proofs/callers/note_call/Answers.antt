@@ -1,7 +1,7 @@
 use Rattle.std.proofs.Common.{◌≡◌, ◌∙◌, sym, subst, IfOk, nat_eq}
 use Rattle.std.specs.Prelude.{slice_get}
 use Rattle.std.proofs.lemmas.Result.{IfOk-weaker}
-use Rattle.fn_profile.specs.declared.profile.Encoding.{Encoding}
+use Rattle.fn_normal.specs.declared.profile.Encoding.{Encoding}
 use Rattle.fn_bounds.specs.Passes.{changed}
 use Rattle.fn_bounds.specs.Parameters.{is_call}
 use Rattle.fn_bounds.specs.Callers.{ending, noted}

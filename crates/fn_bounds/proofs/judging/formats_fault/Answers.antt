@@ -2,8 +2,8 @@ use Rattle.std.proofs.Common.{◌∙◌, ap, List}
 use Rattle.std.specs.Prelude.{slice_get, Option}
 use Rattle.std.specs.Option.{option_copied}
 use Rattle.fn_expr.specs.declared.interval.Interval.{Interval}
-use Rattle.fn_profile.specs.declared.profile.FormatSizes.{FormatSizes}
-use Rattle.fn_profile.specs.Judging.{earlier}
+use Rattle.fn_normal.specs.declared.profile.FormatSizes.{FormatSizes}
+use Rattle.fn_normal.specs.Judging.{earlier}
 use Rattle.fn_bounds.specs.Faults.{sized_fault}
 use Rattle.fn_bounds.proofs.Places.{folded-step}
 use Rattle.fn_bounds.proofs.judging.formats_fault.Goals as goal

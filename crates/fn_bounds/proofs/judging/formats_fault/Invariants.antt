@@ -1,6 +1,6 @@
 use Rattle.std.proofs.Common.{◌≡◌, take, None}
 use Rattle.std.specs.Prelude.{slice_get}
-use Rattle.fn_profile.specs.Judging.{earlier}
+use Rattle.fn_normal.specs.Judging.{earlier}
 use Rattle.fn_bounds.specs.Faults.{sized_fault}
 use Rattle.fn_bounds.specs.Passes.{folded}
 use Rattle.fn_bounds.proofs.judging.formats_fault.Given as goal

@@ -1,7 +1,7 @@
 use Rattle.std.proofs.Common.{◌∙◌, ap, refl}
 use Rattle.std.specs.Prelude.{slice_get, Option}
-use Rattle.fn_profile.specs.declared.profile.MethodSizes.{MethodSizes}
-use Rattle.fn_profile.specs.Judging.{earlier}
+use Rattle.fn_normal.specs.declared.profile.MethodSizes.{MethodSizes}
+use Rattle.fn_normal.specs.Judging.{earlier}
 use Rattle.fn_bounds.specs.Faults.{method_fault}
 use Rattle.fn_bounds.proofs.Places.{folded-step}
 use Rattle.fn_bounds.proofs.judging.methods_fault.Goals as goal

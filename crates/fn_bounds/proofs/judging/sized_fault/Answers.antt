@@ -1,7 +1,7 @@
 use Rattle.std.proofs.Common.{◌∙◌, ap, sym, Bor, Option}
 use Rattle.std.specs.Option.{option_copied}
 use Rattle.fn_expr.specs.declared.ranges.Ranges.{Ranges}
-use Rattle.fn_profile.specs.declared.profile.FormatSizes.{FormatSizes}
+use Rattle.fn_normal.specs.declared.profile.FormatSizes.{FormatSizes}
 use Rattle.fn_bounds.specs.Faults.{format_fault, sized_fault}
 use Rattle.fn_bounds.proofs.judging.sized_fault.Goals as goal
 

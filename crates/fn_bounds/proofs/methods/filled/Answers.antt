@@ -1,7 +1,7 @@
 use Rattle.std.proofs.Common.{sym, subst, List, arith}
 use Rattle.std.proofs.lemmas.Option.{slice_get-get_or, slice_get_within}
 use Rattle.std.proofs.lemmas.Result.{err_from_is_err_and}
-use Rattle.fn_profile.specs.declared.profile.MethodSizes.{MethodSizes}
+use Rattle.fn_normal.specs.declared.profile.MethodSizes.{MethodSizes}
 use Rattle.fn_bounds.specs.Methods.{HasSizes, OverIn}
 use Rattle.fn_bounds.proofs.Tables.{sized-more, blamed}
 use Rattle.fn_bounds.proofs.methods.filled.Goals as goal

@@ -1,6 +1,6 @@
 use Rattle.std.proofs.Common.{List, subst}
-use Rattle.fn_profile.specs.Judging.{Judged}
-use Rattle.fn_profile.specs.declared.profile.MethodSizes.{MethodSizes}
+use Rattle.fn_normal.specs.Judging.{Judged}
+use Rattle.fn_normal.specs.declared.profile.MethodSizes.{MethodSizes}
 use Rattle.fn_bounds.specs.declared.known.Extent.TheVariants.{Whole, Known}
 use Rattle.fn_bounds.specs.Outcome.{IsFine, IsFaulty}
 use Rattle.fn_bounds.proofs.Earliest.{are-sizes, one-faulty}

@@ -1,5 +1,5 @@
 use Rattle.std.proofs.Common.{ℕ, ◌<◌}
-use Rattle.fn_profile.specs.Judging.{Judged}
+use Rattle.fn_normal.specs.Judging.{Judged}
 use Rattle.fn_bounds.specs.Methods.{IsWithinAt, IsWide}
 use Rattle.fn_bounds.proofs.methods.widest.Given as goal
 

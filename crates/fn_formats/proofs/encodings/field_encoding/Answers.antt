@@ -1,7 +1,7 @@
 use Rattle.std.proofs.Common.{subst, IfOk}
 use Rattle.std.proofs.lemmas.Result.{IfOk-weaker}
 use Rattle.fn_formats.specs.Encodings.{GivenMeans, bare, encoded}
-use Rattle.fn_profile.specs.declared.profile.Encoding.TheVariants.{Bare}
+use Rattle.fn_normal.specs.declared.profile.Encoding.TheVariants.{Bare}
 use Rattle.fn_formats.proofs.encodings.field_encoding.Goals as goal
 
 pub returns-in_default-clause-means : goal.returns-in_default-clause-means

@@ -20,7 +20,7 @@ loop-choice-preserved c =
           c.loop-choice-test.true c.loop-choice.invariant w.in-Ok.ensures.right w.in-Ok.ensures.means (w.found-is ∙ w.in_ok-push-in-Ok.ensures.ok) w.fault-is
       | in-Err+in_ok-fault_of-in-Err w ↦
           refused_at (FieldMeans scope methods sections) (field_fault scope methods sections) c.args.chosen.now c.loop-choice.choice-index None _ _ _ _ _
-          c.loop-choice-test.true c.loop-choice.invariant (refused_is _ _ _ w.in-Err.ensures.refused w.in_ok-fault_of-in-Err.ensures) w.found-is (w.fault-is ∙ w.earlier-fault.ensures)
+          c.loop-choice-test.true c.loop-choice.invariant (refused_is _ _ _ w.in-Err.ensures.refused w.in_ok-fault_of-in-Err.ensures.fault) w.found-is (w.fault-is ∙ w.earlier-fault.ensures)
     ]
 
 pub returns-clause-fault : goal.returns-clause-fault

@@ -1,6 +1,6 @@
 use Rattle.std.proofs.Common.{◌∙◌, ap, sym, refl, ◌+◌, take}
 use Rattle.std.proofs.lemmas.Option.{slice_get_read}
-use Rattle.fn_profile.specs.Words.{word}
+use Rattle.fn_normal.specs.Words.{word}
 use Rattle.fn_given.specs.Asked.{AskedOn}
 use Rattle.fn_given.proofs.ItemsAsked.{asked_none, asked_one, asked_no_more, ask_more}
 use Rattle.fn_given.proofs.asking.ask_items.Goals as goal

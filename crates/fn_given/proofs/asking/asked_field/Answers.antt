@@ -9,4 +9,4 @@ pub returns-in-Ok : goal.returns-in-Ok
 returns-in-Ok c = field_asked _ c.in-Ok.ensures.value (sym (rw (c.word.ensures, c.text.ensures) at c.if-is_set.ensures))
 
 pub returns-in_ok-_fault-in-Err : goal.returns-in_ok-_fault-in-Err
-returns-in_ok-_fault-in-Err c = field_valueless c.in_ok-_fault-in-Err._fault (rw c.in_ok-_fault-in-Err.ensures at c.in-Err.ensures.refused)
+returns-in_ok-_fault-in-Err c = field_valueless c.in_ok-_fault-in-Err._fault (rw c.in_ok-_fault-in-Err.ensures.fault at c.in-Err.ensures.refused)

@@ -1,6 +1,6 @@
 use Rattle.std.proofs.Common.{◌∙◌, sym, ap}
 use Rattle.std.proofs.lemmas.Result.{on_ok_weaker}
-use Rattle.fn_profile.specs.Words.{word}
+use Rattle.fn_normal.specs.Words.{word}
 use Rattle.fn_given.proofs.BoundsRead.{read_bits, read_fault}
 use Rattle.fn_given.proofs.initial.read_bound.Goals as goal
 
@@ -11,4 +11,4 @@ returns-in-Ok c =
 
 pub returns-in_ok-fault-in-Err : goal.returns-in_ok-fault-in-Err
 returns-in_ok-fault-in-Err c =
-    read_fault c.args.scope.now c.args.bound.now c.in_ok-fault-in-Err.fault _ _ _ _ (rw c.in_ok-fault-in-Err.ensures at c.in-Err.ensures.refused) c.earlier-initials.ensures
+    read_fault c.args.scope.now c.args.bound.now c.in_ok-fault-in-Err.fault _ _ _ _ (rw c.in_ok-fault-in-Err.ensures.fault at c.in-Err.ensures.refused) c.earlier-initials.ensures

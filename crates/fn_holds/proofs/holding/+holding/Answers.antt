@@ -3,7 +3,7 @@ use Rattle.std.specs.Prelude.{slice_get, Option, Some, IfSome, IsTrue, ◌↔◌
 use Rattle.std.proofs.lemmas.Option.{slice_get_read}
 use Rattle.fn_context.specs.Entries.{bits_at}
 use Rattle.fn_expr.specs.Known.{assignment_of}
-use Rattle.fn_profile.specs.declared.profile.Encoding.TheVariants as encoding
+use Rattle.fn_normal.specs.declared.profile.Encoding.TheVariants as encoding
 use Rattle.fn_bounds.specs.Laws.{in_encoding, encoding_exprs}
 use Rattle.fn_filling.specs.Fillings.{fields_of}
 use Rattle.fn_fits.specs.Fits.{Fits}
@@ -106,28 +106,28 @@ fields_hold-returns t c = (
 shown_level : {o : Option Level} {l : Level} (P : Level → Type 0) → o ≡ Some l → IfSome o P → P l
 shown_level {o} {l} P is all = subst (λ x. IfSome x P) is all
 
-pub holds-fields_hold-requires : goal.holds-fields_hold-requires
-holds-fields_hold-requires t c =
-    let shown = shown_level (λ l. (l.filling.now ≡ c.args.filling.now) × IsShown l.format.now c.args.filling.now l.header l.packed) c.in-Some.is c.in_ok-level.ensures.shown in
+pub whole_holds-fields_hold-requires : goal.whole_holds-fields_hold-requires
+whole_holds-fields_hold-requires t c =
+    let shown = shown_level (λ l. (l.filling.now ≡ c.args.filling.now) × IsShown l.format.now c.args.filling.now l.header.now l.packed.now) c.in-Some.is c.in_ok-level.ensures.shown in
     let found = shown_level (λ l. HasLevel c.args.profile.now c.args.method c.args.arguments.now c.args.filling.now l.format.now l.known) c.in-Some.is c.in_ok-level.ensures.found in
-    let ready = ready_level c.args.profile.now c.keeps.ensures c.args.method c.args.arguments.now c.args.filling.now _ _ found c.requires.1.1.1 in (
+    let ready = ready_level c.args.profile.now c.keeps.ensures c.args.method c.args.arguments.now c.args.filling.now _ _ found c.requires.1.1.1.0 in (
       (search rules),
       (
         shown.0,
-        (ready.0, subst (λ f. IsShown c.in-Some.level.format.now f c.in-Some.level.header c.in-Some.level.packed) (sym shown.0) shown.1),
+        (ready.0, subst (λ f. IsShown c.in-Some.level.format.now f c.in-Some.level.header.now c.in-Some.level.packed.now) (sym shown.0) shown.1),
       ),
     )
 
-pub holds-returns : goal.holds-returns
-holds-returns t c =
+pub whole_holds-returns : goal.whole_holds-returns
+whole_holds-returns t c =
     let p = c.args.profile.now in
     let f = c.args.filling.now in
     let ctx = bits_at c.args.context.now in
-    let shown = shown_level (λ l. (l.filling.now ≡ f) × IsShown l.format.now f l.header l.packed) c.in-Some.is c.in_ok-level.ensures.shown in
+    let shown = shown_level (λ l. (l.filling.now ≡ f) × IsShown l.format.now f l.header.now l.packed.now) c.in-Some.is c.in_ok-level.ensures.shown in
     let found = shown_level (λ l. HasLevel p c.args.method c.args.arguments.now f l.format.now l.known) c.in-Some.is c.in_ok-level.ensures.found in
     let a = assignment_of c.in-Some.level.known in
     ok_weaker (λ b. IsTrue b ↔ AllFit p.methods ctx c.args.path.now c.in-Some.level.format.now c.in-Some.level.filling.now a)
     (λ b. IsTrue b ↔ Fits p.methods ctx c.args.method c.args.arguments.now c.args.path.now f) c.fields_hold.result
-    (λ b same. filling_fits p c.keeps.ensures c.args.method c.args.arguments.now f c.in-Some.level.format.now c.in-Some.level.known found c.requires.1.1.1 ctx c.args.path.now
+    (λ b same. filling_fits p c.keeps.ensures c.args.method c.args.arguments.now f c.in-Some.level.format.now c.in-Some.level.known found c.requires.1.1.1.0 ctx c.args.path.now
     (c.level_holds.ensures.0 c.if-not-level_holds.false) b (subst (λ g. IsTrue b ↔ AllFit p.methods ctx c.args.path.now c.in-Some.level.format.now g a) shown.0 same))
     c.fields_hold.ensures

@@ -1,7 +1,7 @@
 use Rattle.std.proofs.Common.{◌≡◌, ◌∙◌, ◌<◌, ◌≤◌, ap, arith, refl, sym, length, get_or}
 use Rattle.std.proofs.lemmas.Option.{slice_get-get_or}
 use Rattle.std.specs.Prelude.{slice_get, Some}
-use Rattle.fn_profile.specs.declared.profile.Field.{Field}
+use Rattle.fn_normal.specs.declared.profile.Field.{Field}
 use Rattle.fn_filling.specs.Fillings.{sides_of}
 use Rattle.fn_holds.proofs.Each.{before_next, before_end}
 use Rattle.fn_holds.proofs.Shapes.{declared_alike, declared_at}

@@ -1,6 +1,6 @@
 use Rattle.std.proofs.Common.{◌≡◌}
 use Rattle.std.specs.Prelude.{Some, slice_get}
-use Rattle.fn_profile.specs.declared.profile.Field.{Field}
+use Rattle.fn_normal.specs.declared.profile.Field.{Field}
 use Rattle.fn_filling.specs.Fillings.{sides_of}
 use Rattle.fn_holds.proofs.Each.{Before}
 use Rattle.fn_holds.proofs.shape.are_declared.Given as goal

@@ -1,7 +1,8 @@
-use Rattle.std.proofs.Common.{◌≡◌, take, drop}
+use Rattle.std.proofs.Common.{◌≡◌, ◌-◌, ◌/◌, ◌^◌}
 use Rattle.std.specs.Prelude.{fold, reverse}
+use Rattle.fn_bits.specs.Number.{enc}
 use Rattle.fn_lib.specs.Crc.{crc_step}
 use Rattle.fn_lib.proofs.crc.after_octet.Given as goal
 
 abbrev pub invariant-loop-k : goal.invariant-loop-k
-invariant-loop-k l = l.register ≡ fold (crc_step l.polynomial) l.initial.register (take l.k (reverse (take 8 (drop l.start l.covered))))
+invariant-loop-k l = fold (crc_step l.polynomial) l.register (reverse (enc (8 - l.k) (l.octet / 2 ^ l.k))) ≡ fold (crc_step l.polynomial) l.before (reverse (enc 8 l.octet))

@@ -1,5 +1,5 @@
 use Rattle.std.proofs.Common.{◌≡◌, fold, drop}
-use Rattle.fn_profile.specs.Judging.{earlier}
+use Rattle.fn_normal.specs.Judging.{earlier}
 use Rattle.fn_methods.specs.Defaults.{default_items, statement_fault, default_fault}
 use Rattle.fn_methods.proofs.defaults.default_fault.Given as goal
 

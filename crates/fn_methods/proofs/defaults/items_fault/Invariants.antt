@@ -1,5 +1,5 @@
 use Rattle.std.proofs.Common.{◌≡◌, fold, drop}
-use Rattle.fn_profile.specs.Judging.{earlier}
+use Rattle.fn_normal.specs.Judging.{earlier}
 use Rattle.fn_methods.specs.Defaults.{bound_fault}
 use Rattle.fn_methods.proofs.defaults.items_fault.Given as goal
 

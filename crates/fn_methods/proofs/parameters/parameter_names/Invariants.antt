@@ -1,5 +1,5 @@
 use Rattle.std.proofs.Common.{◌≡◌, ◌++◌, map, drop}
-use Rattle.fn_profile.specs.Words.{word}
+use Rattle.fn_normal.specs.Words.{word}
 use Rattle.fn_methods.proofs.parameters.parameter_names.Given as goal
 
 abbrev pub invariant-loop-parameter : goal.invariant-loop-parameter

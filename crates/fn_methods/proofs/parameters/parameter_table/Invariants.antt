@@ -1,5 +1,5 @@
 use Rattle.std.proofs.Common.{◌≡◌, fold, drop}
-use Rattle.fn_profile.specs.Words.{word, with_word}
+use Rattle.fn_normal.specs.Words.{word, with_word}
 use Rattle.fn_methods.specs.Parameters.{distinct_words}
 use Rattle.fn_methods.proofs.parameters.parameter_table.Given as goal
 

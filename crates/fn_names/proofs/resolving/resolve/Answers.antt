@@ -1,9 +1,10 @@
 use Rattle.std.proofs.Common.{sym, ◌∙◌}
 use Rattle.std.specs.Prelude.{Some}
 use Rattle.std.proofs.lemmas.Result.{err_from_is_err_and, IfOk-weaker, IfErr-weaker}
-use Rattle.fn_profile.specs.Judging.{Blames}
+use Rattle.fn_normal.specs.Judging.{Blames}
 use Rattle.fn_names.specs.Resolved.{IsNormalForm, IsProfile, ProfileCause, Cause, in_head, in_methods, has_no_top, calls_back, in_profile}
 use Rattle.fn_names.proofs.Passes.{blames_as, form_for_each, text_ordered, forms_ordered, normal}
+use Rattle.fn_names.proofs.NamedMethods.{are_named, have_formats, is_plain}
 use Rattle.fn_names.proofs.SoundMethods.{well_formed}
 use Rattle.fn_names.proofs.resolving.resolve.Goals as goal
 
@@ -48,6 +49,21 @@ pub profile_of-requires-clause-well_formed : goal.profile_of-requires-clause-wel
 profile_of-requires-clause-well_formed c =
     let form = rw c.in-Some.is at c.in_ok-methods.ensures.found in
     well_formed c.args.text.now c.args.parts.now (Some c.in-Some.top) c.in_ok-methods.methods form
+
+pub profile_of-requires-clause-names : goal.profile_of-requires-clause-names
+profile_of-requires-clause-names c =
+    let form = rw c.in-Some.is at c.in_ok-methods.ensures.found in
+    are_named c.args.text.now c.args.parts.now (Some c.in-Some.top) c.in_ok-methods.methods c.in_ok-head.ensures.tables.distinct form
+
+pub profile_of-requires-clause-plain : goal.profile_of-requires-clause-plain
+profile_of-requires-clause-plain c =
+    let form = rw c.in-Some.is at c.in_ok-methods.ensures.found in
+    is_plain c.args.text.now c.args.parts.now c.args.name.now c.in-Some.top c.in_ok-methods.methods (sym c.top-place.ensures.place ∙ c.in-Some.is) form
+
+pub profile_of-requires-clause-formats : goal.profile_of-requires-clause-formats
+profile_of-requires-clause-formats c =
+    let form = rw c.in-Some.is at c.in_ok-methods.ensures.found in
+    have_formats c.args.text.now c.args.parts.now (Some c.in-Some.top) c.in_ok-methods.methods form
 
 pub returns-clause-found : goal.returns-clause-found
 returns-clause-found c =

@@ -1,5 +1,5 @@
 use Rattle.std.proofs.Common.{◌≡◌, fold, drop}
-use Rattle.fn_profile.specs.Judging.{earlier}
+use Rattle.fn_normal.specs.Judging.{earlier}
 use Rattle.fn_sections.specs.Tables.{find_in}
 use Rattle.fn_sections.specs.Causes.{earliest, not_kept}
 use Rattle.fn_sections.proofs.lookups.all_not_kept.Given as goal

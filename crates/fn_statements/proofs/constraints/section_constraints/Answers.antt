@@ -1,7 +1,7 @@
 use Rattle.std.proofs.Common.{refl}
 use Rattle.std.proofs.lemmas.Option.{slice_get_read}
 use Rattle.fn_statements.specs.Constraints.{none, item_fault}
-use Rattle.fn_profile.proofs.Loops.{taken}
+use Rattle.fn_normal.proofs.Loops.{taken}
 use Rattle.fn_statements.proofs.Gathered.{gathered, no_fault_at}
 use Rattle.fn_statements.proofs.constraints.section_constraints.Goals as goal
 

@@ -1,6 +1,6 @@
 use Rattle.std.proofs.Common.{rules, IfOk, IfErr}
 use Rattle.std.proofs.lemmas.Result.{err_from_is_err_and}
-use Rattle.fn_profile.specs.Judging.{Blames}
+use Rattle.fn_normal.specs.Judging.{Blames}
 use Rattle.fn_statements.specs.Initial.{IsSpelled, IsNotSpelled}
 use Rattle.std.proofs.lemmas.Result.{IfOk-weaker}
 use Rattle.fn_statements.specs.Initial.{are_arguments, bad_length, bad_value, does_not_fit, wrong_count}

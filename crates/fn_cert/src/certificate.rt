@@ -1,0 +1,80 @@
+//! The types of certificates. Methods, formats, fields, parameters and constraints go by their indices.
+
+use fn_expr::Side;
+use fn_normal::Name;
+use sqlite_items::Items;
+
+/// What a plan is for: to read packed bits, or to write them.
+#[derive(Clone, Copy)]
+pub enum Direction {
+    Read,
+    Write,
+}
+
+/// One step of a plan: of which field something is learnt, and by what.
+#[derive(Clone, Copy)]
+pub enum Step {
+    /// The next bits are a side of the field: of the packed bits in reading, of the header in writing.
+    Take(usize),
+    /// The method that the field calls gives both sides.
+    Call(usize),
+    /// The field's library method gives the uncompressed side.
+    LibraryUp(usize),
+    /// The field's library method gives the compressed side.
+    LibraryDown(usize),
+    /// The field's library method gives the length of a side.
+    MethodLength(usize, Side),
+    /// A constraint, by its number, gives the length of a side of the field.
+    ConstraintLength(usize, Side, usize),
+    /// A constraint, by its number, gives the value of the field's uncompressed side.
+    Solve(usize, usize),
+    /// Each value of the field's uncompressed side is tried.
+    Choose(usize),
+    /// The packer is given the field's value.
+    Ask(usize),
+}
+
+/// A node of a decision tree. A test has two subtrees: of a bit that for 0 and then that for 1, of a parameter that for the
+/// constant and then that for other numbers.
+#[derive(Clone, Copy)]
+pub enum Node {
+    /// The packed bit at the offset, in bits from the method's first.
+    Bit(usize),
+    /// Whether the parameter is the constant.
+    Parameter(usize, i128),
+    /// The format.
+    Leaf(usize),
+    /// No format.
+    Nowhere,
+}
+
+/// The two plans of a format.
+#[derive(Drop)]
+pub struct Plans {
+    pub read: Items<Step>,
+    pub write: Items<Step>,
+}
+
+/// A format with the names that the certificate's text shows, of itself and of its fields, and its plans where the certificate names it.
+#[derive(Drop)]
+pub struct FormatPlans {
+    pub name: Option<Name>,
+    pub fields: Items<Name>,
+    pub plans: Option<Plans>,
+}
+
+/// What a certificate says of a method: the nodes of its tree, each before its subtrees, and the plans of its formats; with the names that its text
+/// shows, of the method and its parameters.
+#[derive(Drop)]
+pub struct MethodPlans {
+    pub name: Name,
+    pub parameters: Items<Name>,
+    pub tree: Items<Node>,
+    pub formats: Items<FormatPlans>,
+}
+
+/// A certificate: what it says of each method of the profile, where it names the method.
+#[derive(Drop)]
+pub struct Certificate {
+    pub methods: Items<Option<MethodPlans>>,
+}

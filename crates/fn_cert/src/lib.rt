@@ -1,0 +1,11 @@
+//! Certificates: for each method a decision tree, for each format a plan to read it and one to write it.
+#![tactic(auto)]
+
+pub use certificate::{Certificate, Direction, FormatPlans, MethodPlans, Node, Plans, Step};
+pub use printing::print;
+pub use rule::{Fact, Rule};
+
+pub mod certificate;
+pub mod laws;
+pub mod printing;
+pub mod rule;

@@ -1,0 +1,31 @@
+-- What a resolved profile shows, and what each one keeps (docs/NOTATION.md).
+use Rattle.std.specs.Prelude.{ℕ, ◌<◌, List, length}
+use Rattle.fn_normal.specs.declared.profile.Method.{Method}
+use Rattle.fn_normal.specs.declared.profile.MethodSizes.{MethodSizes}
+use Rattle.fn_bounds.specs.Methods as bounds
+use Rattle.fn_bounds.specs.Outcome as sizes
+use Rattle.fn_profile.specs.Limits.{IsWithinLimits}
+use Rattle.fn_profile.specs.Named.{AreNamed}
+use Rattle.fn_profile.specs.Rooted.{IsRooted}
+use Rattle.fn_profile.specs.WellFormed.{AreWellFormed}
+
+-- what a resolved profile shows: its methods in the order of the text, where those that the top doesn't reach have no formats; the bounds of each; and the place of the top
+pub record Resolved : Type 0 where
+  pub methods : List Method
+  pub sizes : List MethodSizes
+  pub top : ℕ
+
+-- what every value of the type keeps: callees can come first, the bounds are those of the methods, the top is one of them, and they are within the limits
+pub record IsSound (p : Resolved) : Type 0 where
+  pub order : List ℕ
+  pub ordered : bounds.IsOrder p.methods order
+  pub sized : sizes.AreSizes p.methods p.sizes
+  pub within : p.top < length p.methods
+  -- indices are in range, calls have as many arguments as the called method has parameters, and fields have what their formats need
+  pub well_formed : AreWellFormed p.methods
+  -- each name stands once where it is looked up
+  pub named : AreNamed p.methods
+  -- the top has no parameters, and the methods that it reaches are those with formats
+  pub rooted : IsRooted p.methods p.top
+  -- no call chain, format or message is too large, by the methods as they are kept
+  pub limits : IsWithinLimits p.methods p.top

@@ -1,6 +1,0 @@
-use Rattle.fn_reading.proofs.Refusing.{no_tree_at}
-use Rattle.fn_reading.proofs.reading.read.Goals as goal
-
-pub returns-in_err-file-clause-refused : goal.returns-in_err-file-clause-refused
-returns-in_err-file-clause-refused c =
-    no_tree_at _ _ _ _ _ _ _ c.in_ok-source.ensures.accepted.1 c.in_ok-source.ensures.accepted.0 c.in_ok-tokens.ensures.lexed c.as_slice.ensures.value c.in_err-file.ensures.refused c.from_residual-in_err-file.ensures.1

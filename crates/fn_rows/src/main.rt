@@ -1,0 +1,88 @@
+//! Answers rows on bits, texts, expressions, library methods, contexts and fillings: line N of the output answers line N of the input, and is empty where
+//! that is empty or a comment (`#`). In a row `%0a` stands for the octet 0a and so on, and so it does in an answer for what isn't visible ASCII.
+#![tactic(auto)]
+
+mod bits;
+mod contexts;
+mod expressions;
+mod fillings;
+mod library;
+mod lists;
+mod octets;
+mod sources;
+mod words;
+
+use anyhow::{Context, Result};
+use fn_profile::Profile;
+use percent_encoding::{CONTROLS, percent_decode, utf8_percent_encode};
+use std::alloc::Global;
+
+fn main(rt: HostRuntime) -> Result<()> {
+    let alloc = rt.alloc();
+    let mut profile = None;
+    for line in rt.lines(alloc) {
+        let shown = shown(alloc, &mut profile, line?.as_str())?;
+        println!(rt; "{shown}")?;
+    }
+    Ok(())
+}
+
+/// The line that answers a line.
+fn shown(alloc: Global, profile: &mut Option<Profile>, line: &str) -> Result<String> {
+    let mut shown = String::new(alloc);
+    if line.is_empty() || line.starts_with('#') {
+        return Ok(shown);
+    }
+    let text = answered(alloc, profile, line)?;
+    utf8_percent_encode(text.trim_end_matches(' '), CONTROLS).append_to(&mut shown)?;
+    Ok(shown)
+}
+
+/// The answer to a row. The profile is that of the last row that gave one.
+fn answered(alloc: Global, profile: &mut Option<Profile>, row: &str) -> Result<String> {
+    let mut octets = Vec::new(alloc);
+    percent_decode(row.as_bytes()).append_to(&mut octets)?;
+    let mut out = String::new(alloc);
+    answer(alloc, &mut out, profile, octets.as_slice())?;
+    Ok(out)
+}
+
+fn answer(
+    alloc: Global,
+    out: &mut String,
+    profile: &mut Option<Profile>,
+    row: &[u8],
+) -> Result<()> {
+    if row.starts_with(b"lines") {
+        return bits::cut_lines(alloc, out, row.get(6..).unwrap_or_default());
+    }
+    let row = str::from_utf8(row)?;
+    let (verb, rest) = row.split_once(' ').unwrap_or((row, ""));
+    match verb {
+        "profile" => {
+            *profile = Some(fillings::read_profile(alloc, rest)?);
+            Ok(())
+        }
+        "holds" => fillings::judged(alloc, out, profile.as_ref().context("no profile")?, rest),
+        "sides" => fillings::sides(alloc, out, rest),
+        "below" => fillings::path(alloc, out, rest),
+        "path" => contexts::knows_path(out, rest),
+        "context" => contexts::read(alloc, out, rest),
+        "get" => contexts::found(alloc, out, rest),
+        "replace" => contexts::replaced(alloc, out, rest),
+        "range" => expressions::ranged(alloc, out, rest),
+        "value" => expressions::valued(alloc, out, rest),
+        "decide" => expressions::decided(alloc, out, rest),
+        "tokens" => sources::tokens(alloc, out, rest),
+        "places" => sources::places(out, rest),
+        "text" => bits::read(alloc, out, rest),
+        "zeros" => bits::read_zeros(alloc, out, rest),
+        "cursor" => bits::moved(alloc, out, rest),
+        "peek" => octets::peeked(alloc, out, rest),
+        "octet" => octets::octet(alloc, out, rest),
+        "cut" => octets::cut(alloc, out, rest),
+        "lists" => lists::compared(alloc, out, rest),
+        "registers" => library::registers(alloc, out, rest),
+        _ => library::answer(alloc, out, verb, rest),
+    }
+}

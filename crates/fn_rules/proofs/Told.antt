@@ -1,0 +1,119 @@
+-- What a fitting filling tells of its bits and its arguments, and where the way leads that it takes.
+use Rattle.std.proofs.Common.{◌≡◌, refl, sym, ◌∙◌, ap, subst, ℕ, Bool, List, ◌++◌, length, arith}
+use Rattle.std.specs.Prelude.{Option, Some, None, ℤ, pos, negsuc, option_and_then, slice_get, nat_eq}
+use Rattle.std.specs.List.{flat_map}
+use Rattle.std.proofs.lemmas.Bool.{eqb-true}
+use Rattle.std.proofs.lemmas.Option.{slice_get-map}
+use Rattle.std.specs.Option.{option_map}
+use Rattle.fn_lib.specs.Methods.{Spells}
+use Rattle.fn_expr.specs.declared.expr.Side.TheVariants.{Compressed}
+use Rattle.fn_expr.specs.declared.expr.Expr.{Expr}
+use Rattle.fn_normal.specs.declared.profile.Sizes.{Sizes}
+use Rattle.fn_normal.specs.declared.profile.MethodSizes.{MethodSizes}
+use Rattle.fn_normal.specs.declared.profile.Library.TheVariants as library
+use Rattle.fn_normal.specs.declared.profile.Encoding.{Encoding}
+use Rattle.fn_normal.specs.declared.profile.Encoding.TheVariants as encoding
+use Rattle.fn_normal.specs.declared.profile.Format.{Format}
+use Rattle.fn_normal.specs.declared.profile.Method.{Method}
+use Rattle.fn_bounds.specs.Constants.{constant}
+use Rattle.fn_bounds.specs.Outcome.{AreSizes}
+use Rattle.fn_filling.specs.declared.filling.Filling.{Filling, out-Filling}
+use Rattle.fn_filling.specs.Fillings.{sides_of, fields_of, level, packed, packed_bits}
+use Rattle.fn_filling.specs.Entries.{Path, below}
+use Rattle.fn_filling.proofs.Unique.{also_at}
+use Rattle.fn_fits.specs.Fits.{Context, Fits, LevelFits, side_of, assigned, reference_of}
+use Rattle.fn_fits.specs.Bounded.{LengthsLie}
+use Rattle.fn_fits.proofs.Inverted.{FitsParts, parts, coded_parts, length-fields}
+use Rattle.fn_fits.proofs.Bounding.{constant_value, Placed, placed, count_sizes, lie-in-bounds}
+use Rattle.fn_fits.proofs.Sized.{and_then_some}
+use Rattle.fn_cert.specs.declared.certificate.Node.{Node}
+use Rattle.fn_rules.specs.Trees.{spelled, literal, fixed, PartsFormats, way}
+use Rattle.fn_rules.specs.Views.{view, side_at}
+use Rattle.fn_rules.specs.Reading.{Follows}
+use Rattle.fn_rules.proofs.Agree.{when_some, side_is}
+use Rattle.fn_rules.proofs.Inputs.{packed_is}
+use Rattle.fn_rules.proofs.Methods.{solved}
+use Rattle.fn_rules.proofs.Trees.{Told, known_sound, spelled_is, kept_at, kept_off, leads_on}
+
+literal_parts : (e : Encoding) (bits : List Bool) → literal e ≡ Some bits → (len : Expr) × (v : Expr) × (e ≡ encoding.Library (library.CompressedValue len v)) × (spelled (constant len) (constant v) ≡ Some bits)
+literal_parts (encoding.Library (library.CompressedValue len v)) bits e = (len, v, refl, e)
+literal_parts _ bits e = absurd (cc)
+
+spelled_parts : (o o' : Option ℤ) (bits : List Bool) → spelled o o' ≡ Some bits → (p : ℤ) × (q : ℤ) × (o ≡ Some p) × (o' ≡ Some q) × (spelled (Some p) (Some q) ≡ Some bits)
+spelled_parts (Some p) (Some q) bits e = (p, q, refl, refl, e)
+spelled_parts None _ bits e = absurd (cc)
+spelled_parts (Some (pos p)) None bits e = absurd (cc)
+spelled_parts (Some (negsuc p)) None bits e = absurd (cc)
+
+spells_at : (p p' q q' : ℤ) (c : List Bool) → p ≡ p' → q ≡ q' → Spells p q c → Spells p' q' c
+spells_at p p' q q' c e h s = subst (λ z. Spells z q' c) e (subst (λ z. Spells p z c) h s)
+
+-- the packed bits by the listing
+pub shown : (format : Format) (f : Filling) (args : List ℤ) → LevelFits format f args → packed f ≡ flat_map (λ i. side_at (view f) i Compressed) format.listing
+shown format f args lf = ap (λ l. packed_bits l (level f)) lf.shaped.listing_is ∙ packed_is format.listing (level f)
+
+module _ (methods : List Method) (ctx : Context) (k : ℕ) (args : List ℤ) (path : Path) where
+  -- a literal's bits
+  literal_is : (f : Filling) (h : FitsParts methods ctx k args path f) →
+      (i : ℕ) (bits : List Bool) → option_and_then (λ d. literal d.encoding) (slice_get h.format.fields i) ≡ Some bits → side_at (view f) i Compressed ≡ bits
+  literal_is f h i bits e =
+      let t = and_then_some (λ d. literal d.encoding) (slice_get h.format.fields i) bits e in
+      let l = literal_parts t.0.encoding bits t.2 in
+      let x = also_at h.format.fields (fields_of f) i t.0 (sym (length-fields h.format f h.level_fits.shaped)) t.1 in
+      let c = coded_parts methods ctx (h.each i t.0 x.0 t.1 x.1) (library.CompressedValue l.0 l.1) l.2 in
+      let a = assigned h.format.listing (level f) args in
+      let s = solved (side_of h.format.listing (level f)) a (library.CompressedValue l.0 l.1) c.method (reference_of t.0.declared.part ctx (below path t.0.declared.name) t.0.initial)
+      (sides_of x.0).uncompressed (sides_of x.0).compressed c.is_method c.holds in
+      let v = spelled_parts (constant l.0) (constant l.1) bits l.3 in
+      let p : s.0 ≡ v.0 = let y = constant_value a l.0 v.0 v.2 in let w = s.2 in cc in
+      let q : s.1 ≡ v.1 = let y = constant_value a l.1 v.1 v.3 in let w = s.3 in cc in
+      side_is f i x.0 Compressed x.1 ∙ spelled_is v.0 v.1 bits (sides_of x.0).compressed v.4 (spells_at s.0 v.0 s.1 v.1 (sides_of x.0).compressed p q s.4)
+
+  module _ (table : List MethodSizes) (are : AreSizes methods table) where
+    -- the bounds of a fitting filling's format
+    pub record Bounded (f : Filling) (h : FitsParts methods ctx k args path f) : Type 0 where
+      pub place : Placed methods table are k (out-Filling f).format h.format
+      pub lengths : LengthsLie place.sizes f
+
+    pub bounded : (f : Filling) → Fits methods ctx k args path f → (h : FitsParts methods ctx k args path f) → Bounded f h
+    bounded f fit h =
+        let p = placed methods table are k (out-Filling f).format h.format h.is_format in
+        record { place = p; lengths = (lie-in-bounds methods table are ctx k args path f fit p.whole p.sizes p.whole_at p.sizes_at).0 }
+
+    -- a field that is stepped over
+    gap_is : (f : Filling) (h : FitsParts methods ctx k args path f) (b : Bounded f h) → (i n : ℕ) → option_and_then (λ (z : Sizes). fixed z.compressed) (slice_get b.place.sizes.fields i) ≡ Some n → length (side_at (view f) i Compressed) ≡ n
+    gap_is f h b i n e =
+        let a = and_then_some (λ (z : Sizes). fixed z.compressed) (slice_get b.place.sizes.fields i) n e in
+        let w = when_some (nat_eq a.0.compressed.least a.0.compressed.most) a.0.compressed.least n a.2 in
+        let same = eqb-true a.0.compressed.least a.0.compressed.most w.0 in
+        let as_many : length b.place.sizes.fields ≡ length (fields_of f) =
+        count_sizes methods table are b.place.method h.format b.place.whole b.place.sizes b.place.at ∙ sym (length-fields h.format f h.level_fits.shaped) in
+        let x = also_at b.place.sizes.fields (fields_of f) i a.0 as_many a.1 in
+        let in_level : slice_get (level f) i ≡ Some (sides_of x.0) = slice_get-map sides_of (fields_of f) i ∙ ap (option_map sides_of) x.1 in
+        let lies = (b.lengths.fields i (sides_of x.0) a.0 in_level a.1).compressed_lies in
+        let len : length (side_at (view f) i Compressed) ≡ length (sides_of x.0).compressed = ap length (side_is f i x.0 Compressed x.1) in
+        let low = lies.least in let high = lies.most in let z = w.1 in omega arith
+
+    pub told : (f : Filling) → (fit : Fits methods ctx k args path f) (h : FitsParts methods ctx k args path f) (b : Bounded f h) → Told h.format b.place.sizes (packed f) args
+    told f fit h b =
+        let same = shown h.format f args h.level_fits in
+        record {
+          known = λ o x e. subst (λ z. slice_get z o ≡ Some x) (sym same)
+              (known_sound h.format.fields b.place.sizes.fields (λ i. side_at (view f) i Compressed) (literal_is f h) (gap_is f h b) h.format.listing o x e);
+          long = b.lengths.whole.compressed_lies.least;
+          kept = λ p c e. kept_at (side_of h.format.listing (level f)) (assigned h.format.listing (level f) args) p h.format c h.level_fits.constraints e;
+          off = λ p c e. kept_off (side_of h.format.listing (level f)) (assigned h.format.listing (level f) args) p h.format c h.level_fits.constraints e;
+        }
+
+    -- where the way leads through the tree of the method, by bits at the front of which, or of which a longer list, its own stand
+    pub follows : (f : Filling) → Fits methods ctx k args path f → (bits r q : List Bool) → packed f ++ r ≡ bits ++ q → (m : Method) (s : MethodSizes) (nodes : List Node) →
+        slice_get methods k ≡ Some m → slice_get table k ≡ Some s → PartsFormats m.formats s nodes → Follows (out-Filling f).format bits (packed f) (way bits args 0 nodes)
+    follows f fit bits r q e m s nodes em es tree =
+        let h = parts fit in
+        let b = bounded f fit h in
+        let t = and_then_some (λ m. slice_get m.formats (out-Filling f).format) (slice_get methods k) h.format h.is_format in
+        let same_m : t.0 ≡ m = let x = t.1 in cc in
+        let same_s : b.place.whole ≡ s = let x = b.place.whole_at in cc in
+        let in_m : slice_get m.formats (out-Filling f).format ≡ Some h.format = subst (λ (z : Method). slice_get z.formats (out-Filling f).format ≡ Some h.format) same_m t.2 in
+        let in_s : slice_get s.formats (out-Filling f).format ≡ Some b.place.sizes = subst (λ (z : MethodSizes). slice_get z.formats (out-Filling f).format ≡ Some b.place.sizes) same_s b.place.sizes_at in
+        leads_on m.formats s (out-Filling f).format h.format b.place.sizes in_m in_s bits (packed f) r q args e (told f fit h b) nodes tree

@@ -1,0 +1,14 @@
+pub mod Facts
+pub mod Rules
+pub mod Plans
+pub mod Trees
+pub mod Counts
+pub mod Valid
+pub mod Refusals
+pub mod Views
+pub mod Slots
+pub mod Steps
+pub mod Reading
+pub mod Numbers
+pub mod Example
+pub mod Laws

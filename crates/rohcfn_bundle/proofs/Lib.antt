@@ -1,4 +1,0 @@
-pub mod BundleHeld
-pub mod BundleLines
-pub mod BundleParts
-pub mod BundleSpelled

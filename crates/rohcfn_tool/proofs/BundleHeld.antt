@@ -1,0 +1,50 @@
+-- The parts at hand where one more is put in.
+use Rattle.std.proofs.Common.{◌≡◌, ◌∙◌, ℕ, true, false, List, [], ◌∷◌, ◌++◌, refl, ap, Option, None, Some, Bor, codes, is_some, option_map}
+use Rattle.std.specs.Str.{bytes_eq}
+use Rattle.std.proofs.lemmas.Slice.Eq.{bytes_eq-Decides}
+use Rattle.rohcfn_tool.specs.declared.bundle.Parts.{Parts}
+use Rattle.rohcfn_tool.specs.Bundle.{HoldsParts, Part, named, text_named}
+use Rattle.rohcfn_tool.proofs.BundleParts.{text_kept, text_put}
+
+no_text : (o : Option (Bor (List ℕ))) (t : Option (List ℕ)) → is_some o ≡ false → option_map (λ text. text.now) o ≡ t → None ≡ t
+no_text None t none e = e
+no_text (Some x) t none e = cc
+
+is_other : (name same wanted : List ℕ) → bytes_eq name same ≡ true → bytes_eq same wanted ≡ false → bytes_eq name wanted ≡ false
+is_other name same wanted e other = ap (λ n. bytes_eq n wanted) ((bytes_eq-Decides name same).0 e) ∙ other
+
+module _ (parts : Parts) (before : List Part) (name : List ℕ) (text : Bor (List ℕ)) (held : HoldsParts parts before) where
+  kept : (same wanted : List ℕ) (o : Option (List ℕ)) → bytes_eq name same ≡ true → bytes_eq same wanted ≡ false → o ≡ text_named wanted before → o ≡ text_named wanted (before ++ named name text.now ∷ [])
+  kept same wanted o e other h = text_kept wanted before (named name text.now) o (is_other name same wanted e other) h
+
+  pub held_words : bytes_eq name (codes "words") ≡ true → is_some parts.words ≡ false → HoldsParts (record parts { words = Some text }) (before ++ named name text.now ∷ [])
+  held_words e none = record {
+    words = text_put (codes "words") before (named name text.now) e (no_text parts.words _ none held.words);
+    profile = kept (codes "words") (codes "profile") _ e refl held.profile;
+    items = kept (codes "words") (codes "items") _ e refl held.items;
+    packets = kept (codes "words") (codes "packets") _ e refl held.packets;
+  }
+
+  pub held_profile : bytes_eq name (codes "profile") ≡ true → is_some parts.profile ≡ false → HoldsParts (record parts { profile = Some text }) (before ++ named name text.now ∷ [])
+  held_profile e none = record {
+    words = kept (codes "profile") (codes "words") _ e refl held.words;
+    profile = text_put (codes "profile") before (named name text.now) e (no_text parts.profile _ none held.profile);
+    items = kept (codes "profile") (codes "items") _ e refl held.items;
+    packets = kept (codes "profile") (codes "packets") _ e refl held.packets;
+  }
+
+  pub held_items : bytes_eq name (codes "items") ≡ true → is_some parts.items ≡ false → HoldsParts (record parts { items = Some text }) (before ++ named name text.now ∷ [])
+  held_items e none = record {
+    words = kept (codes "items") (codes "words") _ e refl held.words;
+    profile = kept (codes "items") (codes "profile") _ e refl held.profile;
+    items = text_put (codes "items") before (named name text.now) e (no_text parts.items _ none held.items);
+    packets = kept (codes "items") (codes "packets") _ e refl held.packets;
+  }
+
+  pub held_packets : bytes_eq name (codes "packets") ≡ true → is_some parts.packets ≡ false → HoldsParts (record parts { packets = Some text }) (before ++ named name text.now ∷ [])
+  held_packets e none = record {
+    words = kept (codes "packets") (codes "words") _ e refl held.words;
+    profile = kept (codes "packets") (codes "profile") _ e refl held.profile;
+    items = kept (codes "packets") (codes "items") _ e refl held.items;
+    packets = text_put (codes "packets") before (named name text.now) e (no_text parts.packets _ none held.packets);
+  }

@@ -1,0 +1,15 @@
+use Rattle.std.proofs.Common.{◌∙◌, sym}
+use Rattle.rohcfn_tool.proofs.BundleHeld.{held_words, held_profile, held_items, held_packets}
+use Rattle.rohcfn_tool.proofs.bundle.with_part.Goals as goal
+
+pub returns-then-is_none-clause-held : goal.returns-then-is_none-clause-held
+returns-then-is_none-clause-held c = λ before held. held_words c.args.parts before c.args.name.now c.args.text held (sym c.eq.ensures ∙ c.if-eq.true) c.if-is_none.ensures
+
+pub returns-then-is_none-2-clause-held : goal.returns-then-is_none-2-clause-held
+returns-then-is_none-2-clause-held c = λ before held. held_profile c.args.parts before c.args.name.now c.args.text held (sym c.eq-else-eq.ensures ∙ c.if-eq-2.true) c.if-is_none-2.ensures
+
+pub returns-then-is_none-3-clause-held : goal.returns-then-is_none-3-clause-held
+returns-then-is_none-3-clause-held c = λ before held. held_items c.args.parts before c.args.name.now c.args.text held (sym c.eq-else-eq-2.ensures ∙ c.if-eq-3.true) c.if-is_none-3.ensures
+
+pub returns-then-is_none-4-clause-held : goal.returns-then-is_none-4-clause-held
+returns-then-is_none-4-clause-held c = λ before held. held_packets c.args.parts before c.args.name.now c.args.text held (sym c.eq-else-eq-3.ensures ∙ c.if-eq-4.true) c.if-is_none-4.ensures
