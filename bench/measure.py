@@ -7,17 +7,19 @@ import time
 
 ROOT = os.path.dirname(os.path.dirname(os.path.abspath(__file__)))
 PROGRAM = os.path.join(ROOT, "crates", "rohcfn", "out", "rohcfn")
+# answers rows on calls that no command shows
+ROWS = os.path.join(ROOT, "crates", "fn_rows", "out", "fn_rows")
 ROUNDS = 15
 MIB = 1024 * 1024
 
 
-def run(data):
+def run(data, program=PROGRAM):
     """Time and peak memory of one run, in a child of its own."""
     read, write = os.pipe()
     child = os.fork()
     if child == 0:
         start = time.perf_counter()
-        done = subprocess.run([PROGRAM], input=data, stdout=subprocess.PIPE)
+        done = subprocess.run([program], input=data, stdout=subprocess.PIPE)
         took = time.perf_counter() - start
         peak = resource.getrusage(resource.RUSAGE_CHILDREN).ru_maxrss * 1024
         out = "%d %r %d\n" % (done.returncode, took, peak)
@@ -33,13 +35,13 @@ def run(data):
     return int(status), float(took), int(peak), output
 
 
-def best_of(data, status, output):
+def best_of(data, status, output, program=PROGRAM):
     """The least time and the greatest peak of some runs, each of which must end and print as said."""
-    if not os.access(PROGRAM, os.X_OK):
-        sys.exit("build the program first: bin/rohcfn pack --top plain < examples/plain.bundle")
+    if not os.access(program, os.X_OK):
+        sys.exit("build the program first: (cd crates/%s && rt run)" % os.path.basename(program))
     best, most = None, 0
     for _ in range(ROUNDS):
-        found, took, peak, printed = run(data)
+        found, took, peak, printed = run(data, program)
         if found != status or printed != output:
             sys.exit("wrong output or status %d" % found)
         best = took if best is None else min(best, took)

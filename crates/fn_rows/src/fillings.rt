@@ -38,6 +38,21 @@ pub fn judged(alloc: Global, out: &mut String, profile: &Profile, rest: &str) ->
     Ok(write!(out, "{fits}")?)
 }
 
+/// `judged TIMES CONTEXT | FILLING`: how often of so many times the filling fits.
+pub fn judged_often(alloc: Global, out: &mut String, profile: &Profile, rest: &str) -> Result<()> {
+    let (times, rest) = parted(rest, " ")?;
+    let (context, text) = parted(rest, "| ")?;
+    let context = Context::read_text(alloc, context.trim_end())?;
+    let filling = read_filling(alloc, text)?;
+    let mut fitting = 0_usize;
+    for _ in 0..count(times)? {
+        if fits_top(alloc, profile, &context, &filling)? {
+            fitting = fitting.saturating_add(1);
+        }
+    }
+    Ok(write!(out, "{fitting}")?)
+}
+
 fn fits_top(
     alloc: Global,
     profile: &Profile,

@@ -1,6 +1,6 @@
 //! Calls on numbers and bits: the library methods in both directions, and how bits are made.
 
-use crate::words::{bits, put};
+use crate::words::{bits, count, parted, put};
 use anyhow::{Result, anyhow, ensure};
 use fn_bits::Bits;
 use fn_lib::{
@@ -148,4 +148,16 @@ pub fn registers(alloc: Global, out: &mut String, word: &str) -> Result<()> {
     let seven = crc_of(7, 0x79, 0x7f, &covered);
     let eight = crc_of(8, 0xe0, 0xff, &covered);
     Ok(write!(out, "{three:02x} {seven:02x} {eight:02x}")?)
+}
+
+/// `register TIMES BITS`: the register of eight bits after the octets, so many times over.
+pub fn register(alloc: Global, out: &mut String, rest: &str) -> Result<()> {
+    let (times, word) = parted(rest, " ")?;
+    let covered = bits(alloc, word)?;
+    ensure!(covered.len() % 8 == 0, "no whole octets");
+    let mut register = 0xff;
+    for _ in 0..count(times)? {
+        register = crc_of(8, 0xe0, register, &covered);
+    }
+    Ok(write!(out, "{register:02x}")?)
 }

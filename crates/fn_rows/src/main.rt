@@ -64,6 +64,9 @@ fn answer(
             Ok(())
         }
         "holds" => fillings::judged(alloc, out, profile.as_ref().context("no profile")?, rest),
+        "judged" => {
+            fillings::judged_often(alloc, out, profile.as_ref().context("no profile")?, rest)
+        }
         "sides" => fillings::sides(alloc, out, rest),
         "below" => fillings::path(alloc, out, rest),
         "path" => contexts::knows_path(out, rest),
@@ -83,6 +86,7 @@ fn answer(
         "cut" => octets::cut(alloc, out, rest),
         "lists" => lists::compared(alloc, out, rest),
         "registers" => library::registers(alloc, out, rest),
+        "register" => library::register(alloc, out, rest),
         _ => library::answer(alloc, out, verb, rest),
     }
 }

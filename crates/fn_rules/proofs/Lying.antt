@@ -2,6 +2,7 @@
 use Rattle.std.proofs.Common.{◌≡◌, refl, sym, ◌∙◌, ap, subst, ℕ, zero, suc, ◌+◌, ◌-◌, ◌^◌, ◌<◌, ◌≤◌, Bool, true, false, cond, List, [], ◌∷◌, length, map, min, arith, length-append}
 use Rattle.std.specs.Prelude.{Option, Some, None, IfSome, slice_get, option_map, unwrap_or, nat_le, ◌&&◌, ℤ, pos, if◌then◌else◌}
 use Rattle.std.proofs.lemmas.Int.{ints}
+use Rattle.std.proofs.lemmas.List.{length-map}
 use Rattle.std.proofs.lemmas.Bool.{leb-true}
 use Rattle.std.proofs.lemmas.Option.{slice_get-map, slice_get_within}
 use Rattle.std.proofs.Math.Pow.{pow_mono}
@@ -38,7 +39,8 @@ use Rattle.fn_fits.specs.Bounded.{LiesBetween, ArgumentsLie}
 use Rattle.fn_fits.proofs.Sides.{piece_is}
 use Rattle.fn_fits.proofs.Fronts.{within_limits}
 use Rattle.fn_fits.proofs.Sums.{same_test}
-use Rattle.fn_fits.proofs.Lying.{none_there}
+use Rattle.fn_fits.specs.Numbers.{numbers, NumbersLie, BothLie, AllLie}
+use Rattle.fn_fits.proofs.Lying.{count_lies, bits_lie, partly_lies}
 use Rattle.fn_rules.specs.declared.slots.Learnt.{Learnt}
 use Rattle.fn_rules.specs.declared.slots.Learnt.TheVariants.{Nothing, Length, Whole}
 use Rattle.fn_rules.specs.declared.slots.Slot.{Slot}
@@ -47,7 +49,7 @@ use Rattle.fn_cert.specs.declared.rule.Fact.TheVariants.{LengthOf}
 use Rattle.fn_rules.specs.Facts.{of_header, of_headers, side_facts}
 use Rattle.fn_rules.specs.Slots.{has_length, side_of_slot, learnt_of, learnt_at, knows_all, bits_of, slot_sides}
 use Rattle.fn_rules.specs.Reading.{known_sides}
-use Rattle.fn_rules.specs.Numbers.{numbers_of, learnt_numbers, whole_numbers, known_of, LearntLies, AreWithin, SlotsLie}
+use Rattle.fn_rules.specs.Numbers.{learnt_numbers, slot_numbers, whole_numbers, known_of, LearntLies, AreWithin, SlotsLie}
 use Rattle.fn_rules.proofs.Agree.{and_true}
 use Rattle.fn_rules.proofs.Inputs.{joined, header_cons}
 use Rattle.fn_rules.proofs.Known.{slot_side}
@@ -56,34 +58,14 @@ use Rattle.fn_rules.proofs.Within.{learnt_low, bound_count, packed_within, heade
 
 -- ---- one side
 
-value_lies : (b : Bounds) (bits : List Bool) → length bits ≤ b.most → IfSome (numbers_of bits).value (IsIn (value_range b.most))
-value_lies b bits most = by (nat_le (length bits) 64) refl
-  where
-    by : (t : Bool) → nat_le (length bits) 64 ≡ t → IfSome (cond t (Some (pos (num bits))) None) (IsIn (value_range b.most))
-    by false e = tt
-    by true e =
-        let short = leb-true (length bits) 64 e in
-        let up : length bits ≤ min b.most 126 = omega arith in
-        let small : num bits < 2 ^ length bits = num-below bits in
-        let power : 2 ^ length bits ≤ 2 ^ min b.most 126 = pow_mono up in
-        let le : num bits ≤ 2 ^ min b.most 126 - 1 = omega arith in
-        record { above = omega (arith, ints); below = omega (arith, ints) }
+learnt_lies : (b : Bounds) (l : Learnt) → b.most ≤ 2 ^ 64 → LearntLies b l → NumbersLie b (learnt_numbers l)
+learnt_lies b Nothing small h = record { value_lies = tt; length_lies = tt }
+learnt_lies b (Length n) small h = record { value_lies = tt; length_lies = count_lies b n small h }
+learnt_lies b (Whole bits) small h = bits_lie b bits small h
 
-count_lies : (b : Bounds) (n : ℕ) → b.most ≤ 2 ^ 64 → LiesBetween b n → IsIn (length_range b) (pos n)
-count_lies b n small lies =
-    let least : b.least ≤ n = lies.least in
-    let most : n ≤ b.most = lies.most in
-    let low : min (min b.least b.most) (2 ^ 64) ≤ n = omega arith in
-    let high : n ≤ min b.most (2 ^ 64) = omega arith in
-    record { above = omega (arith, ints); below = omega (arith, ints) }
-
-learnt_lies : (m : Measure) (b : Bounds) (l : Learnt) → b.most ≤ 2 ^ 64 → LearntLies b l → IfSome (k.measured (learnt_numbers l) m) (IsIn (interval_of (intervals_of b) m))
-learnt_lies measure.Value b Nothing small h = tt
-learnt_lies measure.Length b Nothing small h = tt
-learnt_lies measure.Value b (Length n) small h = tt
-learnt_lies measure.Length b (Length n) small h = count_lies b n small h
-learnt_lies measure.Value b (Whole bits) small h = value_lies b bits h.most
-learnt_lies measure.Length b (Whole bits) small h = count_lies b (length bits) small h
+-- their number, whatever the least length
+value_lies : (b : Bounds) (bits : List Bool) → b.most ≤ 2 ^ 64 → length bits ≤ b.most → IfSome (numbers bits).value (IsIn (value_range b.most))
+value_lies b bits small most = (bits_lie record { least = 0; most = b.most } bits small record { least = omega arith; most = most }).value_lies
 
 -- ---- sums of least lengths
 
@@ -153,48 +135,37 @@ module _ (methods : List Method) (table : List MethodSizes) (are : AreSizes meth
   whole_high Uncompressed = header_within methods table are m format s sizes at slots count within
   whole_high Compressed = packed_within methods table are m format s sizes at slots count within
 
-  whole_lies : (side : Side) (z : Measure) → IfSome (k.measured (whole_numbers format slots side) z) (IsIn (interval_of (intervals_of (side_bounds side sizes.whole)) z))
-  whole_lies side measure.Value = by (knows_all format slots (side_facts format subject.This side measure.Value)) where
-    by : (b : Bool) → IfSome (if b then (numbers_of (known_sides format slots subject.This side)).value else None) (IsIn (value_range (side_bounds side sizes.whole).most))
-    by true = value_lies (side_bounds side sizes.whole) (known_sides format slots subject.This side) (whole_high side)
-    by false = tt
-  whole_lies side measure.Length = by (knows_all format slots (side_facts format subject.This side measure.Length)) refl where
-    by : (b : Bool) → knows_all format slots (side_facts format subject.This side measure.Length) ≡ b → IfSome (if b then (numbers_of (known_sides format slots subject.This side)).length else None) (IsIn (length_range (side_bounds side sizes.whole)))
-    by true e = count_lies (side_bounds side sizes.whole) (length (known_sides format slots subject.This side)) (whole_small side) record { least = whole_low side e; most = whole_high side }
-    by false e = tt
+  whole_lies : (side : Side) → NumbersLie (side_bounds side sizes.whole) (whole_numbers format slots side)
+  whole_lies side = record {
+    value_lies = by_value (knows_all format slots (side_facts format subject.This side measure.Value));
+    length_lies = by_length (knows_all format slots (side_facts format subject.This side measure.Length)) refl;
+  }
+    where
+      by_value : (t : Bool) → IfSome (if t then (numbers (known_sides format slots subject.This side)).value else None) (IsIn (value_range (side_bounds side sizes.whole).most))
+      by_value true = value_lies (side_bounds side sizes.whole) (known_sides format slots subject.This side) (whole_small side) (whole_high side)
+      by_value false = tt
+      by_length : (t : Bool) → knows_all format slots (side_facts format subject.This side measure.Length) ≡ t → IfSome (if t then (numbers (known_sides format slots subject.This side)).length else None) (IsIn (length_range (side_bounds side sizes.whole)))
+      by_length true e = count_lies (side_bounds side sizes.whole) (length (known_sides format slots subject.This side)) (whole_small side) record { least = whole_low side e; most = whole_high side }
+      by_length false e = tt
 
-  side_is : (b : Sizes) (side : Side) → side_intervals (side_ranges b) side ≡ intervals_of (side_bounds side b)
-  side_is b Uncompressed = refl
-  side_is b Compressed = refl
+  field_lies : (i : ℕ) (x : Slot) (b : Sizes) (side : Side) → slice_get slots i ≡ Some x → slice_get sizes.fields i ≡ Some b → NumbersLie (side_bounds side b) (learnt_numbers (side_of_slot side x))
+  field_lies i x b side e at_b =
+      learnt_lies (side_bounds side b) (side_of_slot side x) ((by-rules methods table are).small m format s sizes at side i _ b (also_at slots format.fields i x count e).1 at_b) (within i x b side e at_b)
 
-  field_lies : (i : ℕ) (side : Side) (z : Measure) (o : Option Slot) → slice_get slots i ≡ o → IfSome (k.measured (learnt_numbers (learnt_of side o)) z) (IsIn (interval_of (side_intervals (intervals_at (map side_ranges sizes.fields) i) side) z))
-  field_lies i side measure.Value None e = tt
-  field_lies i side measure.Length None e = tt
-  field_lies i side z (Some x) e =
-      let b = also_at slots sizes.fields i x as_many e in
-      let is : intervals_at (map side_ranges sizes.fields) i ≡ side_ranges b.0 = ap (λ o. unwrap_or o record { uncompressed = every_of_side; compressed = every_of_side }) (slice_get-map side_ranges sizes.fields i ∙ ap (option_map side_ranges) b.1) in
-      subst (λ r. IfSome (k.measured (learnt_numbers (side_of_slot side x)) z) (IsIn (interval_of r z))) (sym (ap (λ r. side_intervals r side) is ∙ side_is b.0 side))
-      (learnt_lies z (side_bounds side b.0) (side_of_slot side x) ((by-rules methods table are).small m format s sizes at side i _ b.0 (also_at slots format.fields i x count e).1 b.1) (within i x b.0 side e b.1))
-
-  parameter_lies : (i : ℕ) (o : Option ℤ) → slice_get args i ≡ o → (q : Option Interval) → slice_get s.parameters i ≡ q → IfSome o (IsIn (unwrap_or q every))
-  parameter_lies i None e q is = tt
-  parameter_lies i (Some v) e (Some r) is = lies.each i r v is e
-  parameter_lies i (Some v) e None is =
-      let inside : i < length args = slice_get_within args i v e in
-      let c = lies.count in
-      absurd (none_there s.parameters i (omega arith) is)
-
-  attribute_lies : (x : Subject) (side : Side) (z : Measure) → IfSome ((assignment_of (known_of format slots args)).attribute record { subject = x; side = side; measure = z }) (IsIn ((ranges_in sizes s).attribute record { subject = x; side = side; measure = z }))
-  attribute_lies (subject.Field i) side z =
-      subst (λ n. IfSome (k.measured n z) (IsIn (interval_of (side_intervals (intervals_at (map side_ranges sizes.fields) i) side) z))) (sym (field_numbers slots i side)) (field_lies i side z (slice_get slots i) refl)
-  attribute_lies subject.This Uncompressed z = whole_lies Uncompressed z
-  attribute_lies subject.This Compressed z = whole_lies Compressed z
+  fields_lie : AllLie sizes.fields (map slot_numbers slots)
+  fields_lie i b y at_b at_y = by (slice_get slots i) refl
+    where
+      by : (o : Option Slot) → slice_get slots i ≡ o → BothLie b y
+      by None e = let wrong : None ≡ Some y = sym (slice_get-map slot_numbers slots i ∙ ap (option_map slot_numbers) e) ∙ at_y in absurd cc
+      by (Some x) e =
+          let is : Some (slot_numbers x) ≡ Some y = sym (slice_get-map slot_numbers slots i ∙ ap (option_map slot_numbers) e) ∙ at_y in
+          let same : slot_numbers x ≡ y = cc in
+          subst (BothLie b) same record { uncompressed_lies = field_lies i x b Uncompressed e at_b; compressed_lies = field_lies i x b Compressed e at_b }
 
   slots_lie : LieIn (assignment_of (known_of format slots args)) (ranges_in sizes s)
-  slots_lie = record {
-    attributes = λ t. attribute_lies t.subject t.side t.measure;
-    parameters = λ i. parameter_lies i (slice_get args i) refl (slice_get s.parameters i) refl;
-  }
+  slots_lie =
+      partly_lies (known_of format slots args) s sizes (sym as_many ∙ sym (length-map slots slot_numbers)) fields_lie
+      record { uncompressed_lies = whole_lies Uncompressed; compressed_lies = whole_lies Compressed } lies
 
 pub all_lie : SlotsLie
 all_lie methods table are m format s sizes at slots args count within lies = slots_lie methods table are m format s sizes at slots args count within lies

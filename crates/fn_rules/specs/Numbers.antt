@@ -1,6 +1,5 @@
 -- The numbers that slots know, as expressions take them (docs/DEFINITIONS.md, The steps of a reading walk).
-use Rattle.std.specs.Prelude.{◌≡◌, ℕ, ◌+◌, ◌^◌, ◌≤◌, Bool, true, false, List, map, length, nat_le, slice_get, Some, None, ℤ, pos, if◌then◌else◌}
-use Rattle.fn_bits.specs.Number.{num}
+use Rattle.std.specs.Prelude.{◌≡◌, ℕ, ◌+◌, ◌^◌, ◌≤◌, Bool, true, false, List, map, length, slice_get, Some, None, ℤ, pos, if◌then◌else◌}
 use Rattle.fn_expr.specs.declared.known.Numbers.{Numbers}
 use Rattle.fn_expr.specs.declared.known.SideNumbers.{SideNumbers}
 use Rattle.fn_expr.specs.declared.known.Known.{Known}
@@ -29,6 +28,7 @@ use Rattle.fn_normal.specs.declared.profile.Constraint.{Constraint}
 use Rattle.fn_rules.specs.Rules.{length_given, value_given}
 use Rattle.fn_expr.specs.Spread.{LieIn}
 use Rattle.fn_fits.specs.Bounded.{LiesBetween, ArgumentsLie}
+use Rattle.fn_fits.specs.Numbers.{numbers}
 use Rattle.fn_normal.specs.declared.profile.Bounds.{Bounds}
 use Rattle.fn_rules.specs.declared.slots.Learnt.{Learnt}
 use Rattle.fn_rules.specs.declared.slots.Learnt.TheVariants.{Nothing, Length, Whole}
@@ -37,15 +37,11 @@ use Rattle.fn_rules.specs.Facts.{side_facts, inputs}
 use Rattle.fn_rules.specs.Slots.{side_of_slot, learnt_at, knows_all, bits_of}
 use Rattle.fn_rules.specs.Reading.{known_sides, known_numbers, offset_of}
 
--- the number that bits spell, up to 64 of them, and how many they are
-abbrev pub numbers_of : List Bool → Numbers
-numbers_of bits = record { value = if nat_le (length bits) 64 then Some (pos (num bits)) else None; length = Some (pos (length bits)) }
-
 -- the numbers that are known of a side
 abbrev pub learnt_numbers : Learnt → Numbers
 learnt_numbers Nothing = no_numbers
 learnt_numbers (Length n) = record { value = None; length = Some (pos n) }
-learnt_numbers (Whole bits) = numbers_of bits
+learnt_numbers (Whole bits) = numbers bits
 
 -- those of both sides of a field
 abbrev pub slot_numbers : Slot → SideNumbers
@@ -54,8 +50,8 @@ slot_numbers s = record { uncompressed = learnt_numbers s.uncompressed; compress
 -- those of a side of the whole, where each part is known
 abbrev pub whole_numbers : Format → List Slot → Side → Numbers
 whole_numbers format slots side = record {
-  value = if knows_all format slots (side_facts format subject.This side measure.Value) then (numbers_of (known_sides format slots subject.This side)).value else None;
-  length = if knows_all format slots (side_facts format subject.This side measure.Length) then (numbers_of (known_sides format slots subject.This side)).length else None;
+  value = if knows_all format slots (side_facts format subject.This side measure.Value) then (numbers (known_sides format slots subject.This side)).value else None;
+  length = if knows_all format slots (side_facts format subject.This side measure.Length) then (numbers (known_sides format slots subject.This side)).length else None;
 }
 
 -- the numbers that the slots know, with those of the whole and the arguments

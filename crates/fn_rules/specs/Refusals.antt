@@ -13,6 +13,8 @@ use Rattle.fn_cert.specs.declared.certificate.Node.TheVariants as node
 use Rattle.fn_cert.specs.declared.certificate.Plans.{Plans}
 use Rattle.fn_cert.specs.declared.certificate.MethodPlans.{MethodPlans}
 use Rattle.fn_cert.specs.declared.certificate.Certificate.{Certificate}
+use Rattle.fn_rules.specs.declared.fault.CheckFault.{CheckFault}
+use Rattle.fn_rules.specs.declared.fault.CheckFault.TheVariants.{NoMethod, NoFormat, NotEnabled, NeverLearnt, WrongLeaf, ShortFormat, OutOfRange, TooMany, TooLong}
 use Rattle.fn_rules.specs.Plans.{Goal, way_of, enabled, known_after, all_enabled}
 use Rattle.fn_rules.specs.Facts.{has_all}
 use Rattle.fn_rules.specs.Trees.{Reach, reach_at, Reaches, everything}
@@ -20,18 +22,6 @@ use Rattle.fn_rules.specs.Counts.{entry_at, AreCounts}
 use Rattle.fn_bounds.specs.Methods.{IsOrder}
 use Rattle.fn_bounds.specs.Outcome.{AreSizes}
 use Rattle.fn_rules.specs.Valid.{plans_at, Valid}
-
--- methods, formats, steps, nodes and fields by their places
-pub data Refusal : Type 0 where
-  no_method : (k : ℕ) → Refusal
-  no_format : (k n : ℕ) → Refusal
-  not_enabled : (k n : ℕ) → Direction → (step : ℕ) → Refusal
-  never_learnt : (k n : ℕ) → Direction → (i : ℕ) → Side → Refusal
-  wrong_leaf : (k place n : ℕ) → Refusal
-  short_format : (k place n : ℕ) → Refusal
-  out_of_range : (k place : ℕ) → Refusal
-  too_many : Refusal
-  too_long : Refusal
 
 -- the plan of a direction
 abbrev pub steps_of : Direction → Plans → List Step
@@ -47,31 +37,31 @@ pub record At (methods : List Method) (table : List MethodSizes) (cert : Certifi
   pub entry_is : entry_at cert k ≡ Some entry
 
 -- Each fault, with what shows it.
-pub data IsRefused (methods : List Method) (table : List MethodSizes) (top : ℕ) (cert : Certificate) : Refusal → Type 0 where
-  lacks_method : {k : ℕ} (m : Method) (first : Format) → slice_get methods k ≡ Some m → slice_get m.formats 0 ≡ Some first → entry_at cert k ≡ None → IsRefused methods table top cert (no_method k)
+pub data IsRefused (methods : List Method) (table : List MethodSizes) (top : ℕ) (cert : Certificate) : CheckFault → Type 0 where
+  lacks_method : {k : ℕ} (m : Method) (first : Format) → slice_get methods k ≡ Some m → slice_get m.formats 0 ≡ Some first → entry_at cert k ≡ None → IsRefused methods table top cert (NoMethod k)
   lacks_format : {k n : ℕ} {m : Method} {s : MethodSizes} {entry : MethodPlans} (format : Format) → At methods table cert k m s entry → slice_get m.formats n ≡ Some format → plans_at entry n ≡ None →
-      IsRefused methods table top cert (no_format k n)
+      IsRefused methods table top cert (NoFormat k n)
   step_refused : {k n : ℕ} {m : Method} {s : MethodSizes} {entry : MethodPlans} (format : Format) (plans : Plans) (direction : Direction) (before after : List Step) (step : Step) → At methods table cert k m s entry →
       slice_get m.formats n ≡ Some format → plans_at entry n ≡ Some plans → steps_of direction plans ≡ before ++ step ∷ after →
       all_enabled (way_of direction table format).rule (way_of direction table format).start before ≡ true →
       enabled (known_after (way_of direction table format).rule (way_of direction table format).start before) ((way_of direction table format).rule step) ≡ false →
-      IsRefused methods table top cert (not_enabled k n direction (length before))
+      IsRefused methods table top cert (NotEnabled k n direction (length before))
   side_unknown : {k n : ℕ} {m : Method} {s : MethodSizes} {entry : MethodPlans} (format : Format) (plans : Plans) (direction : Direction) (place : ℕ) (goal : Goal) → At methods table cert k m s entry →
       slice_get m.formats n ≡ Some format → plans_at entry n ≡ Some plans → all_enabled (way_of direction table format).rule (way_of direction table format).start (steps_of direction plans) ≡ true →
       slice_get (way_of direction table format).goals place ≡ Some goal → has_all (known_after (way_of direction table format).rule (way_of direction table format).start (steps_of direction plans)) goal.facts ≡ false →
-      IsRefused methods table top cert (never_learnt k n direction goal.field goal.side)
+      IsRefused methods table top cert (NeverLearnt k n direction goal.field goal.side)
   leaf_reached : {k place n : ℕ} {m : Method} {s : MethodSizes} {entry : MethodPlans} (j : ℕ) (reach : Reach) → At methods table cert k m s entry → slice_get entry.tree place ≡ Some (node.Leaf j) →
-      reach_at (everything ∷ []) entry.tree place ≡ Some reach → Reaches m.formats s reach n → n ≢ j → IsRefused methods table top cert (wrong_leaf k place n)
+      reach_at (everything ∷ []) entry.tree place ≡ Some reach → Reaches m.formats s reach n → n ≢ j → IsRefused methods table top cert (WrongLeaf k place n)
   nowhere_reached : {k place n : ℕ} {m : Method} {s : MethodSizes} {entry : MethodPlans} (reach : Reach) → At methods table cert k m s entry → slice_get entry.tree place ≡ Some node.Nowhere →
-      reach_at (everything ∷ []) entry.tree place ≡ Some reach → Reaches m.formats s reach n → IsRefused methods table top cert (wrong_leaf k place n)
+      reach_at (everything ∷ []) entry.tree place ≡ Some reach → Reaches m.formats s reach n → IsRefused methods table top cert (WrongLeaf k place n)
   bit_past : {k place n : ℕ} {m : Method} {s : MethodSizes} {entry : MethodPlans} (o : ℕ) (reach : Reach) → At methods table cert k m s entry → slice_get entry.tree place ≡ Some (node.Bit o) →
-      reach_at (everything ∷ []) entry.tree place ≡ Some reach → (r : Reaches m.formats s reach n) → r.sizes.whole.compressed.least ≤ o → IsRefused methods table top cert (short_format k place n)
+      reach_at (everything ∷ []) entry.tree place ≡ Some reach → (r : Reaches m.formats s reach n) → r.sizes.whole.compressed.least ≤ o → IsRefused methods table top cert (ShortFormat k place n)
   constant_outside : {k place : ℕ} {m : Method} {s : MethodSizes} {entry : MethodPlans} (i : ℕ) (c : ℤ) (r : Interval) → At methods table cert k m s entry → slice_get entry.tree place ≡ Some (node.Parameter i c) → (reach : Reach) → reach_at (everything ∷ []) entry.tree place ≡ Some reach →
-      slice_get s.parameters i ≡ Some r → (IsIn r c → ⊥) → IsRefused methods table top cert (out_of_range k place)
-  counts_above : (counts : List ℕ) (n : ℕ) → AreCounts methods cert counts → slice_get counts top ≡ Some n → 4096 < n → IsRefused methods table top cert too_many
-  bits_above : (s : MethodSizes) → slice_get table top ≡ Some s → 8192 < s.whole.compressed.most → IsRefused methods table top cert too_long
+      slice_get s.parameters i ≡ Some r → (IsIn r c → ⊥) → IsRefused methods table top cert (OutOfRange k place)
+  counts_above : (counts : List ℕ) (n : ℕ) → AreCounts methods cert counts → slice_get counts top ≡ Some n → 4096 < n → IsRefused methods table top cert TooMany
+  bits_above : (s : MethodSizes) → slice_get table top ≡ Some s → 8192 < s.whole.compressed.most → IsRefused methods table top cert TooLong
 
 -- A fault is there only where the certificate is not valid, where the methods stand in an order, callees first.
 abbrev pub FaultsExclude : Type 0
 FaultsExclude = (methods : List Method) (table : List MethodSizes) (top : ℕ) (cert : Certificate) (order : List ℕ) → IsOrder methods order → AreSizes methods table → Valid methods table top cert →
-    (r : Refusal) → IsRefused methods table top cert r → ⊥
+    (r : CheckFault) → IsRefused methods table top cert r → ⊥

@@ -1,0 +1,29 @@
+-- What is accepted (docs/DEFINITIONS.md, Certificates): a profile with a certificate that is valid for it.
+use Rattle.std.specs.Prelude.{◌≡◌, ℕ, ℤ, List}
+use Rattle.fn_filling.specs.Entries.{Path}
+use Rattle.fn_fits.specs.Fronts.{Det, DetAt}
+use Rattle.fn_profile.specs.Resolved.{Resolved}
+use Rattle.fn_cert.specs.Kept.{Entries}
+use Rattle.fn_rules.specs.Valid.{Valid}
+use Rattle.fn_rules.specs.Refusals.{IsRefused}
+use Rattle.fn_checker.specs.declared.accepted.CheckError.{CheckError}
+use Rattle.fn_checker.specs.declared.accepted.CheckError.TheVariants.{Fault, OutOfMemory}
+
+-- a profile and a certificate
+pub record Accepting : Type 0 where
+  pub profile : Resolved
+  pub certificate : Entries
+
+-- the certificate is valid for the profile
+abbrev pub IsAccepted : Accepting → Type 0
+IsAccepted a = Valid a.profile.methods a.profile.sizes a.profile.top a.certificate
+
+-- In every context and for all bits at most one filling has its packed bits at their front: of the top, and of each method under arguments and at a path.
+pub record IsDeterminate (a : Accepting) : Type 0 where
+  pub top : Det a.profile.methods a.profile.top
+  pub each : (k : ℕ) (args : List ℤ) (path : Path) → DetAt a.profile.methods k args path
+
+-- what an error says of the profile and the certificate
+abbrev pub Blames : Resolved → Entries → CheckError → Type 0
+Blames profile certificate (Fault fault) = IsRefused profile.methods profile.sizes profile.top certificate fault
+Blames profile certificate OutOfMemory = Unit {0}

@@ -1,0 +1,92 @@
+//! What `check` answers.
+
+ghost use Rattle.std.specs.Prelude.{◌≡◌};
+ghost use Rattle.fn_checker.specs.Accepted.{IsAccepted, IsDeterminate};
+
+use fn_cert::Certificate;
+use fn_profile::Profile;
+use fn_rules::CheckFault;
+use std::marker::Model;
+use thiserror::Error;
+
+/// A profile with a certificate that is valid for it. Only `check` makes one.
+#[derive(Drop)]
+pub struct Accepted {
+    profile: Profile,
+    certificate: Certificate,
+}
+
+impl Model for Accepted {
+    ghost use Rattle.fn_checker.specs.Accepted.{Accepting, IsAccepted};
+    ghost use Rattle.fn_expr.specs.contracts.expr.Expr as expr;
+    ghost use Rattle.fn_expr.specs.contracts.expr.Cond as cond;
+    ghost use Rattle.std.specs.Coded.{codes};
+
+    ghost Value = { Accepting };
+
+    ghost coded = { Prim.hlevel (codes, expr.the_row.coded, cond.the_row.coded) };
+
+    ghost view = { λ a. record { profile = a.profile; certificate = a.certificate } };
+
+    ghost invariant = { λ a. IsAccepted (record { profile = a.profile; certificate = a.certificate }) };
+}
+
+impl Accepted {
+    pub(crate) fn of(profile: Profile, certificate: Certificate) -> Accepted
+        requires { IsAccepted (record { profile = profile; certificate = certificate }) }
+        ensures profile { result.profile ≡ profile }
+        ensures certificate { result.certificate ≡ certificate }
+    {
+        Accepted {
+            profile,
+            certificate,
+        }
+    }
+
+    /// The profile that was checked.
+    pub fn profile(&self) -> &Profile
+        ensures { result.now ≡ self.now.profile }
+    {
+        &self.profile
+    }
+
+    /// The certificate that was checked.
+    pub fn certificate(&self) -> &Certificate
+        ensures { result.now ≡ self.now.certificate }
+    {
+        &self.certificate
+    }
+
+    /// A law of what is accepted: the certificate is valid for the profile.
+    pub fn keeps(&self)
+        ensures { IsAccepted self.now }
+    {
+        let _ = &self.profile;
+    }
+
+    /// A law of what is accepted: in every context and for all bits at most one filling has its packed bits at their front, of the top and of every method
+    /// under given arguments and at a path.
+    pub fn determinate(&self)
+        ensures { IsDeterminate self.now }
+    {
+        self.keeps();
+        self.profile.keeps();
+    }
+}
+
+/// Why nothing was accepted.
+#[derive(Clone, Copy, Debug, Error)]
+pub enum CheckError {
+    #[error("certificate is not valid")]
+    Fault(CheckFault),
+    #[error("out of memory")]
+    OutOfMemory,
+}
+
+/// A refusal, with the profile and the certificate as they were given.
+#[derive(Drop)]
+pub struct Refusal {
+    pub error: CheckError,
+    pub profile: Profile,
+    pub certificate: Certificate,
+}
