@@ -3,13 +3,13 @@ use Rattle.std.specs.Prelude.{◌≡◌, [], ◌∷◌, Some, None, negsuc, code
 use Rattle.fn_expr.specs.declared.expr.Side.TheVariants.{Uncompressed, Compressed}
 use Rattle.fn_cert.specs.declared.certificate.Step.TheVariants.{Take, Call, LibraryUp, LibraryDown, MethodLength, ConstraintLength, Solve, Choose, Ask}
 use Rattle.fn_cert.specs.declared.certificate.Node.TheVariants.{Bit, Parameter, Leaf, Nowhere}
-use Rattle.fn_cert.specs.declared.certificate.Certificate.{Certificate}
+use Rattle.fn_cert.specs.Kept.{Entries}
 use Rattle.fn_cert.specs.Text.{certificate_text}
 
 -- one method of two formats, of which it names the first
-abbrev pub certificate : Certificate
-certificate = record {
-  methods = Some record {
+abbrev pub certificate : Entries
+certificate =
+  Some record {
     name = codes "m";
     parameters = codes "p" ∷ [];
     tree = Parameter 0 (negsuc 2) ∷ Bit 12 ∷ Leaf 0 ∷ Nowhere ∷ Leaf 1 ∷ [];
@@ -21,8 +21,7 @@ certificate = record {
         write = Choose 0 ∷ Ask 1 ∷ [];
       };
     } ∷ record { name = None; fields = []; plans = None } ∷ [];
-  } ∷ None ∷ [];
-}
+  } ∷ None ∷ []
 
 -- Its text.
 abbrev pub IsPrinted : Type 0

@@ -1,2 +1,3 @@
+pub mod Kept
 pub mod Text
 pub mod Example

@@ -10,7 +10,7 @@ use Rattle.fn_cert.specs.declared.certificate.Node.TheVariants.{Bit, Parameter, 
 use Rattle.fn_cert.specs.declared.certificate.Plans.{Plans}
 use Rattle.fn_cert.specs.declared.certificate.FormatPlans.{FormatPlans}
 use Rattle.fn_cert.specs.declared.certificate.MethodPlans.{MethodPlans}
-use Rattle.fn_cert.specs.declared.certificate.Certificate.{Certificate}
+use Rattle.fn_cert.specs.Kept.{Entries}
 
 -- a name; one that is not there is called -
 abbrev pub name_of : Option (List ℕ) → List ℕ
@@ -85,8 +85,8 @@ method_lines None = []
 method_lines (Some method) = (codes "method " ++ method.name) ∷ map (node_line method) method.tree ++ flat_map format_lines method.formats
 
 -- all lines
-abbrev pub certificate_lines : Certificate → List (List ℕ)
-certificate_lines certificate = codes "rohcfn-certificate 1" ∷ flat_map method_lines certificate.methods ++ codes "end" ∷ []
+abbrev pub certificate_lines : Entries → List (List ℕ)
+certificate_lines entries = codes "rohcfn-certificate 1" ∷ flat_map method_lines entries ++ codes "end" ∷ []
 
 -- a line with its line feed
 abbrev pub ended : List ℕ → List ℕ
@@ -97,5 +97,5 @@ abbrev pub spelled : List (List ℕ) → List ℕ
 spelled = flat_map ended
 
 -- the text
-abbrev pub certificate_text : Certificate → List ℕ
-certificate_text certificate = spelled (certificate_lines certificate)
+abbrev pub certificate_text : Entries → List ℕ
+certificate_text entries = spelled (certificate_lines entries)

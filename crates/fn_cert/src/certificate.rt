@@ -1,8 +1,24 @@
 //! The types of certificates. Methods, formats, fields, parameters and constraints go by their indices.
 
+ghost use Rattle.std.specs.Prelude.{◌≡◌};
+ghost use Rattle.fn_cert.specs.Kept.{AreKept};
+
 use fn_expr::Side;
 use fn_normal::Name;
 use sqlite_items::Items;
+use std::marker::Model;
+
+/// No tree of a certificate has more nodes.
+pub const NODE_LIMIT: usize = 4_096;
+
+/// No node is deeper, where the root's depth is 1.
+pub const DEPTH_LIMIT: usize = 128;
+
+/// Each tested bit is below this offset.
+pub const OFFSET_LIMIT: usize = 8_192;
+
+/// No plan has more steps.
+pub const STEP_LIMIT: usize = 2_048;
 
 /// What a plan is for: to read packed bits, or to write them.
 #[derive(Clone, Copy)]
@@ -73,8 +89,43 @@ pub struct MethodPlans {
     pub formats: Items<FormatPlans>,
 }
 
-/// A certificate: what it says of each method of the profile, where it names the method.
+/// A certificate: what it says of each method of the profile, where it names the method. Each tree is one whole tree, and all is within the limits.
 #[derive(Drop)]
 pub struct Certificate {
-    pub methods: Items<Option<MethodPlans>>,
+    methods: Items<Option<MethodPlans>>,
+}
+
+// Clauses see the list of what it says of each method.
+impl Model for Certificate {
+    ghost use Rattle.fn_cert.specs.Kept.{Entries, AreKept};
+
+    ghost Value = { Entries };
+
+    ghost view = { λ c. c.methods };
+
+    ghost invariant = { λ c. AreKept c.methods };
+}
+
+impl Certificate {
+    /// The certificate that says this of each method.
+    pub fn of(methods: Items<Option<MethodPlans>>) -> Certificate
+        requires { AreKept methods }
+        ensures { result ≡ methods }
+    {
+        Certificate { methods }
+    }
+
+    /// What it says of each method.
+    pub fn methods(&self) -> &[Option<MethodPlans>]
+        ensures { result.now ≡ self.now }
+    {
+        self.methods.as_slice()
+    }
+
+    /// A law of certificates: what each one keeps.
+    pub fn keeps(&self)
+        ensures { AreKept self.now }
+    {
+        let _ = &self.methods;
+    }
 }

@@ -1,7 +1,9 @@
 //! Certificates: for each method a decision tree, for each format a plan to read it and one to write it.
 #![tactic(auto)]
 
-pub use certificate::{Certificate, Direction, FormatPlans, MethodPlans, Node, Plans, Step};
+pub use certificate::{
+    Certificate, DEPTH_LIMIT, Direction, FormatPlans, MethodPlans, NODE_LIMIT, Node, OFFSET_LIMIT, Plans, STEP_LIMIT, Step,
+};
 pub use printing::print;
 pub use rule::{Fact, Rule};
 

@@ -14,7 +14,7 @@ use std::alloc::{AllocError, Global};
 pub fn print(alloc: Global, certificate: &Certificate) -> Result<String, AllocError>
     ensures { IfOk result (λ text. string_bytes text ≡ spec.certificate_text certificate.now) }
 {
-    let methods = methods_text(alloc, certificate.methods.as_slice())?;
+    let methods = methods_text(alloc, certificate.methods())?;
     let methods = methods.as_str();
     format!(in alloc; "rohcfn-certificate 1\n{methods}end\n")
 }

@@ -15,7 +15,7 @@ use Rattle.fn_cert.specs.declared.certificate.Step.TheVariants.{Take, Call, Libr
 use Rattle.fn_cert.specs.declared.certificate.Plans.{Plans}
 use Rattle.fn_cert.specs.declared.certificate.FormatPlans.{FormatPlans}
 use Rattle.fn_cert.specs.declared.certificate.MethodPlans.{MethodPlans}
-use Rattle.fn_cert.specs.declared.certificate.Certificate.{Certificate}
+use Rattle.fn_cert.specs.Kept.{Entries}
 use Rattle.fn_rules.specs.Counts.{callee, ways, plan_ways, format_ways, method_ways, entry_ways, entry_at, AreCounts}
 use Rattle.fn_rules.specs.Laws.{OneCount}
 
@@ -64,7 +64,7 @@ module _ (counts others : List ℕ) where
   entry_same formats same None = refl
   entry_same formats same (Some entry) = method_same formats same entry.formats
 
-module _ (methods : List Method) (order : List ℕ) (cert : Certificate) (counts others : List ℕ) (ordered : IsOrder methods order) (are : AreCounts methods cert counts) (also : AreCounts methods cert others) where
+module _ (methods : List Method) (order : List ℕ) (cert : Entries) (counts others : List ℕ) (ordered : IsOrder methods order) (are : AreCounts methods cert counts) (also : AreCounts methods cert others) where
   as_many : length counts ≡ length others
   as_many = are.each ∙ sym also.each
 

@@ -19,7 +19,7 @@ use Rattle.fn_bounds.specs.Outcome.{AreSizes}
 use Rattle.fn_fits.proofs.Sized.{and_then_some}
 use Rattle.fn_cert.specs.declared.certificate.Direction.TheVariants.{Read}
 use Rattle.fn_cert.specs.declared.certificate.Step.{Step}
-use Rattle.fn_cert.specs.declared.certificate.Certificate.{Certificate}
+use Rattle.fn_cert.specs.Kept.{Entries}
 use Rattle.fn_filling.specs.declared.filling.Filling.{Filling, out-Filling}
 use Rattle.fn_filling.specs.declared.filling.FilledField.{FilledField}
 use Rattle.fn_filling.specs.Fillings.{sides_of, inner_of, fields_of, level, packed}
@@ -115,7 +115,7 @@ first_at : {X : Type 0} (xs : List X) (n : ℕ) (x : X) → slice_get xs n ≡ S
 first_at [] n x e = absurd (cc)
 first_at (y ∷ ys) n x e = (y, refl)
 
-module _ (methods : List Method) (table : List MethodSizes) (top : ℕ) (cert : Certificate) (are : AreSizes methods table) (valid : Valid methods table top cert) (ctx : Context) where
+module _ (methods : List Method) (table : List MethodSizes) (top : ℕ) (cert : Entries) (are : AreSizes methods table) (valid : Valid methods table top cert) (ctx : Context) where
   mutual
     -- at the front of any bits at most one filling fits a method, under its arguments and its path
     pub only_one : {k : ℕ} {args : List ℤ} {path : Path} {f : Filling} → Fits methods ctx k args path f → OnlyOne methods ctx k args path f

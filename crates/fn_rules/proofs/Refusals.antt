@@ -13,7 +13,7 @@ use Rattle.fn_cert.specs.declared.certificate.Step.{Step}
 use Rattle.fn_cert.specs.declared.certificate.Node.TheVariants as node
 use Rattle.fn_cert.specs.declared.certificate.Plans.{Plans}
 use Rattle.fn_cert.specs.declared.certificate.MethodPlans.{MethodPlans}
-use Rattle.fn_cert.specs.declared.certificate.Certificate.{Certificate}
+use Rattle.fn_cert.specs.Kept.{Entries}
 use Rattle.fn_filling.proofs.Unique.{also_at}
 use Rattle.fn_cert.specs.declared.rule.Fact.{Fact}
 use Rattle.fn_cert.specs.declared.rule.Rule.{Rule}
@@ -36,7 +36,7 @@ each_enabled rules known [] after step e = (and_true (enabled known (rules step)
 each_enabled rules known (s ∷ before) after step e =
     each_enabled rules (learnt (rules s) ++ known) before after step (and_true (enabled known (rules s)) (all_enabled rules (learnt (rules s) ++ known) (before ++ step ∷ after)) e).1
 
-module _ (methods : List Method) (table : List MethodSizes) (top : ℕ) (cert : Certificate) (order : List ℕ) (ordered : IsOrder methods order) (are : AreSizes methods table) (valid : Valid methods table top cert) where
+module _ (methods : List Method) (table : List MethodSizes) (top : ℕ) (cert : Entries) (order : List ℕ) (ordered : IsOrder methods order) (are : AreSizes methods table) (valid : Valid methods table top cert) where
   -- what the certificate has of a method
   found : (k : ℕ) (m : Method) (s : MethodSizes) (entry : MethodPlans) → At methods table cert k m s entry → (h : HasEntry table m s cert k) × (h.entry ≡ entry)
   found k m s entry at =

@@ -29,7 +29,8 @@ use Rattle.fn_fits.proofs.Sized.{and_then_some}
 use Rattle.fn_cert.specs.declared.certificate.Node.{Node}
 use Rattle.fn_cert.specs.declared.certificate.Node.TheVariants as node
 use Rattle.fn_rules.specs.Rules.{when}
-use Rattle.fn_rules.specs.Trees.{spelled, literal, fixed, after_bits, after_gap, after_field, known_bit, is_bit, lacks_bit, is_parameter, parameter_is, parameter_is_not, is_number, is_other, never_at, only_at, trees_after, are_trees, Reach, onward, reach_at, Reaches, IsRight, everything, PartsFormats, cut_off, by_bit, by_test, way}
+use Rattle.fn_cert.specs.Kept.{trees_after, are_trees}
+use Rattle.fn_rules.specs.Trees.{spelled, literal, fixed, after_bits, after_gap, after_field, known_bit, is_bit, lacks_bit, is_parameter, parameter_is, parameter_is_not, is_number, is_other, never_at, only_at, Reach, onward, reach_at, Reaches, IsRight, everything, PartsFormats, cut_off, by_bit, by_test, way}
 use Rattle.fn_rules.specs.Reading.{Follows, CutOffBelow}
 use Rattle.fn_rules.proofs.Agree.{and_true, when_some}
 use Rattle.fn_rules.proofs.Methods.{num_same}

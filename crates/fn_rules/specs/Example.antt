@@ -13,7 +13,7 @@ use Rattle.fn_normal.specs.declared.profile.Method.{Method}
 use Rattle.fn_normal.specs.declared.profile.MethodSizes.{MethodSizes}
 use Rattle.fn_cert.specs.declared.certificate.Step.TheVariants.{Take, LibraryUp, LibraryDown, MethodLength}
 use Rattle.fn_cert.specs.declared.certificate.Node.TheVariants as node
-use Rattle.fn_cert.specs.declared.certificate.Certificate.{Certificate}
+use Rattle.fn_cert.specs.Kept.{Entries}
 use Rattle.fn_rules.specs.Valid.{Valid}
 
 -- the place of everything
@@ -41,9 +41,9 @@ abbrev pub sizes : MethodSizes
 sizes = record { formats = record { fields = four ∷ []; whole = four } ∷ []; whole = four; parameters = [] }
 
 -- the certificate, of one leaf and two plans of three steps
-abbrev pub certificate : Certificate
-certificate = record {
-  methods = Some record {
+abbrev pub certificate : Entries
+certificate =
+  Some record {
     name = codes "plain";
     parameters = [];
     tree = node.Leaf 0 ∷ [];
@@ -55,8 +55,7 @@ certificate = record {
         write = MethodLength 0 Uncompressed ∷ Take 0 ∷ LibraryDown 0 ∷ [];
       };
     } ∷ [];
-  } ∷ [];
-}
+  } ∷ []
 
 -- It is valid.
 abbrev pub PlainIsValid : Type 0

@@ -12,7 +12,7 @@ use Rattle.fn_cert.specs.declared.certificate.Step.{Step}
 use Rattle.fn_cert.specs.declared.certificate.Node.TheVariants as node
 use Rattle.fn_cert.specs.declared.certificate.Plans.{Plans}
 use Rattle.fn_cert.specs.declared.certificate.MethodPlans.{MethodPlans}
-use Rattle.fn_cert.specs.declared.certificate.Certificate.{Certificate}
+use Rattle.fn_cert.specs.Kept.{Entries}
 use Rattle.fn_rules.specs.declared.fault.CheckFault.{CheckFault}
 use Rattle.fn_rules.specs.declared.fault.CheckFault.TheVariants.{NoMethod, NoFormat, NotEnabled, NeverLearnt, WrongLeaf, ShortFormat, OutOfRange, TooMany, TooLong}
 use Rattle.fn_rules.specs.Plans.{Goal, way_of, enabled, known_after, all_enabled}
@@ -29,7 +29,7 @@ steps_of Read p = p.read
 steps_of Write p = p.write
 
 -- the method k has formats, and an entry
-pub record At (methods : List Method) (table : List MethodSizes) (cert : Certificate) (k : ℕ) (m : Method) (s : MethodSizes) (entry : MethodPlans) : Type 0 where
+pub record At (methods : List Method) (table : List MethodSizes) (cert : Entries) (k : ℕ) (m : Method) (s : MethodSizes) (entry : MethodPlans) : Type 0 where
   pub method_at : slice_get methods k ≡ Some m
   pub sizes_at : slice_get table k ≡ Some s
   pub first : Format
@@ -37,7 +37,7 @@ pub record At (methods : List Method) (table : List MethodSizes) (cert : Certifi
   pub entry_is : entry_at cert k ≡ Some entry
 
 -- Each fault, with what shows it.
-pub data IsRefused (methods : List Method) (table : List MethodSizes) (top : ℕ) (cert : Certificate) : CheckFault → Type 0 where
+pub data IsRefused (methods : List Method) (table : List MethodSizes) (top : ℕ) (cert : Entries) : CheckFault → Type 0 where
   lacks_method : {k : ℕ} (m : Method) (first : Format) → slice_get methods k ≡ Some m → slice_get m.formats 0 ≡ Some first → entry_at cert k ≡ None → IsRefused methods table top cert (NoMethod k)
   lacks_format : {k n : ℕ} {m : Method} {s : MethodSizes} {entry : MethodPlans} (format : Format) → At methods table cert k m s entry → slice_get m.formats n ≡ Some format → plans_at entry n ≡ None →
       IsRefused methods table top cert (NoFormat k n)
@@ -63,5 +63,5 @@ pub data IsRefused (methods : List Method) (table : List MethodSizes) (top : ℕ
 
 -- A fault is there only where the certificate is not valid, where the methods stand in an order, callees first.
 abbrev pub FaultsExclude : Type 0
-FaultsExclude = (methods : List Method) (table : List MethodSizes) (top : ℕ) (cert : Certificate) (order : List ℕ) → IsOrder methods order → AreSizes methods table → Valid methods table top cert →
+FaultsExclude = (methods : List Method) (table : List MethodSizes) (top : ℕ) (cert : Entries) (order : List ℕ) → IsOrder methods order → AreSizes methods table → Valid methods table top cert →
     (r : CheckFault) → IsRefused methods table top cert r → ⊥

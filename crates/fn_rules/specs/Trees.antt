@@ -24,6 +24,7 @@ use Rattle.fn_normal.specs.declared.profile.Format.{Format}
 use Rattle.fn_bounds.specs.Constants.{constant}
 use Rattle.fn_cert.specs.declared.certificate.Node.{Node}
 use Rattle.fn_cert.specs.declared.certificate.Node.TheVariants as node
+use Rattle.fn_cert.specs.Kept.{trees_after, are_trees}
 use Rattle.fn_rules.specs.Rules.{when, first_or}
 
 -- ---- bits that a format alone tells
@@ -118,20 +119,6 @@ abbrev pub only_at : ℕ → ℤ → Format → Bool
 only_at p c format = list_any (λ k. is_number c (parameter_is p k)) format.constraints
 
 -- ---- trees
-
--- how many trees there are after a node, its subtrees and so many more
-abbrev pub trees_after : Node → ℕ → ℕ
-trees_after (node.Bit o) n = suc (suc n)
-trees_after (node.Parameter i c) n = suc (suc n)
-trees_after (node.Leaf k) n = n
-trees_after node.Nowhere n = n
-
--- the nodes, each before its subtrees, are so many trees
-abbrev pub are_trees : ℕ → List Node → Bool
-are_trees zero [] = true
-are_trees zero (x ∷ xs) = false
-are_trees (suc n) [] = false
-are_trees (suc n) (x ∷ xs) = are_trees (trees_after x n) xs
 
 -- which formats of a method, with their bounds, reach a node
 abbrev pub Reach : Type 0
