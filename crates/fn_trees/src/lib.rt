@@ -1,0 +1,8 @@
+//! Whether a certificate's decision trees part the formats of their methods.
+#![tactic(auto)]
+
+pub use fault::TreeFault;
+pub use judging::tree_fault;
+
+pub mod fault;
+pub mod judging;
