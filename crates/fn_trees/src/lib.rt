@@ -4,5 +4,9 @@
 pub use fault::TreeFault;
 pub use judging::tree_fault;
 
+pub mod equations;
 pub mod fault;
 pub mod judging;
+mod sets;
+mod tables;
+pub mod told;
