@@ -1,0 +1,5 @@
+pub mod Faults
+pub mod Tables
+pub mod Equations
+pub mod Told
+pub mod Judged

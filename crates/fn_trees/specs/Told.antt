@@ -1,0 +1,48 @@
+-- What a format tells of its packed bits and of parameters, and which formats pass a test.
+use Rattle.std.specs.Prelude.{◌≡◌, ℕ, ◌^◌, ◌<◌, Bool, true, false, nat_eq, not, ◌&&◌, List, [], ◌∷◌, length, min, slice_get, Some}
+use Rattle.std.specs.List.{list_any, filter_map}
+use Rattle.std.specs.HashMap.{get}
+use Rattle.fn_normal.specs.declared.profile.FormatSizes.{FormatSizes}
+use Rattle.fn_normal.specs.declared.profile.Format.{Format}
+use Rattle.fn_cert.specs.declared.certificate.Node.{Node}
+use Rattle.fn_cert.specs.declared.certificate.Node.TheVariants.{Bit, Parameter, Leaf, Nowhere}
+use Rattle.fn_rules.specs.Trees.{known_bit, is_bit, lacks_bit, never_at, only_at, Reach}
+use Rattle.fn_trees.specs.declared.told.Told.{Told}
+use Rattle.fn_trees.specs.declared.told.Test.{Test}
+use Rattle.fn_trees.specs.declared.told.Test.TheVariants.{Lacks, MayBe, MayDiffer}
+use Rattle.fn_trees.specs.Equations.{equation_of, excludes, fixes}
+
+-- what is told of the format: its known bits, and its equations
+pub record IsTold (told : Told) (format : Format) (sizes : FormatSizes) : Type 0 where
+  pub bits : (o : ℕ) → o < 2 ^ 64 → get nat_eq told.bits o ≡ known_bit format.fields sizes.fields format.listing o
+  pub equations : told.equations ≡ filter_map equation_of format.constraints
+
+-- of each format that has bounds
+pub record AreTold (tolds : List Told) (formats : List Format) (sizes : List FormatSizes) : Type 0 where
+  pub count : length tolds ≡ min (length formats) (length sizes)
+  pub each : (n : ℕ) (told : Told) (format : Format) (z : FormatSizes) → slice_get tolds n ≡ Some told → slice_get formats n ≡ Some format → slice_get sizes n ≡ Some z → IsTold told format z
+
+-- which formats go on at a test
+abbrev pub survives : Test → Reach
+survives (Lacks o b) format sizes = lacks_bit b o format sizes
+survives (MayBe p c) format sizes = not (never_at p c format)
+survives (MayDiffer p c) format sizes = not (only_at p c format)
+
+-- the same by what is told
+abbrev pub passes : Test → Told → Bool
+passes (Lacks o b) told = not (is_bit b (get nat_eq told.bits o))
+passes (MayBe p c) told = not (list_any (excludes p c) told.equations)
+passes (MayDiffer p c) told = not (list_any (fixes p c) told.equations)
+
+-- of a set of formats, a mark for each, those that pass
+abbrev pub kept : Test → List Told → List Bool → List Bool
+kept test [] set = []
+kept test (told ∷ tolds) [] = []
+kept test (told ∷ tolds) (mark ∷ set) = (mark && passes test told) ∷ kept test tolds set
+
+-- the sets of a node's subtrees, the last one first
+abbrev pub branches : List Told → List Bool → Node → List (List Bool)
+branches tolds set (Bit o) = kept (Lacks o false) tolds set ∷ kept (Lacks o true) tolds set ∷ []
+branches tolds set (Parameter p c) = kept (MayDiffer p c) tolds set ∷ kept (MayBe p c) tolds set ∷ []
+branches tolds set (Leaf k) = []
+branches tolds set Nowhere = []

@@ -1,0 +1,75 @@
+//! The judgement of a decision tree.
+
+ghost use Rattle.std.specs.Prelude.{◌≡◌, List, true, IfOk, IfSome, IfNone, MatchOption, slice_get, Some, IsTrue, ◌↔◌};
+ghost use Rattle.fn_expr.specs.declared.interval.Interval.{Interval};
+ghost use Rattle.fn_expr.specs.Rules.{IsIn};
+ghost use Rattle.fn_normal.specs.declared.profile.Format.{Format};
+ghost use Rattle.fn_cert.specs.declared.certificate.Node.{Node};
+ghost use Rattle.fn_rules.specs.Trees.{are_trees, Reach, IsRight, PartsFormats};
+ghost use Rattle.fn_trees.specs.Faults.{Stands, IsTreeFault};
+ghost use Rattle.fn_trees.specs.Judged.{reaching};
+
+use crate::fault::TreeFault;
+use crate::sets::{all, first_wrong, push_branches};
+use crate::told::all_told;
+use fn_cert::Node;
+use fn_expr::Interval;
+use fn_normal::{Format, MethodSizes};
+use sqlite_items::at;
+use std::alloc::{AllocError, Global};
+
+/// What is wrong with a method's tree: at the first node, in preorder, at which something is. The nodes are one tree.
+pub fn tree_fault(
+    alloc: Global,
+    formats: &[Format],
+    sizes: &MethodSizes,
+    nodes: &[Node],
+) -> Result<Option<TreeFault>, AllocError>
+    requires { are_trees 1 nodes.now ≡ true }
+    ensures right { IfOk result (λ o. IfNone o (PartsFormats formats.now sizes.now nodes.now)) }
+    ensures found { IfOk result (λ o. IfSome o (IsTreeFault formats.now sizes.now nodes.now)) }
+{
+    let tolds = all_told(alloc, formats, sizes.formats.as_slice())?;
+    let mut sets = Vec::new(alloc);
+    sets.push(all(alloc, tolds.len())?)?;
+    for place in 0..nodes.len() {
+        let node = nodes[place];
+        let Some(set) = sets.pop() else {
+            return Ok(None);
+        };
+        if let Some(fault) = node_fault(sizes, set.as_slice(), place, node) {
+            return Ok(Some(fault));
+        }
+        push_branches(alloc, &mut sets, tolds.as_slice(), set.as_slice(), node)?;
+    }
+    Ok(None)
+}
+
+/// What is wrong with the node at a place, where the formats of the set reach it.
+fn node_fault(sizes: &MethodSizes, set: &[bool], place: usize, node: Node) -> Option<TreeFault>
+    ensures { (formats : List Format) (nodes : List Node) (reach : Reach) → set.now ≡ reaching reach formats sizes.now.formats → Stands formats sizes.now nodes place node reach →
+        MatchOption result (IsRight formats sizes.now reach node) (IsTreeFault formats sizes.now nodes) }
+{
+    if let Node::Parameter(parameter, constant) = node {
+        return if is_in_range(sizes.parameters.as_slice(), parameter, constant) {
+            None
+        } else {
+            Some(TreeFault::OutOfRange { node: place })
+        };
+    }
+    let format = first_wrong(sizes.formats.as_slice(), set, node)?;
+    if let Node::Bit(_) = node {
+        return Some(TreeFault::ShortFormat { node: place, format });
+    }
+    Some(TreeFault::WrongLeaf { node: place, format })
+}
+
+/// Whether the constant is in the range of the parameter, if it has one.
+fn is_in_range(parameters: &[Interval], parameter: usize, constant: i128) -> bool
+    ensures { IsTrue result ↔ ((range : Interval) → slice_get parameters.now parameter ≡ Some range → IsIn range constant) }
+{
+    match at(parameters, parameter) {
+        Some(range) => range.from <= constant && constant <= range.to,
+        None => true,
+    }
+}

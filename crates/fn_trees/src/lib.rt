@@ -1,0 +1,12 @@
+//! Whether a certificate's decision trees part the formats of their methods.
+#![tactic(auto)]
+
+pub use fault::TreeFault;
+pub use judging::tree_fault;
+
+pub mod equations;
+pub mod fault;
+pub mod judging;
+mod sets;
+mod tables;
+pub mod told;

@@ -1,0 +1,94 @@
+//! Sets of formats, as a mark for each.
+
+ghost use Rattle.std.specs.Prelude.{◌≡◌, ℕ, ◌++◌, replicate, true, false, slice_get, IfOk, MatchOption};
+ghost use Rattle.fn_trees.specs.Judged as judged;
+ghost use Rattle.fn_trees.specs.Told as spec;
+
+use crate::told::{Test, Told};
+use fn_cert::Node;
+use fn_normal::FormatSizes;
+use sqlite_items::{Items, at};
+use std::alloc::{AllocError, Global};
+
+/// All formats.
+pub(crate) fn all(alloc: Global, count: usize) -> Result<Items<bool>, AllocError>
+    ensures { IfOk result (λ set. set ≡ replicate count true) }
+{
+    Ok(Items::from_vec(vec![in alloc; true; count]?))
+}
+
+/// The formats of the set that pass the test.
+fn kept(
+    alloc: Global,
+    test: Test,
+    tolds: &[Told],
+    set: &[bool],
+) -> Result<Items<bool>, AllocError>
+    ensures { IfOk result (λ left. left ≡ spec.kept test tolds.now set.now) }
+{
+    let mut left = Items::new(alloc);
+    for place in 0..tolds.len() {
+        if place >= set.len() {
+            return Ok(left);
+        }
+        left.push(set[place] && tolds[place].passes(test))?;
+    }
+    Ok(left)
+}
+
+/// Puts the sets of a node's subtrees onto the stack, that of the first one last.
+pub(crate) fn push_branches(
+    alloc: Global,
+    sets: &mut Vec<Items<bool>>,
+    tolds: &[Told],
+    set: &[bool],
+    node: Node,
+) -> Result<(), AllocError>
+    ensures { IfOk result (λ u. sets.new.items ≡ sets.old.items ++ spec.branches tolds.now set.now node) }
+{
+    match node {
+        Node::Bit(offset) => {
+            sets.push(kept(alloc, Test::Lacks(offset, false), tolds, set)?)?;
+            sets.push(kept(alloc, Test::Lacks(offset, true), tolds, set)?)?;
+        }
+        Node::Parameter(parameter, constant) => {
+            sets.push(kept(alloc, Test::MayDiffer(parameter, constant), tolds, set)?)?;
+            sets.push(kept(alloc, Test::MayBe(parameter, constant), tolds, set)?)?;
+        }
+        Node::Leaf(_) | Node::Nowhere => {}
+    }
+    Ok(())
+}
+
+/// The first format of the set for which the node is wrong.
+pub(crate) fn first_wrong(sizes: &[FormatSizes], set: &[bool], node: Node) -> Option<usize>
+    ensures { MatchOption result ((n : ℕ) → judged.Has set.now n → judged.is_wrong sizes.now node n ≡ false) (judged.IsFirstWrong sizes.now set.now node) }
+{
+    for format in 0..set.len() {
+        if set[format] && is_wrong(sizes, node, format) {
+            return Some(format);
+        }
+    }
+    None
+}
+
+/// Whether the node is wrong where the format reaches it.
+fn is_wrong(sizes: &[FormatSizes], node: Node, format: usize) -> bool
+    ensures { result ≡ judged.is_wrong sizes.now node format }
+{
+    match node {
+        Node::Leaf(named) => format != named,
+        Node::Nowhere => true,
+        Node::Bit(offset) => is_short(sizes, offset, format),
+        Node::Parameter(_, _) => false,
+    }
+}
+
+fn is_short(sizes: &[FormatSizes], offset: usize, format: usize) -> bool
+    ensures { result ≡ judged.is_short offset (slice_get sizes.now format) }
+{
+    match at(sizes, format) {
+        Some(bounds) => bounds.whole.compressed.least <= offset as u128,
+        None => false,
+    }
+}
