@@ -6,21 +6,23 @@ use Rattle.fn_normal.specs.declared.profile.MethodSizes.{MethodSizes}
 use Rattle.fn_cert.specs.declared.certificate.Direction.{Direction}
 use Rattle.fn_cert.specs.declared.certificate.Plans.{Plans}
 use Rattle.fn_cert.specs.declared.certificate.MethodPlans.{MethodPlans}
-use Rattle.fn_cert.specs.declared.certificate.Certificate.{Certificate}
+use Rattle.fn_cert.specs.Kept.{Entries}
+use Rattle.fn_rules.specs.declared.fault.CheckFault.{CheckFault}
+use Rattle.fn_rules.specs.declared.fault.CheckFault.TheVariants as check
 use Rattle.fn_rules.specs.Plans.{way_of}
 use Rattle.fn_rules.specs.Valid.{plans_at}
-use Rattle.fn_rules.specs.Refusals.{Refusal, not_enabled, never_learnt, steps_of, At, IsRefused}
+use Rattle.fn_rules.specs.Refusals.{steps_of, At, IsRefused}
 use Rattle.fn_plans.specs.declared.fault.PlanFault.{PlanFault}
 use Rattle.fn_plans.specs.declared.fault.PlanFault.TheVariants.{NotEnabled, NeverLearnt}
 use Rattle.fn_plans.specs.Faults.{IsPlanFault}
 
 -- the certificate's fault, by that of a plan
-abbrev pub refusal_of : ℕ → ℕ → Direction → PlanFault → Refusal
-refusal_of k n direction (NotEnabled step) = not_enabled k n direction step
-refusal_of k n direction (NeverLearnt field side) = never_learnt k n direction field side
+abbrev pub refusal_of : ℕ → ℕ → Direction → PlanFault → CheckFault
+refusal_of k n direction (NotEnabled step) = check.NotEnabled k n direction step
+refusal_of k n direction (NeverLearnt field side) = check.NeverLearnt k n direction field side
 
 -- A fault of the plan of a format is one of the certificate.
 abbrev pub PlanFaultsRefuse : Type 0
-PlanFaultsRefuse = (methods : List Method) (table : List MethodSizes) (top : ℕ) (cert : Certificate) (k n : ℕ) (m : Method) (s : MethodSizes) (entry : MethodPlans) (format : Format) (plans : Plans) (direction : Direction) (fault : PlanFault) →
+PlanFaultsRefuse = (methods : List Method) (table : List MethodSizes) (top : ℕ) (cert : Entries) (k n : ℕ) (m : Method) (s : MethodSizes) (entry : MethodPlans) (format : Format) (plans : Plans) (direction : Direction) (fault : PlanFault) →
     At methods table cert k m s entry → slice_get m.formats n ≡ Some format → plans_at entry n ≡ Some plans → IsPlanFault (way_of direction table format) (steps_of direction plans) fault →
     IsRefused methods table top cert (refusal_of k n direction fault)

@@ -21,7 +21,8 @@ use Rattle.fn_rules.specs.Plans.{way_of, rule_of, enabled, learnt, known_after, 
 use Rattle.fn_rules.specs.Trees.{PartsFormats}
 use Rattle.fn_rules.specs.Counts.{entry_at}
 use Rattle.fn_rules.specs.Valid.{plans_at, HasPlans, HasEntry, Valid}
-use Rattle.fn_rules.specs.Refusals.{Refusal, steps_of, At, IsRefused, lacks_method, lacks_format, step_refused, side_unknown, leaf_reached, nowhere_reached, bit_past, constant_outside, counts_above, bits_above, FaultsExclude}
+use Rattle.fn_rules.specs.declared.fault.CheckFault.{CheckFault}
+use Rattle.fn_rules.specs.Refusals.{steps_of, At, IsRefused, lacks_method, lacks_format, step_refused, side_unknown, leaf_reached, nowhere_reached, bit_past, constant_outside, counts_above, bits_above, FaultsExclude}
 use Rattle.fn_rules.proofs.Agree.{and_true}
 use Rattle.fn_rules.proofs.Counts.{one_count}
 use Rattle.fn_rules.proofs.Plans.{goal_reached}
@@ -57,7 +58,7 @@ module _ (methods : List Method) (table : List MethodSizes) (top : ℕ) (cert : 
         by Read p plans same = subst (λ (z : Plans). IsPlan (way_of Read table format) z.read) same p.read
         by Write p plans same = subst (λ (z : Plans). IsPlan (way_of Write table format) z.write) same p.write
 
-  excluded : (r : Refusal) → IsRefused methods table top cert r → ⊥
+  excluded : (r : CheckFault) → IsRefused methods table top cert r → ⊥
   excluded r (lacks_method {k} m first at is none) =
       let s = also_at methods table k m (sym are.each) at in
       let h = valid.entries k m s.0 first at s.1 is in

@@ -43,19 +43,19 @@ sizes = record { formats = record { fields = four ∷ []; whole = four } ∷ [];
 -- the certificate, of one leaf and two plans of three steps
 abbrev pub certificate : Entries
 certificate =
-  Some record {
-    name = codes "plain";
-    parameters = [];
-    tree = node.Leaf 0 ∷ [];
-    formats = record {
-      name = None;
-      fields = codes "x" ∷ [];
-      plans = Some record {
-        read = MethodLength 0 Compressed ∷ Take 0 ∷ LibraryUp 0 ∷ [];
-        write = MethodLength 0 Uncompressed ∷ Take 0 ∷ LibraryDown 0 ∷ [];
-      };
-    } ∷ [];
-  } ∷ []
+    Some record {
+      name = codes "plain";
+      parameters = [];
+      tree = node.Leaf 0 ∷ [];
+      formats = record {
+        name = None;
+        fields = codes "x" ∷ [];
+        plans = Some record {
+          read = MethodLength 0 Compressed ∷ Take 0 ∷ LibraryUp 0 ∷ [];
+          write = MethodLength 0 Uncompressed ∷ Take 0 ∷ LibraryDown 0 ∷ [];
+        };
+      } ∷ [];
+    } ∷ []
 
 -- It is valid.
 abbrev pub PlainIsValid : Type 0

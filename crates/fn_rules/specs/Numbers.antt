@@ -1,5 +1,5 @@
 -- The numbers that slots know, as expressions take them (docs/DEFINITIONS.md, The steps of a reading walk).
-use Rattle.std.specs.Prelude.{◌≡◌, ℕ, ◌+◌, ◌^◌, ◌≤◌, Bool, true, false, List, map, length, slice_get, Some, None, ℤ, pos, if◌then◌else◌}
+use Rattle.std.specs.Prelude.{◌≡◌, ℕ, ◌+◌, ◌^◌, ◌≤◌, true, false, List, map, length, slice_get, Some, None, ℤ, pos, if◌then◌else◌}
 use Rattle.fn_expr.specs.declared.known.Numbers.{Numbers}
 use Rattle.fn_expr.specs.declared.known.SideNumbers.{SideNumbers}
 use Rattle.fn_expr.specs.declared.known.Known.{Known}

@@ -1,7 +1,6 @@
 -- Why a certificate is not valid, fault by fault (docs/DEFINITIONS.md, Certificates).
 use Rattle.std.specs.Prelude.{◌≡◌, ◌≢◌, ℕ, ◌<◌, ◌≤◌, true, false, List, [], ◌∷◌, ◌++◌, length, slice_get, Some, None, ℤ}
 use Rattle.fn_expr.specs.declared.interval.Interval.{Interval}
-use Rattle.fn_expr.specs.declared.expr.Side.{Side}
 use Rattle.fn_expr.specs.Rules.{IsIn}
 use Rattle.fn_normal.specs.declared.profile.Format.{Format}
 use Rattle.fn_normal.specs.declared.profile.Method.{Method}

@@ -7,9 +7,14 @@ use fn_expr::Side;
 #[derive(Clone, Copy)]
 pub enum CheckFault {
     /// V1: the method has no entry.
-    NoMethod { method: usize },
+    NoMethod {
+        method: usize,
+    },
     /// V1: the format has no plans.
-    NoFormat { method: usize, format: usize },
+    NoFormat {
+        method: usize,
+        format: usize,
+    },
     /// V2: the step isn't enabled after those before it.
     NotEnabled {
         method: usize,
@@ -38,7 +43,10 @@ pub enum CheckFault {
         format: usize,
     },
     /// V7: a parameter is tested for a constant outside its range.
-    OutOfRange { method: usize, node: usize },
+    OutOfRange {
+        method: usize,
+        node: usize,
+    },
     /// V6: the top has more candidates than it may.
     TooMany,
     /// V8: the top's packed bits may be more than they may.
