@@ -1,5 +1,5 @@
 -- What the parts of a certificate's check answer: that a part is right, or a fault of every certificate that has it.
-use Rattle.std.specs.Prelude.{◌≡◌, ℕ, List, Some, slice_get}
+use Rattle.std.specs.Prelude.{◌≡◌, ℕ, ◌≤◌, Bool, false, List, Option, Some, None, slice_get, option_map, nat_lt}
 use Rattle.fn_normal.specs.declared.profile.Format.{Format}
 use Rattle.fn_normal.specs.declared.profile.Method.{Method}
 use Rattle.fn_normal.specs.declared.profile.MethodSizes.{MethodSizes}
@@ -9,6 +9,7 @@ use Rattle.fn_cert.specs.declared.certificate.MethodPlans.{MethodPlans}
 use Rattle.fn_cert.specs.Kept.{Entries}
 use Rattle.fn_rules.specs.declared.fault.CheckFault.{CheckFault}
 use Rattle.fn_rules.specs.declared.fault.CheckFault.TheVariants as check
+use Rattle.fn_rules.specs.Counts.{AreCounts}
 use Rattle.fn_rules.specs.Plans.{way_of, IsPlan}
 use Rattle.fn_rules.specs.Trees.{PartsFormats}
 use Rattle.fn_rules.specs.Refusals.{At, IsRefused}
@@ -67,3 +68,29 @@ abbrev pub of_tree : ℕ → TreeFault → CheckFault
 of_tree k (tree.WrongLeaf node format) = check.WrongLeaf k node format
 of_tree k (tree.ShortFormat node format) = check.ShortFormat k node format
 of_tree k (tree.OutOfRange node) = check.OutOfRange k node
+
+-- ---- the top
+
+abbrev pub candidate_limit : ℕ
+candidate_limit = 4096
+
+abbrev pub packed_limit : ℕ
+packed_limit = 8192
+
+-- the number at the place is above the limit
+abbrev pub is_above : ℕ → Option ℕ → Bool
+is_above limit None = false
+is_above limit (Some n) = nat_lt limit n
+
+abbrev pub is_many : List ℕ → ℕ → Bool
+is_many counts top = is_above candidate_limit (slice_get counts top)
+
+abbrev pub is_long : List MethodSizes → ℕ → Bool
+is_long table top = is_above packed_limit (option_map (λ (s : MethodSizes). s.whole.compressed.most) (slice_get table top))
+
+-- the top has no more candidates and packed bits than it may
+pub record IsTopRight (methods : List Method) (table : List MethodSizes) (top : ℕ) (cert : Entries) : Type 0 where
+  pub counts : List ℕ
+  pub are_counts : AreCounts methods cert counts
+  pub few : (n : ℕ) → slice_get counts top ≡ Some n → n ≤ candidate_limit
+  pub short : (s : MethodSizes) → slice_get table top ≡ Some s → s.whole.compressed.most ≤ packed_limit

@@ -7,7 +7,6 @@ use fn_cert::Certificate;
 use fn_profile::Profile;
 use fn_rules::CheckFault;
 use std::marker::Model;
-use thiserror::Error;
 
 /// A profile with a certificate that is valid for it. Only `check` makes one.
 #[derive(Drop)]
@@ -75,11 +74,10 @@ impl Accepted {
 }
 
 /// Why nothing was accepted.
-#[derive(Clone, Copy, Debug, Error)]
+#[derive(Clone, Copy)]
 pub enum CheckError {
-    #[error("certificate is not valid")]
+    /// The certificate is not valid.
     Fault(CheckFault),
-    #[error("out of memory")]
     OutOfMemory,
 }
 

@@ -1,21 +1,31 @@
 //! Whether a certificate is valid for a profile.
 
-ghost use Rattle.std.specs.Prelude.{◌≡◌, IfOk, IfErr, IfSome, IfNone, slice_get, Some};
-ghost use Rattle.fn_cert.specs.Kept.{AreKept};
-ghost use Rattle.fn_rules.specs.Plans.{IsPlan, way_of};
+ghost use Rattle.std.specs.Prelude.{◌≡◌, true, IfOk, IfErr, IfSome, IfNone};
+ghost use Rattle.std.specs.Option.{option_copied};
+ghost use Rattle.fn_cert.specs.Kept.{AreKept, are_trees};
+ghost use Rattle.fn_checker.specs.Counting.{HaveOrder};
+ghost use Rattle.fn_plans.specs.Laws.{refusal_of};
+ghost use Rattle.fn_rules.specs.Counts as counts;
 ghost use Rattle.fn_rules.specs.Refusals.{IsRefused};
+ghost use Rattle.fn_rules.specs.Valid as valid;
 ghost use Rattle.fn_rules.specs.Valid.{Valid, HasPlans};
 ghost use Rattle.fn_checker.specs.Accepted.{Blames};
-ghost use Rattle.fn_checker.specs.Judged.{AreEntriesRight, IsMethodRight, IsEntryRight, IsTopRight, RefusesIn, RefusesMethod, RefusesEntry, RefusesFormat};
+ghost use Rattle.fn_checker.specs.Judged as spec;
+ghost use Rattle.fn_checker.specs.Judged.{Serve, AreEntriesRight, AreFormatsRight, IsMethodRight, IsEntryRight, IsTopRight, RefusesIn, RefusesEntry, RefusesFormats, RefusesFormat, RefusesPlans};
 
 use crate::accepted::{Accepted, CheckError, Refusal};
-use fn_cert::{Certificate, Direction, FormatPlans, MethodPlans, Plans, Step};
+use crate::counting::candidates;
+use fn_cert::{Certificate, Direction, MethodPlans, Plans};
 use fn_normal::{Format, Method, MethodSizes};
 use fn_plans::{PlanFault, plan_fault};
 use fn_profile::Profile;
 use fn_rules::CheckFault;
 use fn_trees::{TreeFault, tree_fault};
+use sqlite_items::at;
 use std::alloc::{AllocError, Global};
+
+/// The most candidates of the top.
+const CANDIDATE_LIMIT: u64 = 4_096;
 
 /// The most packed bits of a message.
 const PACKED_LIMIT: u128 = 8_192;
@@ -100,10 +110,10 @@ fn method_fault(
     ensures right { IfOk result (λ o. IfNone o (IsMethodRight methods.now sizes.now entries.now k)) }
     ensures found { IfOk result (λ o. IfSome o (RefusesIn methods.now sizes.now entries.now)) }
 {
-    let Some(method) = methods.get(k) else {
+    let Some(method) = at(methods, k) else {
         return Ok(None);
     };
-    let Some(bounds) = sizes.get(k) else {
+    let Some(bounds) = at(sizes, k) else {
         return Ok(None);
     };
     if method.formats.is_empty() {
@@ -117,7 +127,7 @@ fn method_fault(
 
 /// What the certificate says of a method.
 fn entry_at(entries: &[Option<MethodPlans>], k: usize) -> Option<&MethodPlans>
-    ensures { option_copied result ≡ entry_at entries.now k }
+    ensures { option_copied result ≡ counts.entry_at entries.now k }
 {
     entries.get(k)?.as_ref()
 }
@@ -131,7 +141,7 @@ fn entry_fault(
     entry: &MethodPlans,
     k: usize,
 ) -> Result<Option<CheckFault>, AllocError>
-    requires { IsMethodKept entry.now }
+    requires { are_trees 1 entry.now.tree ≡ true }
     ensures right { IfOk result (λ o. IfNone o (IsEntryRight table.now method.now bounds.now entry.now)) }
     ensures found { IfOk result (λ o. IfSome o (RefusesEntry table.now k method.now bounds.now entry.now)) }
 {
@@ -143,7 +153,7 @@ fn entry_fault(
 
 /// The fault of a method's tree, as one of the certificate.
 fn of_tree(method: usize, fault: TreeFault) -> CheckFault
-    ensures { result ≡ of_tree method fault }
+    ensures { result ≡ spec.of_tree method fault }
 {
     match fault {
         TreeFault::WrongLeaf { node, format } => CheckFault::WrongLeaf {
@@ -249,5 +259,45 @@ fn of_plan(method: usize, format: usize, direction: Direction, fault: PlanFault)
             field,
             side,
         },
+    }
+}
+
+/// Whether the top has too many candidates, or packed bits that may be too long.
+fn top_fault(
+    alloc: Global,
+    methods: &[Method],
+    sizes: &[MethodSizes],
+    top: usize,
+    entries: &[Option<MethodPlans>],
+) -> Result<Option<CheckFault>, AllocError>
+    requires { HaveOrder methods.now }
+    ensures right { IfOk result (λ o. IfNone o (IsTopRight methods.now sizes.now top entries.now)) }
+    ensures found { IfOk result (λ o. IfSome o (IsRefused methods.now sizes.now top entries.now)) }
+{
+    let counts = candidates(alloc, methods, entries)?;
+    if is_many(counts.as_slice(), top) {
+        return Ok(Some(CheckFault::TooMany));
+    }
+    if is_long(sizes, top) {
+        return Ok(Some(CheckFault::TooLong));
+    }
+    Ok(None)
+}
+
+fn is_many(counts: &[u64], top: usize) -> bool
+    ensures { result ≡ spec.is_many counts.now top }
+{
+    match counts.get(top) {
+        Some(count) => *count > CANDIDATE_LIMIT,
+        None => false,
+    }
+}
+
+fn is_long(sizes: &[MethodSizes], top: usize) -> bool
+    ensures { result ≡ spec.is_long sizes.now top }
+{
+    match sizes.get(top) {
+        Some(bounds) => bounds.whole.compressed.most > PACKED_LIMIT,
+        None => false,
     }
 }

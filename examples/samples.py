@@ -1,0 +1,153 @@
+"""Sample profiles: their text, their normal form written out by hand (docs/NOTATION.md) and certificates.
+
+The certificates of tick and opt are those that docs/FORMATS.md's order of steps gives; seq's and the others' were written by that order by hand."""
+from reading import Field, Format, Method
+
+TICK = """tick
+{
+  UNCOMPRESSED {
+    sn [8];
+  }
+  COMPRESSED short {
+    d =:= '0' [1];
+    sn =:= lsb(4, 1) [4];
+    c =:= crc(3, 0x06, 0x07, THIS.UVALUE, THIS.ULENGTH) [3];
+  }
+  COMPRESSED full {
+    d =:= '1' [1];
+    sn =:= irregular(8) [8];
+  }
+}
+"""
+
+OPT = """static_or_irreg(flag, width)
+{
+  UNCOMPRESSED { field [width]; }
+  COMPRESSED irreg_enc { ENFORCE(flag == 1); field =:= irregular(width) [width]; }
+  COMPRESSED static_enc { ENFORCE(flag == 0); field =:= static [0]; }
+}
+opt
+{
+  UNCOMPRESSED { ttl [8]; }
+  COMPRESSED {
+    flag =:= irregular(1) [1];
+    ttl =:= static_or_irreg(flag.CVALUE, 8) [0, 8];
+  }
+}
+"""
+
+SEQ = """seq { UNCOMPRESSED { v [8]; } CONTROL { msn [8]; }
+  INITIAL { msn =:= uncompressed_value(8, 0); }
+  COMPRESSED { msn =:= lsb(4, 0) [4]; v =:= uncompressed_value(8, msn.UVALUE * 2); } }
+"""
+
+WRAP = """kind
+{
+  UNCOMPRESSED { x [8]; }
+  COMPRESSED one { d =:= '0' [1]; x =:= uncompressed_value(8, 1); }
+  COMPRESSED two { d =:= '10' [2]; x =:= uncompressed_value(8, 2); }
+  COMPRESSED three { d =:= '11' [2]; x =:= uncompressed_value(8, 3); }
+}
+wrap
+{
+  UNCOMPRESSED { k [8]; tail [1]; }
+  COMPRESSED { k =:= kind [1, 2]; tail =:= irregular(1) [1]; }
+}
+"""
+
+TWIN = """twin { UNCOMPRESSED { x [8]; }
+  COMPRESSED a { d =:= '0' [1]; x =:= irregular(8) [8]; }
+  COMPRESSED b { d =:= '0' [1]; x =:= static [0]; } }
+"""
+
+VAST = """vast { UNCOMPRESSED { x [24]; }
+  COMPRESSED { a =:= irregular(12) [12]; b =:= irregular(12) [12];
+    x =:= uncompressed_value(24, a.UVALUE * 4096 + b.UVALUE); } }
+"""
+
+
+def bracket(field, side, *lengths):
+    return ("bracket", field, side, list(lengths))
+
+
+def enforce(operator, left, right):
+    return ("enforce", (operator, left, right))
+
+
+def literal(name, bits):
+    return Field(name, "local", ("compressed_value", len(bits), int(bits, 2)), (0, 0), (len(bits), len(bits)))
+
+
+FLAG, WIDTH = ("parameter", "flag"), ("parameter", "width")
+
+NORMAL = {
+    "tick": [Method("tick", {}, [
+        Format("short", [Field("sn", "header", ("lsb", 4, 1), (8, 8), (4, 4)), literal("d", "0"), Field("c", "local", ("crc", 3, 6, 7, ("THIS", "UVALUE"), ("THIS", "ULENGTH")), (0, 0), (3, 3))],
+               ["d", "sn", "c"], [bracket("sn", "U", 8), bracket("d", "C", 1), bracket("sn", "C", 4), bracket("c", "C", 3)]),
+        Format("full", [Field("sn", "header", ("irregular", 8), (8, 8), (8, 8)), literal("d", "1")], ["d", "sn"], [bracket("sn", "U", 8), bracket("d", "C", 1), bracket("sn", "C", 8)]),
+    ])],
+    "opt": [
+        Method("static_or_irreg", {"flag": (0, 1), "width": (8, 8)}, [
+            Format("irreg_enc", [Field("field", "header", ("irregular", WIDTH), (0, 64), (0, 64))], ["field"], [bracket("field", "U", WIDTH), enforce("==", FLAG, 1), bracket("field", "C", WIDTH)]),
+            Format("static_enc", [Field("field", "header", ("static",), (0, 64), (0, 0))], ["field"], [bracket("field", "U", WIDTH), enforce("==", FLAG, 0), bracket("field", "C", 0)]),
+        ]),
+        Method("opt", {}, [
+            Format("", [Field("ttl", "header", ("call", 0, [("flag", "CVALUE"), 8]), (8, 8), (0, 8)), Field("flag", "local", ("irregular", 1), (1, 1), (1, 1))], ["flag", "ttl"],
+                   [bracket("ttl", "U", 8), bracket("flag", "C", 1), bracket("ttl", "C", 0, 8)]),
+        ]),
+    ],
+    "seq": [Method("seq", {}, [
+        Format("", [Field("v", "header", ("uncompressed_value", 8, ("*", ("msn", "UVALUE"), 2)), (8, 8), (0, 0)), Field("msn", "control", ("lsb", 4, 0), (8, 8), (4, 4), asked=True)], ["msn", "v"],
+               [bracket("v", "U", 8), bracket("msn", "U", 8), bracket("msn", "C", 4)]),
+    ])],
+    "wrap": [
+        Method("kind", {}, [
+            Format(name, [Field("x", "header", ("uncompressed_value", 8, i), (8, 8), (0, 0)), literal("d", bits)], ["d", "x"], [bracket("x", "U", 8), bracket("d", "C", len(bits))])
+            for i, name, bits in ((1, "one", "0"), (2, "two", "10"), (3, "three", "11"))
+        ]),
+        Method("wrap", {}, [
+            Format("", [Field("k", "header", ("call", 0, []), (8, 8), (1, 2)), Field("tail", "header", ("irregular", 1), (1, 1), (1, 1))], ["k", "tail"],
+                   [bracket("k", "U", 8), bracket("tail", "U", 1), bracket("k", "C", 1, 2), bracket("tail", "C", 1)]),
+        ]),
+    ],
+    "twin": [Method("twin", {}, [
+        Format("a", [Field("x", "header", ("irregular", 8), (8, 8), (8, 8)), literal("d", "0")], ["d", "x"], [bracket("x", "U", 8), bracket("d", "C", 1), bracket("x", "C", 8)]),
+        Format("b", [Field("x", "header", ("static",), (8, 8), (0, 0)), literal("d", "0")], ["d", "x"], [bracket("x", "U", 8), bracket("d", "C", 1), bracket("x", "C", 0)]),
+    ])],
+    "vast": [Method("vast", {}, [
+        Format("", [Field("x", "header", ("uncompressed_value", 24, ("+", ("*", ("a", "UVALUE"), 4096), ("b", "UVALUE"))), (24, 24), (0, 0)), Field("a", "local", ("irregular", 12), (12, 12), (12, 12)),
+                    Field("b", "local", ("irregular", 12), (12, 12), (12, 12))], ["a", "b", "x"], [bracket("x", "U", 24), bracket("a", "C", 12), bracket("b", "C", 12)]),
+    ])],
+}
+
+
+def lines(text):
+    return "".join(it.strip() + "\n" for it in text.split(";"))
+
+
+CERTIFICATES = {
+    "tick": lines("""rohcfn-certificate 1;method tick;bit 0;leaf short;leaf full
+        ;format short;read;library d up;library c up;length sn C method;length d C method;take d;take sn;library sn up;length c C method;take c
+        ;write;library d down;library d up;library c up;length sn U method;take sn;library sn down;library c down
+        ;format full;read;library d up;length sn C method;length d C method;take d;take sn;library sn up
+        ;write;library d down;library d up;length sn U method;take sn;library sn down;end"""),
+    "opt": lines("""rohcfn-certificate 1;method static_or_irreg;param flag 1;leaf irreg_enc;leaf static_enc
+        ;format irreg_enc;read;length field C method;take field;library field up;write;length field U method;take field;library field down
+        ;format static_enc;read;library field up;length field C method;take field;write;library field down;library field up;take field
+        ;method opt;leaf -;format -;read;length flag C method;take flag;call ttl;library flag up
+        ;write;length ttl U 0;length flag U method;length flag C method;choose flag;library flag down;call ttl;end"""),
+    "seq": lines("""rohcfn-certificate 1;method seq;leaf -;format -
+        ;read;length v C method;length msn C method;take msn;take v;library msn up;library v up
+        ;write;ask msn;library v down;library msn down;library v up;take v;end"""),
+    "wrap": lines("""rohcfn-certificate 1;method kind;bit 0;leaf one;bit 1;leaf two;leaf three
+        ;format one;read;library x up;library d up;length x C method;length d C method;take d;take x;write;library x down;library d down;library x up;take x;library d up
+        ;format two;read;library x up;library d up;length x C method;length d C method;take d;take x;write;library x down;library d down;library x up;take x;library d up
+        ;format three;read;library x up;library d up;length x C method;length d C method;take d;take x;write;library x down;library d down;library x up;take x;library d up
+        ;method wrap;leaf -;format -;read;call k;length tail C method;take tail;library tail up
+        ;write;length k U 0;length tail U method;call k;take tail;library tail down;end"""),
+    "vast": lines("""rohcfn-certificate 1;method vast;leaf -;format -
+        ;read;length x C method;length a C method;length b C method;take a;take b;take x;library a up;library b up;library x up
+        ;write;library x down;length x U method;take x;length a U method;length b U method;length a C method;length b C method;choose a;choose b;library a down;library b down;end"""),
+}
+TEXTS = {"tick": TICK, "opt": OPT, "seq": SEQ, "wrap": WRAP, "twin": TWIN, "vast": VAST}
+TOPS = {name: len(NORMAL[name]) - 1 for name in NORMAL}
