@@ -1,7 +1,7 @@
 -- What a knowledge shows with one more fact.
 use Rattle.std.proofs.Common.{◌≡◌, refl, sym, ◌∙◌, ap, subst, ℕ, ◌<◌, ◌≤◌, Bool, true, false, List, [], ◌∷◌, zero, suc, length, get_or, inl, inr, arith}
 use Rattle.std.specs.Prelude.{Option, Some, None, slice_get, slice_set, nat_eq, nat_lt, ◌&&◌, ◌||◌}
-use Rattle.std.proofs.lemmas.Bool.{eq-eqb, ne_eqb, lt-ltb, le-ltb, and_left, and_right, cases_eq}
+use Rattle.std.proofs.lemmas.Bool.{eq-eqb, eqb-true, ne_eqb, lt-ltb, le-ltb, and_parts, and_left, and_right, cases_eq}
 use Rattle.std.proofs.lemmas.List.{get_or-set_same, get_or-set_other, get_or_past}
 use Rattle.std.proofs.lemmas.Option.{slice_get_within, get_or_from_slice_get}
 use Rattle.fn_expr.specs.declared.expr.Side.{Side}
@@ -122,3 +122,7 @@ one_learnt false true true s = refl
 one_learnt false true false s = refl
 one_learnt false false true s = refl
 one_learnt false false false s = refl
+
+-- two facts that are one are of one field
+pub same_field : (x y : Fact) → same_fact x y ≡ true → field_of x ≡ field_of y
+same_field x y h = eqb-true (field_of x) (field_of y) (and_parts (same_kind x y) (nat_eq (field_of x) (field_of y)) (sym (same_apart x y) ∙ h)).1

@@ -1,2 +1,4 @@
 pub mod Knowing
 pub mod Starting
+pub mod Giving
+pub mod Faults
