@@ -79,7 +79,7 @@ at_field : (fields : List Field) (i : ℕ) (f : Field → Option Rule) → ((d :
 unfolding AllOf
 at_field fields i f h = by (slice_get fields i) refl where
   by : (o : Option Field) → slice_get fields i ≡ o → GivesWithin (length fields) (option_and_then f o)
-  by None e x a = absurd (none_of i x a)
+  by None e x a = absurd (cc)
   by (Some d) e x a = subst (λ j. j < length fields) (h d x a) (slice_get_within fields i d e)
 
 no_rule : (n : ℕ) → GivesWithin n None
