@@ -50,18 +50,27 @@ fn node_fault(sizes: &MethodSizes, set: &[bool], place: usize, node: Node) -> Op
     ensures { (formats : List Format) (nodes : List Node) (reach : Reach) → set.now ≡ reaching reach formats sizes.now.formats → Stands formats sizes.now nodes place node reach →
         MatchOption result (IsRight formats sizes.now reach node) (IsTreeFault formats sizes.now nodes) }
 {
-    if let Node::Parameter(parameter, constant) = node {
-        return if is_in_range(sizes.parameters.as_slice(), parameter, constant) {
-            None
-        } else {
-            Some(TreeFault::OutOfRange { node: place })
-        };
+    match node {
+        Node::Parameter(parameter, constant) => {
+            if is_in_range(sizes.parameters.as_slice(), parameter, constant) {
+                None
+            } else {
+                Some(TreeFault::OutOfRange { node: place })
+            }
+        }
+        Node::Bit(_) => {
+            let format = first_wrong(sizes.formats.as_slice(), set, node)?;
+            Some(TreeFault::ShortFormat { node: place, format })
+        }
+        Node::Leaf(_) => {
+            let named = first_wrong(sizes.formats.as_slice(), set, node)?;
+            Some(TreeFault::WrongLeaf { node: place, format: named })
+        }
+        Node::Nowhere => {
+            let any = first_wrong(sizes.formats.as_slice(), set, node)?;
+            Some(TreeFault::WrongLeaf { node: place, format: any })
+        }
     }
-    let format = first_wrong(sizes.formats.as_slice(), set, node)?;
-    if let Node::Bit(_) = node {
-        return Some(TreeFault::ShortFormat { node: place, format });
-    }
-    Some(TreeFault::WrongLeaf { node: place, format })
 }
 
 /// Whether the constant is in the range of the parameter, if it has one.

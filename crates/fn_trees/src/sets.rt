@@ -1,6 +1,6 @@
 //! Sets of formats, as a mark for each.
 
-ghost use Rattle.std.specs.Prelude.{◌≡◌, ℕ, ◌++◌, replicate, true, false, slice_get, IfOk, MatchOption};
+ghost use Rattle.std.specs.Prelude.{◌≡◌, ℕ, ◌++◌, replicate, true, false, slice_get, IfOk, MatchOption, ◌&&◌};
 ghost use Rattle.fn_trees.specs.Judged as judged;
 ghost use Rattle.fn_trees.specs.Told as spec;
 
@@ -31,9 +31,16 @@ fn kept(
         if place >= set.len() {
             return Ok(left);
         }
-        left.push(set[place] && tolds[place].passes(test))?;
+        left.push(stays(&tolds[place], test, set[place]))?;
     }
     Ok(left)
+}
+
+/// Whether a format that is in the set, by its mark, stays in it.
+fn stays(told: &Told, test: Test, mark: bool) -> bool
+    ensures { result ≡ (mark && spec.passes test told.now) }
+{
+    mark && told.passes(test)
 }
 
 /// Puts the sets of a node's subtrees onto the stack, that of the first one last.

@@ -1,0 +1,5 @@
+use Rattle.fn_trees.proofs.Stacks.{JudgedTo}
+use Rattle.fn_trees.proofs.judging.tree_fault.Given as goal
+
+abbrev pub invariant-loop-place : goal.invariant-loop-place
+invariant-loop-place l = JudgedTo l.formats l.sizes l.nodes l.place l.sets.items
