@@ -1,5 +1,5 @@
 -- What is told of the formats decides which of them pass a test.
-use Rattle.std.proofs.Common.{◌≡◌, ◌∙◌, refl, sym, ap, subst, ℕ, zero, suc, ◌+◌, ◌^◌, ◌<◌, ◌≤◌, Bool, true, false, not, nat_eq, List, [], ◌∷◌, ◌++◌, length, min, drop, get_or, append_assoc, arith}
+use Rattle.std.proofs.Common.{◌≡◌, ◌∙◌, refl, sym, ap, subst, ℕ, zero, suc, ◌+◌, ◌<◌, ◌≤◌, Bool, true, false, not, nat_eq, List, [], ◌∷◌, ◌++◌, length, min, drop, get_or, append_assoc, arith}
 use Rattle.std.specs.Prelude.{◌&&◌, slice_get, Some, None}
 use Rattle.std.specs.List.{list_any}
 use Rattle.std.proofs.lemmas.List.{drop_more, drop_all, length_push, append-nil}
@@ -11,7 +11,7 @@ use Rattle.fn_trees.specs.declared.told.Told.{Told}
 use Rattle.fn_trees.specs.declared.told.Test.{Test}
 use Rattle.fn_trees.specs.declared.told.Test.TheVariants.{Lacks, MayBe, MayDiffer}
 use Rattle.fn_trees.specs.Equations.{excludes, fixes}
-use Rattle.fn_trees.specs.Told.{IsTold, AreTold, survives, passes, kept}
+use Rattle.fn_trees.specs.Told.{IsTold, AreTold, IsTest, survives, passes, kept}
 use Rattle.fn_trees.specs.Judged.{reaching}
 use Rattle.fn_trees.proofs.Comparing.{all_excluded, all_fixed}
 
@@ -49,12 +49,6 @@ told_more tolds newer told formats sizes place f z so pushed f_at z_at is = reco
         let z_is : z ≡ y = cc in
         subst (λ q. IsTold q g y) same (subst (λ q. IsTold told q y) f_is (subst (λ q. IsTold told f q) z_is is)));
 }
-
--- a test's offset is one
-abbrev pub IsTest : Test → Type 0
-IsTest (Lacks o b) = o < 2 ^ 64
-IsTest (MayBe p c) = Unit {0}
-IsTest (MayDiffer p c) = Unit {0}
 
 passes_is : (told : Told) (format : Format) (z : FormatSizes) (test : Test) → IsTold told format z → IsTest test → passes test told ≡ survives test format z
 passes_is told format z (Lacks o b) is small = ap (λ t. not (is_bit b t)) (is.bits o small)

@@ -1,5 +1,5 @@
 -- The sets on the stack are what reaches the trees still to be judged.
-use Rattle.std.proofs.Common.{◌≡◌, ◌≢◌, ◌∙◌, refl, sym, ap, subst, ℕ, zero, suc, ◌+◌, ◌^◌, ◌<◌, ◌≤◌, Bool, true, false, not, nat_eq, nat_lt, nat_le, List, [], ◌∷◌, ◌++◌, length, drop, replicate, get_or, append_assoc, arith}
+use Rattle.std.proofs.Common.{◌≡◌, ◌≢◌, ◌∙◌, refl, sym, ap, subst, ℕ, zero, suc, ◌+◌, ◌<◌, ◌≤◌, Bool, true, false, not, nat_eq, nat_lt, nat_le, List, [], ◌∷◌, ◌++◌, length, drop, replicate, get_or, append_assoc, arith}
 use Rattle.std.specs.Prelude.{slice_get, Option, Some, None, ℤ}
 use Rattle.std.proofs.lemmas.Bool.{eqb-true, eqb-false, leb-true, leb-false, ltb-true, ltb-false}
 use Rattle.std.proofs.lemmas.List.{drop_more, drop_all, same_from_push}
@@ -16,8 +16,8 @@ use Rattle.fn_trees.specs.declared.fault.TreeFault.TheVariants.{WrongLeaf, Short
 use Rattle.fn_trees.specs.declared.told.Told.{Told}
 use Rattle.fn_trees.specs.declared.told.Test.TheVariants.{Lacks, MayBe, MayDiffer}
 use Rattle.fn_trees.specs.Faults.{RightBefore, Stands, IsTreeFault}
-use Rattle.fn_trees.specs.Told.{AreTold, branches}
-use Rattle.fn_trees.specs.Judged.{Has, is_wrong, is_short, IsFirstWrong, reaching, stacked}
+use Rattle.fn_trees.specs.Told.{AreTold, IsNode, branches}
+use Rattle.fn_trees.specs.Judged.{Has, is_wrong, is_short, IsFirstWrong, reaching, stacked, JudgedTo}
 use Rattle.fn_trees.proofs.Passing.{kept_is}
 
 -- ---- a set's members are the formats that reach
@@ -64,9 +64,13 @@ true_is a b e = by (nat_eq a b) refl
     by true h = let wrong : false ≡ true = sym (ap not h) ∙ e in absurd (cc)
     by false h = eqb-false a b h
 
-pub outside : (o : Option Interval) (c : ℤ) → (((r : Interval) → o ≡ Some r → IsIn r c) → ⊥) → (r : Interval) × (o ≡ Some r) × (IsIn r c → ⊥)
-outside None c h = absurd (h (λ r e. absurd (cc)))
-outside (Some r) c h = (r, refl, λ is. h (λ q e. let same : r ≡ q = cc in subst (λ x. IsIn x c) same is))
+pub outside : (o : Option Interval) (c d : ℤ) → d ≡ c → (((r : Interval) → o ≡ Some r → IsIn r d) → false ≡ true) → (r : Interval) × (o ≡ Some r) × (IsIn r c → ⊥)
+outside None c d same h = let wrong = h (λ r e. absurd (cc)) in absurd (cc)
+outside (Some r) c d same h =
+    (r, refl, λ is. let wrong = h (λ q e. let one : r ≡ q = cc in subst (λ v. IsIn q v) (sym same) (subst (λ x. IsIn x c) one is)) in cc)
+
+pub at_variant : (formats : List Format) (s : MethodSizes) (nodes : List Node) (place : ℕ) (node x : Node) (reach : Reach) → node ≡ x → Stands formats s nodes place node reach → Stands formats s nodes place x reach
+at_variant formats s nodes place node x reach is stands = subst (λ y. Stands formats s nodes place y reach) is stands
 
 module _ (formats : List Format) (s : MethodSizes) (nodes : List Node) (place : ℕ) (set : List Bool) (reach : Reach) (is : set ≡ reaching reach formats s.formats) where
   reaches_of : (n : ℕ) → Has set n → Reaches formats s reach n
@@ -80,35 +84,49 @@ module _ (formats : List Format) (s : MethodSizes) (nodes : List Node) (place : 
   long_enough : (o n : ℕ) (r : Reaches formats s reach n) → is_short o (slice_get s.formats n) ≡ false → o < r.sizes.whole.compressed.least
   long_enough o n r e = leb-false r.sizes.whole.compressed.least o (ap (is_short o) (sym r.sizes_at) ∙ e)
 
-  pub leaf_right : (k : ℕ) → ((n : ℕ) → Has set n → is_wrong s.formats (Leaf k) n ≡ false) → IsRight formats s reach (Leaf k)
+  leaf_right : (k : ℕ) → ((n : ℕ) → Has set n → is_wrong s.formats (Leaf k) n ≡ false) → IsRight formats s reach (Leaf k)
   leaf_right k none = λ n r. false_is n k (none n (has_of n r))
 
-  pub nowhere_right : ((n : ℕ) → Has set n → is_wrong s.formats Nowhere n ≡ false) → IsRight formats s reach Nowhere
+  nowhere_right : ((n : ℕ) → Has set n → is_wrong s.formats Nowhere n ≡ false) → IsRight formats s reach Nowhere
   nowhere_right none = λ n r. let e = none n (has_of n r) in absurd (cc)
 
-  pub bit_right : (o : ℕ) → ((n : ℕ) → Has set n → is_wrong s.formats (Bit o) n ≡ false) → IsRight formats s reach (Bit o)
+  bit_right : (o : ℕ) → ((n : ℕ) → Has set n → is_wrong s.formats (Bit o) n ≡ false) → IsRight formats s reach (Bit o)
   bit_right o none = λ n r. long_enough o n r (none n (has_of n r))
 
-  pub leaf_fault : (k n : ℕ) → Stands formats s nodes place (Leaf k) reach → IsFirstWrong s.formats set (Leaf k) n → IsTreeFault formats s nodes (WrongLeaf place n)
+  leaf_fault : (k n : ℕ) → Stands formats s nodes place (Leaf k) reach → IsFirstWrong s.formats set (Leaf k) n → IsTreeFault formats s nodes (WrongLeaf place n)
   leaf_fault k n stands first = IsTreeFault.leaf_reached k reach stands (reaches_of n first.member) (true_is n k first.wrong) (λ j lt r. false_is j k (first.earlier j lt (has_of j r)))
 
-  pub nowhere_fault : (n : ℕ) → Stands formats s nodes place Nowhere reach → IsFirstWrong s.formats set Nowhere n → IsTreeFault formats s nodes (WrongLeaf place n)
+  nowhere_fault : (n : ℕ) → Stands formats s nodes place Nowhere reach → IsFirstWrong s.formats set Nowhere n → IsTreeFault formats s nodes (WrongLeaf place n)
   nowhere_fault n stands first = IsTreeFault.nowhere_reached reach stands (reaches_of n first.member) (λ j lt r. let e = first.earlier j lt (has_of j r) in absurd (cc))
 
-  pub bit_fault : (o n : ℕ) → Stands formats s nodes place (Bit o) reach → IsFirstWrong s.formats set (Bit o) n → IsTreeFault formats s nodes (ShortFormat place n)
+  bit_fault : (o n : ℕ) → Stands formats s nodes place (Bit o) reach → IsFirstWrong s.formats set (Bit o) n → IsTreeFault formats s nodes (ShortFormat place n)
   bit_fault o n stands first =
       let r = reaches_of n first.member in
       IsTreeFault.bit_past o reach stands r (leb-true r.sizes.whole.compressed.least o (ap (is_short o) (sym r.sizes_at) ∙ first.wrong)) (λ j lt q. long_enough o j q (first.earlier j lt (has_of j q)))
 
--- ---- the loop
+  module _ (zs : List FormatSizes) (zs_is : zs ≡ s.formats) (node : Node) where
+    pub node_right : ((i : ℕ) (c : ℤ) → node ≡ Parameter i c → ⊥) → ((n : ℕ) → Has set n → is_wrong zs node n ≡ false) → IsRight formats s reach node
+    node_right other none = by node other (λ n has. ap (λ ys. is_wrong ys node n) (sym zs_is) ∙ none n has)
+      where
+        by : (x : Node) → ((i : ℕ) (c : ℤ) → x ≡ Parameter i c → ⊥) → ((n : ℕ) → Has set n → is_wrong s.formats x n ≡ false) → IsRight formats s reach x
+        by (Bit o) other none = bit_right o none
+        by (Parameter i c) other none = absurd (other i c refl)
+        by (Leaf k) other none = leaf_right k none
+        by Nowhere other none = nowhere_right none
 
--- the nodes before a place are judged, and the sets are what reaches the trees that come
-pub record JudgedTo (formats : List Format) (s : MethodSizes) (nodes : List Node) (place : ℕ) (sets : List (List Bool)) : Type 0 where
-  pub reaches : List Reach
-  pub are : sets ≡ stacked formats s.formats reaches
-  pub whole : are_trees (length reaches) (drop place nodes) ≡ true
-  pub at : (k : ℕ) → reach_at (everything ∷ []) nodes (place + k) ≡ reach_at reaches (drop place nodes) k
-  pub before : RightBefore formats s nodes place
+    first_at : (x : Node) (n : ℕ) → node ≡ x → IsFirstWrong zs set node n → IsFirstWrong s.formats set x n
+    first_at x n is first = subst (λ y. IsFirstWrong s.formats set y n) is (subst (λ ys. IsFirstWrong ys set node n) zs_is first)
+
+    pub short_found : (o n : ℕ) → node ≡ Bit o → Stands formats s nodes place node reach → IsFirstWrong zs set node n → IsTreeFault formats s nodes (ShortFormat place n)
+    short_found o n is stands first = bit_fault o n (at_variant formats s nodes place node (Bit o) reach is stands) (first_at (Bit o) n is first)
+
+    pub leaf_found : (k n : ℕ) → node ≡ Leaf k → Stands formats s nodes place node reach → IsFirstWrong zs set node n → IsTreeFault formats s nodes (WrongLeaf place n)
+    leaf_found k n is stands first = leaf_fault k n (at_variant formats s nodes place node (Leaf k) reach is stands) (first_at (Leaf k) n is first)
+
+    pub nowhere_found : (n : ℕ) → node ≡ Nowhere → Stands formats s nodes place node reach → IsFirstWrong zs set node n → IsTreeFault formats s nodes (WrongLeaf place n)
+    nowhere_found n is stands first = nowhere_fault n (at_variant formats s nodes place node Nowhere reach is stands) (first_at Nowhere n is first)
+
+-- ---- the loop
 
 -- the node at the place, with the set that is taken from the stack and those below it
 pub record Taken (formats : List Format) (s : MethodSizes) (nodes : List Node) (place : ℕ) (x : Node) (rest : List (List Bool)) (set : List Bool) : Type 0 where
@@ -119,13 +137,6 @@ pub record Taken (formats : List Format) (s : MethodSizes) (nodes : List Node) (
   pub whole : are_trees (trees_after x (length more)) (drop (place + 1) nodes) ≡ true
   pub at : (k : ℕ) → reach_at (everything ∷ []) nodes (place + suc k) ≡ reach_at (onward reach x ++ more) (drop (place + 1) nodes) k
   pub stands : Stands formats s nodes place x reach
-
--- a node's offset is one
-abbrev pub IsNode : Node → Type 0
-IsNode (Bit o) = o < 2 ^ 64
-IsNode (Parameter i c) = Unit {0}
-IsNode (Leaf k) = Unit {0}
-IsNode Nowhere = Unit {0}
 
 all_reach : (tolds : List Told) (formats : List Format) (sizes : List FormatSizes) → AreTold tolds formats sizes → replicate (length tolds) true ≡ reaching everything formats sizes
 all_reach [] [] sizes told = refl

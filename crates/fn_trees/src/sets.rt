@@ -1,6 +1,7 @@
 //! Sets of formats, as a mark for each.
 
 ghost use Rattle.std.specs.Prelude.{◌≡◌, ℕ, ◌++◌, replicate, true, false, slice_get, IfOk, MatchOption, ◌&&◌};
+ghost use Rattle.fn_trees.specs.declared.told.Test.TheVariants.{Lacks};
 ghost use Rattle.fn_trees.specs.Judged as judged;
 ghost use Rattle.fn_trees.specs.Told as spec;
 
@@ -43,6 +44,14 @@ fn stays(told: &Told, test: Test, mark: bool) -> bool
     mark && told.passes(test)
 }
 
+/// The test that the bit at an offset isn't known to be this one.
+fn lacks(offset: usize, bit: bool) -> Test
+    ensures test { result ≡ Lacks offset bit }
+    ensures offset { spec.IsTest result }
+{
+    Test::Lacks(offset, bit)
+}
+
 /// Puts the sets of a node's subtrees onto the stack, that of the first one last.
 pub(crate) fn push_branches(
     alloc: Global,
@@ -51,12 +60,13 @@ pub(crate) fn push_branches(
     set: &[bool],
     node: Node,
 ) -> Result<(), AllocError>
-    ensures { IfOk result (λ u. sets.new.items ≡ sets.old.items ++ spec.branches tolds.now set.now node) }
+    ensures pushed { IfOk result (λ u. sets.new.items ≡ sets.old.items ++ spec.branches tolds.now set.now node) }
+    ensures offset { IfOk result (λ u. spec.IsNode node) }
 {
     match node {
         Node::Bit(offset) => {
-            sets.push(kept(alloc, Test::Lacks(offset, false), tolds, set)?)?;
-            sets.push(kept(alloc, Test::Lacks(offset, true), tolds, set)?)?;
+            sets.push(kept(alloc, lacks(offset, false), tolds, set)?)?;
+            sets.push(kept(alloc, lacks(offset, true), tolds, set)?)?;
         }
         Node::Parameter(parameter, constant) => {
             sets.push(kept(alloc, Test::MayDiffer(parameter, constant), tolds, set)?)?;

@@ -1,4 +1,4 @@
-use Rattle.fn_trees.proofs.Stacks.{JudgedTo}
+use Rattle.fn_trees.specs.Judged.{JudgedTo}
 use Rattle.fn_trees.proofs.judging.tree_fault.Given as goal
 
 abbrev pub invariant-loop-place : goal.invariant-loop-place
