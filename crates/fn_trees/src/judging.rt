@@ -31,7 +31,7 @@ pub fn tree_fault(
     ensures found { IfOk result (λ o. IfSome o (IsTreeFault formats.now sizes.now nodes.now)) }
 {
     let tolds = all_told(alloc, formats, sizes.formats.as_slice())?;
-    let mut sets = Vec::new(alloc);
+    let mut sets = Items::new(alloc);
     sets.push(all(alloc, tolds.len())?)?;
     for place in 0..nodes.len() {
         let found = judge(alloc, &mut sets, tolds.as_slice(), sizes, place, nodes[place])?;
@@ -45,21 +45,20 @@ pub fn tree_fault(
 /// Judges the node at a place: takes its set from the stack, and puts those of its subtrees there.
 fn judge(
     alloc: Global,
-    sets: &mut Vec<Items<bool>>,
+    sets: &mut Items<Items<bool>>,
     tolds: &[Told],
     sizes: &MethodSizes,
     place: usize,
     node: Node,
 ) -> Result<Option<TreeFault>, AllocError>
-    ensures { IfOk result (λ o. (formats : List Format) (nodes : List Node) → AreTold tolds.now formats sizes.now.formats → slice_get nodes place ≡ Some node → JudgedTo formats sizes.now nodes place sets.old.items →
-        MatchOption o (JudgedTo formats sizes.now nodes (place + 1) sets.new.items) (IsTreeFault formats sizes.now nodes)) }
+    ensures { IfOk result (λ o. (formats : List Format) (nodes : List Node) → AreTold tolds.now formats sizes.now.formats → slice_get nodes place ≡ Some node → JudgedTo formats sizes.now nodes place sets.old →
+        MatchOption o (JudgedTo formats sizes.now nodes (place + 1) sets.new) (IsTreeFault formats sizes.now nodes)) }
 {
     let Some(set) = sets.pop() else {
         return Ok(None);
     };
-    let fault = node_fault(sizes, set.as_slice(), place, node);
-    if fault.is_some() {
-        return Ok(fault);
+    if let Some(fault) = node_fault(sizes, set.as_slice(), place, node) {
+        return Ok(Some(fault));
     }
     push_branches(alloc, sets, tolds, set.as_slice(), node)?;
     Ok(None)

@@ -55,12 +55,12 @@ fn lacks(offset: usize, bit: bool) -> Test
 /// Puts the sets of a node's subtrees onto the stack, that of the first one last.
 pub(crate) fn push_branches(
     alloc: Global,
-    sets: &mut Vec<Items<bool>>,
+    sets: &mut Items<Items<bool>>,
     tolds: &[Told],
     set: &[bool],
     node: Node,
 ) -> Result<(), AllocError>
-    ensures pushed { IfOk result (λ u. sets.new.items ≡ sets.old.items ++ spec.branches tolds.now set.now node) }
+    ensures pushed { IfOk result (λ u. sets.new ≡ sets.old ++ spec.branches tolds.now set.now node) }
     ensures offset { IfOk result (λ u. spec.IsNode node) }
 {
     match node {
