@@ -1,16 +1,13 @@
 -- What equations tell of a parameter, against the constraints.
-use Rattle.std.proofs.Common.{◌≡◌, ◌∙◌, refl, sym, ap, ℕ, Bool, true, false, nat_eq, not, cond, List, [], ◌∷◌, Option, Some, None}
+use Rattle.std.proofs.Common.{◌≡◌, ◌∙◌, refl, sym, ap, ℕ, Bool, true, false, nat_eq, cond, List, [], ◌∷◌, Option, Some, None}
 use Rattle.std.specs.Prelude.{◌&&◌, ◌||◌, ℤ, Result, Ok, Err, option_and_then}
 use Rattle.std.specs.List.{list_any, filter_map, cons_option}
-use Rattle.std.specs.Ordering.{int_eq}
 use Rattle.fn_expr.specs.declared.interval.Interval.{Interval}
 use Rattle.fn_expr.specs.declared.fault.RangeFault.{RangeFault}
-use Rattle.fn_expr.specs.declared.expr.Comparison.{Comparison}
 use Rattle.fn_expr.specs.declared.expr.Comparison.TheVariants.{Equal, NotEqual, Less, Greater, AtMost, AtLeast}
 use Rattle.fn_expr.specs.declared.expr.Expr.{Expr}
 use Rattle.fn_expr.specs.declared.expr.Expr.TheVariants as expr
 use Rattle.fn_expr.specs.declared.expr.Expr.TheVariants.{Number, Parameter, Binary'}
-use Rattle.fn_expr.specs.declared.expr.Cond.{Cond}
 use Rattle.fn_expr.specs.declared.expr.Cond.TheVariants.{Constant, Compare, Not', And', Or'}
 use Rattle.fn_expr.specs.Ranged.{ranged}
 use Rattle.fn_expr.specs.Bounds.{anything, bounding_of}
@@ -20,7 +17,7 @@ use Rattle.fn_bounds.specs.Constants.{constant, where_ranged}
 use Rattle.fn_rules.specs.Rules.{when, first_or}
 use Rattle.fn_rules.specs.Trees.{is_parameter, compared_with, parameter_is, parameter_is_not, is_number, is_other}
 use Rattle.fn_trees.specs.declared.equations.Equation.{Equation}
-use Rattle.fn_trees.specs.Equations.{parameter_of, paired, equality, compared, condition_equation, equation_of, excludes, fixes}
+use Rattle.fn_trees.specs.Equations.{parameter_of, paired, compared, equation_of, excludes, fixes}
 
 -- the test of an equation, where there is one
 abbrev pub any_of : (Equation → Bool) → Option Equation → Bool

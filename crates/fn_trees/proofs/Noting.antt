@@ -1,6 +1,6 @@
 -- A table of known bits against a format's listing.
-use Rattle.std.proofs.Common.{◌≡◌, ◌∙◌, refl, sym, ap, subst, ℕ, zero, suc, ◌+◌, ◌-◌, ◌^◌, ◌<◌, ◌≤◌, Bool, true, false, nat_eq, nat_lt, cond, List, [], ◌∷◌, length, drop, get_or, Option, Some, None, arith}
-use Rattle.std.specs.Prelude.{slice_get, ◌⊎◌}
+use Rattle.std.proofs.Common.{◌≡◌, ◌∙◌, refl, sym, ap, subst, ℕ, zero, suc, ◌+◌, ◌-◌, ◌^◌, ◌<◌, ◌≤◌, Bool, true, false, nat_lt, List, [], ◌∷◌, length, drop, get_or, Option, Some, None, arith}
+use Rattle.std.specs.Prelude.{slice_get}
 use Rattle.std.specs.Option.{SomeIff}
 use Rattle.std.proofs.lemmas.Bool.{ltb-true, ltb-false}
 use Rattle.std.proofs.lemmas.List.{drop_more, drop_all}
@@ -43,7 +43,7 @@ module _ (known new whole rest : Table) (offset : ℕ) where
   with_bits bits tells has o lt small = split o offset
       (λ low. tells.told o low ∙ sym (has.before o low))
       (λ k e. let there : k < length bits = omega (arith, e, lt) in
-        ap whole e ∙ (tells.left k (omega (arith, e, small)) ∙ (in_bits bits rest k there ∙ (sym (has.here k there) ∙ ap new (sym e)))))
+      ap whole e ∙ (tells.left k (omega (arith, e, small)) ∙ (in_bits bits rest k there ∙ (sym (has.here k there) ∙ ap new (sym e)))))
 
   with_gap : (n : ℕ) → TellsTo known offset (after_gap n rest) whole → (o : ℕ) → o < offset + n → o < 2 ^ 64 → whole o ≡ known o
   with_gap n tells o lt small = split o offset

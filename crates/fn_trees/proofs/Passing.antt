@@ -1,5 +1,5 @@
 -- What is told of the formats decides which of them pass a test.
-use Rattle.std.proofs.Common.{◌≡◌, ◌∙◌, refl, sym, ap, subst, ℕ, zero, suc, ◌+◌, ◌<◌, ◌≤◌, Bool, true, false, not, nat_eq, List, [], ◌∷◌, ◌++◌, length, min, drop, get_or, append_assoc, arith}
+use Rattle.std.proofs.Common.{◌≡◌, ◌∙◌, refl, sym, ap, subst, ℕ, zero, suc, ◌+◌, ◌<◌, ◌≤◌, Bool, not, List, [], ◌∷◌, ◌++◌, length, drop, get_or, append_assoc, arith}
 use Rattle.std.specs.Prelude.{◌&&◌, slice_get, Some, None}
 use Rattle.std.specs.List.{list_any}
 use Rattle.std.proofs.lemmas.List.{drop_more, drop_all, length_push, append-nil}
@@ -42,12 +42,12 @@ told_more tolds newer told formats sizes place f z so pushed f_at z_at is = reco
   each = λ n t g y at g_at y_at. at_push tolds told t n (IsTold t g y) (ap (λ xs. slice_get xs n) (sym pushed) ∙ at)
       (λ old. so.each n t g y old g_at y_at)
       (λ last same.
-        let here : n ≡ place = last ∙ so.count in
-        let one : Some f ≡ Some g = sym f_at ∙ (ap (slice_get formats) (sym here) ∙ g_at) in
-        let two : Some z ≡ Some y = sym z_at ∙ (ap (slice_get sizes) (sym here) ∙ y_at) in
-        let f_is : f ≡ g = cc in
-        let z_is : z ≡ y = cc in
-        subst (λ q. IsTold q g y) same (subst (λ q. IsTold told q y) f_is (subst (λ q. IsTold told f q) z_is is)));
+      let here : n ≡ place = last ∙ so.count in
+      let one : Some f ≡ Some g = sym f_at ∙ (ap (slice_get formats) (sym here) ∙ g_at) in
+      let two : Some z ≡ Some y = sym z_at ∙ (ap (slice_get sizes) (sym here) ∙ y_at) in
+      let f_is : f ≡ g = cc in
+      let z_is : z ≡ y = cc in
+      subst (λ q. IsTold q g y) same (subst (λ q. IsTold told q y) f_is (subst (λ q. IsTold told f q) z_is is)));
 }
 
 passes_is : (told : Told) (format : Format) (z : FormatSizes) (test : Test) → IsTold told format z → IsTest test → passes test told ≡ survives test format z

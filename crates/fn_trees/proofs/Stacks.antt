@@ -1,8 +1,8 @@
 -- The sets on the stack are what reaches the trees still to be judged.
-use Rattle.std.proofs.Common.{◌≡◌, ◌≢◌, ◌∙◌, refl, sym, ap, subst, ℕ, zero, suc, ◌+◌, ◌<◌, ◌≤◌, Bool, true, false, not, nat_eq, nat_lt, nat_le, List, [], ◌∷◌, ◌++◌, length, drop, replicate, get_or, append_assoc, arith}
+use Rattle.std.proofs.Common.{◌≡◌, ◌≢◌, ◌∙◌, refl, sym, ap, subst, ℕ, zero, suc, ◌+◌, ◌<◌, ◌≤◌, Bool, true, false, not, nat_eq, nat_lt, List, [], ◌∷◌, ◌++◌, length, drop, replicate, append_assoc, arith}
 use Rattle.std.specs.Prelude.{slice_get, Option, Some, None, ℤ}
 use Rattle.std.proofs.lemmas.Bool.{eqb-true, eqb-false, leb-true, leb-false, ltb-true, ltb-false}
-use Rattle.std.proofs.lemmas.List.{drop_more, drop_all, same_from_push}
+use Rattle.std.proofs.lemmas.List.{drop_more, same_from_push}
 use Rattle.std.proofs.lemmas.Option.{get_or_from_slice_get, slice_get_within}
 use Rattle.fn_expr.specs.declared.interval.Interval.{Interval}
 use Rattle.fn_expr.specs.Rules.{IsIn}
@@ -12,10 +12,10 @@ use Rattle.fn_normal.specs.declared.profile.Format.{Format}
 use Rattle.fn_cert.specs.declared.certificate.Node.{Node}
 use Rattle.fn_cert.specs.declared.certificate.Node.TheVariants.{Bit, Parameter, Leaf, Nowhere}
 use Rattle.fn_rules.specs.Trees.{are_trees, trees_after, Reach, onward, reach_at, Reaches, IsRight, PartsFormats, everything}
-use Rattle.fn_trees.specs.declared.fault.TreeFault.TheVariants.{WrongLeaf, ShortFormat, OutOfRange}
+use Rattle.fn_trees.specs.declared.fault.TreeFault.TheVariants.{WrongLeaf, ShortFormat}
 use Rattle.fn_trees.specs.declared.told.Told.{Told}
 use Rattle.fn_trees.specs.declared.told.Test.TheVariants.{Lacks, MayBe, MayDiffer}
-use Rattle.fn_trees.specs.Faults.{RightBefore, Stands, IsTreeFault}
+use Rattle.fn_trees.specs.Faults.{Stands, IsTreeFault}
 use Rattle.fn_trees.specs.Told.{AreTold, IsNode, branches}
 use Rattle.fn_trees.specs.Judged.{Has, is_wrong, is_short, IsFirstWrong, reaching, stacked, JudgedTo}
 use Rattle.fn_trees.proofs.Passing.{kept_is}

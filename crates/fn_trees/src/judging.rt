@@ -34,7 +34,14 @@ pub fn tree_fault(
     let mut sets = Items::new(alloc);
     sets.push(all(alloc, tolds.len())?)?;
     for place in 0..nodes.len() {
-        let found = judge(alloc, &mut sets, tolds.as_slice(), sizes, place, nodes[place])?;
+        let found = judge(
+            alloc,
+            &mut sets,
+            tolds.as_slice(),
+            sizes,
+            place,
+            nodes[place],
+        )?;
         if let Some(fault) = found {
             return Ok(Some(fault));
         }
@@ -79,15 +86,24 @@ fn node_fault(sizes: &MethodSizes, set: &[bool], place: usize, node: Node) -> Op
         }
         Node::Bit(_) => {
             let format = first_wrong(sizes.formats.as_slice(), set, node)?;
-            Some(TreeFault::ShortFormat { node: place, format })
+            Some(TreeFault::ShortFormat {
+                node: place,
+                format,
+            })
         }
         Node::Leaf(_) => {
             let named = first_wrong(sizes.formats.as_slice(), set, node)?;
-            Some(TreeFault::WrongLeaf { node: place, format: named })
+            Some(TreeFault::WrongLeaf {
+                node: place,
+                format: named,
+            })
         }
         Node::Nowhere => {
             let any = first_wrong(sizes.formats.as_slice(), set, node)?;
-            Some(TreeFault::WrongLeaf { node: place, format: any })
+            Some(TreeFault::WrongLeaf {
+                node: place,
+                format: any,
+            })
         }
     }
 }

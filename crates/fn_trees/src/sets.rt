@@ -19,12 +19,7 @@ pub(crate) fn all(alloc: Global, count: usize) -> Result<Items<bool>, AllocError
 }
 
 /// The formats of the set that pass the test.
-fn kept(
-    alloc: Global,
-    test: Test,
-    tolds: &[Told],
-    set: &[bool],
-) -> Result<Items<bool>, AllocError>
+fn kept(alloc: Global, test: Test, tolds: &[Told], set: &[bool]) -> Result<Items<bool>, AllocError>
     ensures { IfOk result (λ left. left ≡ spec.kept test tolds.now set.now) }
 {
     let mut left = Items::new(alloc);
