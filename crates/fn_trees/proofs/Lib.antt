@@ -1,0 +1,4 @@
+pub mod Noting
+pub mod Comparing
+pub mod Passing
+pub mod Stacks

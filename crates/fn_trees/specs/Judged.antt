@@ -1,10 +1,12 @@
 -- Which formats of a set a node is wrong for.
-use Rattle.std.specs.Prelude.{◌≡◌, ℕ, ◌<◌, Bool, true, false, nat_eq, nat_le, not, List, [], ◌∷◌, ◌++◌, Option, Some, None, slice_get}
+use Rattle.std.specs.Prelude.{◌≡◌, ℕ, ◌<◌, Bool, true, false, nat_eq, nat_le, not, List, [], ◌∷◌, ◌++◌, Option, Some, None, slice_get, length, drop, ◌+◌}
 use Rattle.fn_normal.specs.declared.profile.FormatSizes.{FormatSizes}
+use Rattle.fn_normal.specs.declared.profile.MethodSizes.{MethodSizes}
 use Rattle.fn_normal.specs.declared.profile.Format.{Format}
 use Rattle.fn_cert.specs.declared.certificate.Node.{Node}
 use Rattle.fn_cert.specs.declared.certificate.Node.TheVariants.{Bit, Parameter, Leaf, Nowhere}
-use Rattle.fn_rules.specs.Trees.{Reach}
+use Rattle.fn_rules.specs.Trees.{Reach, are_trees, reach_at, everything}
+use Rattle.fn_trees.specs.Faults.{RightBefore}
 
 -- the least length of the packed bits is at most the offset
 abbrev pub is_short : ℕ → Option FormatSizes → Bool
@@ -38,3 +40,11 @@ reaching reach (format ∷ formats) (z ∷ sizes) = reach format z ∷ reaching 
 abbrev pub stacked : List Format → List FormatSizes → List Reach → List (List Bool)
 stacked formats sizes [] = []
 stacked formats sizes (r ∷ rs) = stacked formats sizes rs ++ reaching r formats sizes ∷ []
+
+-- the nodes before a place are judged, and the sets are what reaches the trees that come
+pub record JudgedTo (formats : List Format) (s : MethodSizes) (nodes : List Node) (place : ℕ) (sets : List (List Bool)) : Type 0 where
+  pub reaches : List Reach
+  pub are : sets ≡ stacked formats s.formats reaches
+  pub whole : are_trees (length reaches) (drop place nodes) ≡ true
+  pub at : (k : ℕ) → reach_at (everything ∷ []) nodes (place + k) ≡ reach_at reaches (drop place nodes) k
+  pub before : RightBefore formats s nodes place

@@ -22,6 +22,18 @@ pub record AreTold (tolds : List Told) (formats : List Format) (sizes : List For
   pub count : length tolds ≡ min (length formats) (length sizes)
   pub each : (n : ℕ) (told : Told) (format : Format) (z : FormatSizes) → slice_get tolds n ≡ Some told → slice_get formats n ≡ Some format → slice_get sizes n ≡ Some z → IsTold told format z
 
+-- the offset is one that the code can name
+abbrev pub IsTest : Test → Type 0
+IsTest (Lacks o b) = o < 2 ^ 64
+IsTest (MayBe p c) = Unit {0}
+IsTest (MayDiffer p c) = Unit {0}
+
+abbrev pub IsNode : Node → Type 0
+IsNode (Bit o) = o < 2 ^ 64
+IsNode (Parameter i c) = Unit {0}
+IsNode (Leaf k) = Unit {0}
+IsNode Nowhere = Unit {0}
+
 -- which formats go on at a test
 abbrev pub survives : Test → Reach
 survives (Lacks o b) format sizes = lacks_bit b o format sizes

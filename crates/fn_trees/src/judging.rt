@@ -1,21 +1,22 @@
 //! The judgement of a decision tree.
 
-ghost use Rattle.std.specs.Prelude.{◌≡◌, List, true, IfOk, IfSome, IfNone, MatchOption, slice_get, Some, IsTrue, ◌↔◌};
+ghost use Rattle.std.specs.Prelude.{◌≡◌, ◌+◌, List, true, IfOk, IfSome, IfNone, MatchOption, slice_get, Some, IsTrue, ◌↔◌};
 ghost use Rattle.fn_expr.specs.declared.interval.Interval.{Interval};
 ghost use Rattle.fn_expr.specs.Rules.{IsIn};
 ghost use Rattle.fn_normal.specs.declared.profile.Format.{Format};
 ghost use Rattle.fn_cert.specs.declared.certificate.Node.{Node};
 ghost use Rattle.fn_rules.specs.Trees.{are_trees, Reach, IsRight, PartsFormats};
 ghost use Rattle.fn_trees.specs.Faults.{Stands, IsTreeFault};
-ghost use Rattle.fn_trees.specs.Judged.{reaching};
+ghost use Rattle.fn_trees.specs.Judged.{reaching, JudgedTo};
+ghost use Rattle.fn_trees.specs.Told.{AreTold};
 
 use crate::fault::TreeFault;
 use crate::sets::{all, first_wrong, push_branches};
-use crate::told::all_told;
+use crate::told::{Told, all_told};
 use fn_cert::Node;
 use fn_expr::Interval;
 use fn_normal::{Format, MethodSizes};
-use sqlite_items::at;
+use sqlite_items::{Items, at};
 use std::alloc::{AllocError, Global};
 
 /// What is wrong with a method's tree: at the first node, in preorder, at which something is. The nodes are one tree.
@@ -30,18 +31,43 @@ pub fn tree_fault(
     ensures found { IfOk result (λ o. IfSome o (IsTreeFault formats.now sizes.now nodes.now)) }
 {
     let tolds = all_told(alloc, formats, sizes.formats.as_slice())?;
-    let mut sets = Vec::new(alloc);
+    let mut sets = Items::new(alloc);
     sets.push(all(alloc, tolds.len())?)?;
     for place in 0..nodes.len() {
-        let node = nodes[place];
-        let Some(set) = sets.pop() else {
-            return Ok(None);
-        };
-        if let Some(fault) = node_fault(sizes, set.as_slice(), place, node) {
+        let found = judge(
+            alloc,
+            &mut sets,
+            tolds.as_slice(),
+            sizes,
+            place,
+            nodes[place],
+        )?;
+        if let Some(fault) = found {
             return Ok(Some(fault));
         }
-        push_branches(alloc, &mut sets, tolds.as_slice(), set.as_slice(), node)?;
     }
+    Ok(None)
+}
+
+/// Judges the node at a place: takes its set from the stack, and puts those of its subtrees there.
+fn judge(
+    alloc: Global,
+    sets: &mut Items<Items<bool>>,
+    tolds: &[Told],
+    sizes: &MethodSizes,
+    place: usize,
+    node: Node,
+) -> Result<Option<TreeFault>, AllocError>
+    ensures { IfOk result (λ o. (formats : List Format) (nodes : List Node) → AreTold tolds.now formats sizes.now.formats → slice_get nodes place ≡ Some node → JudgedTo formats sizes.now nodes place sets.old →
+        MatchOption o (JudgedTo formats sizes.now nodes (place + 1) sets.new) (IsTreeFault formats sizes.now nodes)) }
+{
+    let Some(set) = sets.pop() else {
+        return Ok(None);
+    };
+    if let Some(fault) = node_fault(sizes, set.as_slice(), place, node) {
+        return Ok(Some(fault));
+    }
+    push_branches(alloc, sets, tolds, set.as_slice(), node)?;
     Ok(None)
 }
 
@@ -50,18 +76,36 @@ fn node_fault(sizes: &MethodSizes, set: &[bool], place: usize, node: Node) -> Op
     ensures { (formats : List Format) (nodes : List Node) (reach : Reach) → set.now ≡ reaching reach formats sizes.now.formats → Stands formats sizes.now nodes place node reach →
         MatchOption result (IsRight formats sizes.now reach node) (IsTreeFault formats sizes.now nodes) }
 {
-    if let Node::Parameter(parameter, constant) = node {
-        return if is_in_range(sizes.parameters.as_slice(), parameter, constant) {
-            None
-        } else {
-            Some(TreeFault::OutOfRange { node: place })
-        };
+    match node {
+        Node::Parameter(parameter, constant) => {
+            if is_in_range(sizes.parameters.as_slice(), parameter, constant) {
+                None
+            } else {
+                Some(TreeFault::OutOfRange { node: place })
+            }
+        }
+        Node::Bit(_) => {
+            let format = first_wrong(sizes.formats.as_slice(), set, node)?;
+            Some(TreeFault::ShortFormat {
+                node: place,
+                format,
+            })
+        }
+        Node::Leaf(_) => {
+            let named = first_wrong(sizes.formats.as_slice(), set, node)?;
+            Some(TreeFault::WrongLeaf {
+                node: place,
+                format: named,
+            })
+        }
+        Node::Nowhere => {
+            let any = first_wrong(sizes.formats.as_slice(), set, node)?;
+            Some(TreeFault::WrongLeaf {
+                node: place,
+                format: any,
+            })
+        }
     }
-    let format = first_wrong(sizes.formats.as_slice(), set, node)?;
-    if let Node::Bit(_) = node {
-        return Some(TreeFault::ShortFormat { node: place, format });
-    }
-    Some(TreeFault::WrongLeaf { node: place, format })
 }
 
 /// Whether the constant is in the range of the parameter, if it has one.

@@ -1,6 +1,7 @@
 //! Sets of formats, as a mark for each.
 
-ghost use Rattle.std.specs.Prelude.{◌≡◌, ℕ, ◌++◌, replicate, true, false, slice_get, IfOk, MatchOption};
+ghost use Rattle.std.specs.Prelude.{◌≡◌, ℕ, ◌++◌, replicate, true, false, slice_get, IfOk, MatchOption, ◌&&◌};
+ghost use Rattle.fn_trees.specs.declared.told.Test.TheVariants.{Lacks};
 ghost use Rattle.fn_trees.specs.Judged as judged;
 ghost use Rattle.fn_trees.specs.Told as spec;
 
@@ -18,12 +19,7 @@ pub(crate) fn all(alloc: Global, count: usize) -> Result<Items<bool>, AllocError
 }
 
 /// The formats of the set that pass the test.
-fn kept(
-    alloc: Global,
-    test: Test,
-    tolds: &[Told],
-    set: &[bool],
-) -> Result<Items<bool>, AllocError>
+fn kept(alloc: Global, test: Test, tolds: &[Told], set: &[bool]) -> Result<Items<bool>, AllocError>
     ensures { IfOk result (λ left. left ≡ spec.kept test tolds.now set.now) }
 {
     let mut left = Items::new(alloc);
@@ -31,25 +27,41 @@ fn kept(
         if place >= set.len() {
             return Ok(left);
         }
-        left.push(set[place] && tolds[place].passes(test))?;
+        left.push(stays(&tolds[place], test, set[place]))?;
     }
     Ok(left)
+}
+
+/// Whether a format that is in the set, by its mark, stays in it.
+fn stays(told: &Told, test: Test, mark: bool) -> bool
+    ensures { result ≡ (mark && spec.passes test told.now) }
+{
+    mark && told.passes(test)
+}
+
+/// The test that the bit at an offset isn't known to be this one.
+fn lacks(offset: usize, bit: bool) -> Test
+    ensures test { result ≡ Lacks offset bit }
+    ensures offset { spec.IsTest result }
+{
+    Test::Lacks(offset, bit)
 }
 
 /// Puts the sets of a node's subtrees onto the stack, that of the first one last.
 pub(crate) fn push_branches(
     alloc: Global,
-    sets: &mut Vec<Items<bool>>,
+    sets: &mut Items<Items<bool>>,
     tolds: &[Told],
     set: &[bool],
     node: Node,
 ) -> Result<(), AllocError>
-    ensures { IfOk result (λ u. sets.new.items ≡ sets.old.items ++ spec.branches tolds.now set.now node) }
+    ensures pushed { IfOk result (λ u. sets.new ≡ sets.old ++ spec.branches tolds.now set.now node) }
+    ensures offset { IfOk result (λ u. spec.IsNode node) }
 {
     match node {
         Node::Bit(offset) => {
-            sets.push(kept(alloc, Test::Lacks(offset, false), tolds, set)?)?;
-            sets.push(kept(alloc, Test::Lacks(offset, true), tolds, set)?)?;
+            sets.push(kept(alloc, lacks(offset, false), tolds, set)?)?;
+            sets.push(kept(alloc, lacks(offset, true), tolds, set)?)?;
         }
         Node::Parameter(parameter, constant) => {
             sets.push(kept(alloc, Test::MayDiffer(parameter, constant), tolds, set)?)?;

@@ -76,11 +76,7 @@ fn moved(offset: u128, by: u128) -> Option<u128>
 }
 
 /// Puts the bits into the table, from the offset on.
-fn note_bits(
-    known: &mut HashMap<u128, bool>,
-    offset: u128,
-    bits: &Bits,
-) -> Result<(), AllocError>
+fn note_bits(known: &mut HashMap<u128, bool>, offset: u128, bits: &Bits) -> Result<(), AllocError>
     requires { offset < 2 ^ 64 }
     ensures { IfOk result (λ u. spec.HasBits (get nat_eq known.old) (get nat_eq known.new) offset bits.now (length bits.now)) }
 {
