@@ -14,7 +14,7 @@ use Rattle.fn_cert.specs.Kept.{Entries}
 use Rattle.fn_plans.specs.declared.fault.PlanFault.{PlanFault}
 use Rattle.fn_plans.specs.Faults.{IsPlanFault}
 use Rattle.fn_plans.specs.Laws.{refusal_of}
-use Rattle.fn_plans.proofs.Refusing.{plan_faults_refuse}
+use Rattle.fn_plans.proofs.Faults.{plan_faults_refuse}
 use Rattle.fn_rules.specs.declared.fault.CheckFault.{CheckFault}
 use Rattle.fn_rules.specs.declared.fault.CheckFault.TheVariants as check
 use Rattle.fn_rules.specs.Plans.{way_of}

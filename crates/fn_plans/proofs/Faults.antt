@@ -8,10 +8,11 @@ use Rattle.fn_normal.specs.declared.profile.MethodSizes.{MethodSizes}
 use Rattle.fn_cert.specs.declared.certificate.Direction.{Direction}
 use Rattle.fn_cert.specs.declared.certificate.Plans.{Plans}
 use Rattle.fn_cert.specs.declared.certificate.MethodPlans.{MethodPlans}
-use Rattle.fn_cert.specs.declared.certificate.Certificate.{Certificate}
+use Rattle.fn_cert.specs.Kept.{Entries}
+use Rattle.fn_rules.specs.declared.fault.CheckFault.TheVariants as check
 use Rattle.fn_rules.specs.Plans.{Goal, way_of}
 use Rattle.fn_rules.specs.Valid.{plans_at}
-use Rattle.fn_rules.specs.Refusals.{steps_of, At, IsRefused, step_refused, side_unknown, not_enabled, never_learnt}
+use Rattle.fn_rules.specs.Refusals.{steps_of, At, IsRefused, step_refused, side_unknown}
 use Rattle.fn_plans.specs.declared.fault.PlanFault.{PlanFault}
 use Rattle.fn_plans.specs.declared.fault.PlanFault.TheVariants.{NotEnabled, NeverLearnt}
 use Rattle.fn_plans.specs.Faults.{StopsAt, Lacks, IsPlanFault}
@@ -24,8 +25,8 @@ at_middle (y ∷ before) x after = at_middle before x after
 
 pub plan_faults_refuse : PlanFaultsRefuse
 plan_faults_refuse methods table top cert k n m s entry format plans direction (NotEnabled index) at is are h =
-    subst (λ i. IsRefused methods table top cert (not_enabled k n direction i)) h.index_is (step_refused format plans direction h.before h.after h.step at is are h.steps_are h.enabled_before h.refused)
+    subst (λ i. IsRefused methods table top cert (check.NotEnabled k n direction i)) h.index_is (step_refused format plans direction h.before h.after h.step at is are h.steps_are h.enabled_before h.refused)
 plan_faults_refuse methods table top cert k n m s entry format plans direction (NeverLearnt field side) at is are h =
     let refused = side_unknown format plans direction (length h.before) h.goal at is are h.enabled (ap (λ goals. slice_get goals (length h.before)) h.goals_are ∙ at_middle h.before h.goal h.after) h.lacks in
-    let here = subst (λ i. IsRefused methods table top cert (never_learnt k n direction i h.goal.side)) h.field_is refused in
-    subst (λ z. IsRefused methods table top cert (never_learnt k n direction field z)) h.side_is here
+    let here = subst (λ i. IsRefused methods table top cert (check.NeverLearnt k n direction i h.goal.side)) h.field_is refused in
+    subst (λ z. IsRefused methods table top cert (check.NeverLearnt k n direction field z)) h.side_is here

@@ -11,7 +11,8 @@ use Rattle.fn_normal.specs.declared.profile.MethodSizes.{MethodSizes}
 use Rattle.fn_normal.specs.declared.profile.Format.{Format}
 use Rattle.fn_cert.specs.declared.certificate.Node.{Node}
 use Rattle.fn_cert.specs.declared.certificate.Node.TheVariants.{Bit, Parameter, Leaf, Nowhere}
-use Rattle.fn_rules.specs.Trees.{are_trees, trees_after, Reach, onward, reach_at, Reaches, IsRight, PartsFormats, everything}
+use Rattle.fn_cert.specs.Kept.{are_trees, trees_after}
+use Rattle.fn_rules.specs.Trees.{Reach, onward, reach_at, Reaches, IsRight, PartsFormats, everything}
 use Rattle.fn_trees.specs.declared.fault.TreeFault.TheVariants.{WrongLeaf, ShortFormat}
 use Rattle.fn_trees.specs.declared.told.Told.{Told}
 use Rattle.fn_trees.specs.declared.told.Test.TheVariants.{Lacks, MayBe, MayDiffer}
