@@ -26,7 +26,7 @@ enabled_both : (rules : Step → Option Rule) (known : List Fact) (xs ys : List 
 enabled_both rules known [] ys = refl
 enabled_both rules known (x ∷ xs) ys =
     ap (λ b. enabled known (rules x) && b) (enabled_both rules (learnt (rules x) ++ known) xs ys)
-      ∙ and_assoc (enabled known (rules x)) (all_enabled rules (learnt (rules x) ++ known) xs) (all_enabled rules (known_after rules (learnt (rules x) ++ known) xs) ys)
+    ∙ and_assoc (enabled known (rules x)) (all_enabled rules (learnt (rules x) ++ known) xs) (all_enabled rules (known_after rules (learnt (rules x) ++ known) xs) ys)
 
 -- the first i steps are enabled, and what is known after them is just what the knowledge shows
 pub record Followed (way : Way) (n : ℕ) (steps : List Step) (i : ℕ) (known : Knowledge) : Type 0 where
@@ -76,8 +76,8 @@ module _ (way : Way) (n : ℕ) (steps : List Step) where
       let all : take i steps ≡ steps = take_all i steps end in
       let able : all_enabled way.rule way.start steps ≡ true = ap (all_enabled way.rule way.start) (sym all) ∙ f.enabled in
       by o able (are (known_after way.rule way.start steps) (subst (λ z. Knows known (known_after way.rule way.start z)) all f.knows)) where
-    by : (o : Option PlanFault) → all_enabled way.rule way.start steps ≡ true → Learns way.goals (known_after way.rule way.start steps) o → IfNone o (IsPlan way steps) × IfSome o (IsPlanFault way steps)
-    by None able l = (record { enabled = able; complete = l }, tt)
-    by (Some (NotEnabled index)) able l = absurd l
-    by (Some (NeverLearnt field side)) able l =
-        (tt, record { before = l.before; goal = l.goal; after = l.after; enabled = able; goals_are = l.goals_are; field_is = l.field_is; side_is = l.side_is; learnt_before = l.learnt_before; lacks = l.lacks })
+        by : (o : Option PlanFault) → all_enabled way.rule way.start steps ≡ true → Learns way.goals (known_after way.rule way.start steps) o → IfNone o (IsPlan way steps) × IfSome o (IsPlanFault way steps)
+        by None able l = (record { enabled = able; complete = l }, tt)
+        by (Some (NotEnabled index)) able l = absurd l
+        by (Some (NeverLearnt field side)) able l =
+            (tt, record { before = l.before; goal = l.goal; after = l.after; enabled = able; goals_are = l.goals_are; field_is = l.field_is; side_is = l.side_is; learnt_before = l.learnt_before; lacks = l.lacks })

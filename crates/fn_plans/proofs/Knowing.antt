@@ -83,7 +83,7 @@ of_none false e l s p = refl
 learnt_here : (fields : List FieldKnowledge) (fact x : Fact) (d : FieldKnowledge) → field_of fact < length fields → get_or fields (field_of fact) nothing ≡ d →
     shows_of (get_or (slice_set fields (field_of fact) (with_fact d fact)) (field_of x) nothing) x ≡ ((same_fact fact x && nat_lt (field_of x) (length fields)) || shows_of (get_or fields (field_of x) nothing) x)
 learnt_here fields fact x d h e = elim (cases_eq (field_of fact) (field_of x)) [
-    inl s ↦ ap (λ j. shows_of (get_or (slice_set fields (field_of fact) (with_fact d fact)) j nothing) x) (sym s)
+  | inl s ↦ ap (λ j. shows_of (get_or (slice_set fields (field_of fact) (with_fact d fact)) j nothing) x) (sym s)
       ∙ ap (λ (f : FieldKnowledge). shows_of f x) (get_or-set_same fields (field_of fact) (with_fact d fact) nothing h)
       ∙ with_shows d fact x
       ∙ ap (λ (f : FieldKnowledge). same_kind fact x || shows_of f x) (sym e ∙ ap (λ j. get_or fields j nothing) s)
@@ -92,7 +92,7 @@ learnt_here fields fact x d h e = elim (cases_eq (field_of fact) (field_of x)) [
   | inr n ↦ ap (λ (f : FieldKnowledge). shows_of f x) (get_or-set_other fields (field_of fact) (field_of x) (with_fact d fact) nothing (λ s. n (sym s)))
       ∙ of_none (same_kind fact x) (nat_eq (field_of fact) (field_of x)) (nat_lt (field_of x) (length fields)) _ (ap (λ z. z && nat_lt (field_of x) (length fields)) (ne_eqb (field_of fact) (field_of x) n))
       ∙ ap (λ z. (z && nat_lt (field_of x) (length fields)) || shows_of (get_or fields (field_of x) nothing) x) (sym (same_apart fact x))
-  ]
+]
 
 -- what is shown after a fact of a field that is there
 pub shown_after : (old new : List FieldKnowledge) (fact x : Fact) (i : ℕ) (d e : FieldKnowledge) → i ≡ field_of fact → Some d ≡ slice_get old i → e ≡ with_fact d fact → new ≡ slice_set old i e →
@@ -107,10 +107,10 @@ pub shown_still : (fields : List FieldKnowledge) (fact x : Fact) (i : ℕ) (s : 
 shown_still fields fact x i s index is =
     let h : length fields ≤ field_of fact = subst (λ j. length fields ≤ j) index (past fields i is) in
     of_none (same_kind fact x) (nat_eq (field_of fact) (field_of x)) (nat_lt (field_of x) (length fields)) s (elim (cases_eq (field_of fact) (field_of x)) [
-        inl e ↦ and_right (nat_eq (field_of fact) (field_of x)) (nat_lt (field_of x) (length fields)) (le-ltb (field_of x) (length fields) (subst (λ j. length fields ≤ j) e h))
+      | inl e ↦ and_right (nat_eq (field_of fact) (field_of x)) (nat_lt (field_of x) (length fields)) (le-ltb (field_of x) (length fields) (subst (λ j. length fields ≤ j) e h))
       | inr n ↦ and_left (nat_eq (field_of fact) (field_of x)) (nat_lt (field_of x) (length fields)) (ne_eqb (field_of fact) (field_of x) n)
-      ])
-      ∙ ap (λ z. (z && nat_lt (field_of x) (length fields)) || s) (sym (same_apart fact x))
+    ])
+    ∙ ap (λ z. (z && nat_lt (field_of x) (length fields)) || s) (sym (same_apart fact x))
 
 -- one of several facts is learnt
 pub one_learnt : (rest y w s : Bool) → ((rest && w) || ((y && w) || s)) ≡ (((y || rest) && w) || s)

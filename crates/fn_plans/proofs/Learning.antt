@@ -52,8 +52,8 @@ module _ (direction : Direction) (format : Format) (known : Knowledge) where
     wanted_is : (facts : List Fact) → Knows known facts → (side : Side) → has_all facts (wanted direction format i d side) ≡ is_learnt direction (shows known) i due side
     wanted_is facts k side =
         ap (λ b. b && has_all facts (where_true (is_told direction side && plans.is_due direction format i d) (Done i ∷ []))) (sym (k (BitsOf side i)))
-          ∙ ap (λ b. shows known (BitsOf side i) && b) (done_known (is_told direction side && plans.is_due direction format i d) true (shows known (Done i)) facts i (k (Done i)))
-          ∙ ap (λ b. shows known (BitsOf side i) && (not (is_told direction side && b) || shows known (Done i))) (sym due_is)
+        ∙ ap (λ b. shows known (BitsOf side i) && b) (done_known (is_told direction side && plans.is_due direction format i d) true (shows known (Done i)) facts i (k (Done i)))
+        ∙ ap (λ b. shows known (BitsOf side i) && (not (is_told direction side && b) || shows known (Done i))) (sym due_is)
 
     rest : List Goal
     rest = goals_from direction format (i + 1) (drop (i + 1) format.fields)
@@ -65,7 +65,7 @@ module _ (direction : Direction) (format : Format) (known : Knowledge) where
         let more : drop i format.fields ≡ d ∷ drop (i + 1) format.fields = drop_more format.fields i d here ∙ ap (λ (z : Field). z ∷ drop (i + 1) format.fields) (sym is) in
         let next : suc i ≡ i + 1 = omega arith in
         r.goals_are ∙ ap (λ z. r.before ++ goals_from direction format i z) more
-          ∙ ap (λ j. r.before ++ goal direction format i d Uncompressed ∷ goal direction format i d Compressed ∷ goals_from direction format j (drop (i + 1) format.fields)) next
+        ∙ ap (λ j. r.before ++ goal direction format i d Uncompressed ∷ goal direction format i d Compressed ∷ goals_from direction format j (drop (i + 1) format.fields)) next
 
     sides_known : missing_side direction (shows known) i due ≡ None → (is_learnt direction (shows known) i due Uncompressed ≡ true) × (is_learnt direction (shows known) i due Compressed ≡ true)
     sides_known e = by (is_learnt direction (shows known) i due Uncompressed) (is_learnt direction (shows known) i due Compressed) e where

@@ -90,12 +90,7 @@ fn first_missing(
 }
 
 /// The first side of the field that is not learnt, where the field is due or not.
-fn missing_side(
-    direction: Direction,
-    known: &Knowledge,
-    field: usize,
-    is_due: bool,
-) -> Option<Side>
+fn missing_side(direction: Direction, known: &Knowledge, field: usize, is_due: bool) -> Option<Side>
     ensures { result ≡ spec.missing_side direction (shows known.now) field is_due }
 {
     if !is_learnt(direction, known, field, is_due, Side::Uncompressed) {

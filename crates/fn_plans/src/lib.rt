@@ -12,6 +12,7 @@ mod constraints;
 mod facts;
 pub mod fault;
 mod fields;
+mod forms;
 pub mod judging;
 pub mod knowledge;
 pub mod laws;

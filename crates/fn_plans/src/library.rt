@@ -7,33 +7,12 @@ ghost use Rattle.fn_rules.specs.Rules as spec;
 ghost use Rattle.fn_cert.specs.declared.rule.Fact.TheVariants as fact;
 
 use crate::facts::{push_inputs, push_side_facts};
+use crate::forms::{rule, whole_side};
 use fn_cert::{Fact, Rule};
 use fn_expr::{Expr, Measure, Side};
 use fn_normal::{CrcArguments, Encoding, Format, Library};
 use sqlite_items::Items;
 use std::alloc::{AllocError, Global};
-
-/// A rule that nothing hinders but what it needs.
-pub(crate) fn rule(alloc: Global, needs: Items<Fact>, gives: Items<Fact>) -> Rule
-    ensures { result ≡ spec.rule needs gives }
-{
-    Rule {
-        needs,
-        absent: Items::new(alloc),
-        gives,
-    }
-}
-
-/// The length and the bits of a side of the field.
-pub(crate) fn whole_side(
-    alloc: Global,
-    field: usize,
-    side: Side,
-) -> Result<Items<Fact>, AllocError>
-    ensures { IfOk result (λ f. f ≡ fact.LengthOf side field ∷ fact.BitsOf side field ∷ []) }
-{
-    Items::from_slice(alloc, &[Fact::LengthOf(side, field), Fact::BitsOf(side, field)])
-}
 
 /// The rule by which the method gives the uncompressed side, where the field has a library method.
 pub(crate) fn library_up(
@@ -140,11 +119,7 @@ fn down_needs(
 }
 
 /// Appends what a crc needs: the bits that it covers, and its arguments.
-fn push_crc(
-    crc: &CrcArguments,
-    format: &Format,
-    needs: &mut Items<Fact>,
-) -> Result<(), AllocError>
+fn push_crc(crc: &CrcArguments, format: &Format, needs: &mut Items<Fact>) -> Result<(), AllocError>
     ensures { OnOk result (needs.new ≡ needs.old ++ spec.down_needs format.now 0 (Library.Crc crc.now)) }
 {
     push_side_facts(crc.subject, crc.side, Measure::Value, format, needs)?;

@@ -5,43 +5,12 @@ ghost use Rattle.fn_rules.specs.Rules as spec;
 
 use crate::facts::{push_all_inputs, push_listed_before};
 use crate::fields::{is_call, is_listed};
+use crate::forms::{all_of, rule_once};
 use fn_cert::{Fact, Rule};
 use fn_expr::Side;
 use fn_normal::{Encoding, Field, Format};
 use sqlite_items::Items;
 use std::alloc::{AllocError, Global};
-
-/// A rule that is followed once for a field.
-pub(crate) fn rule_once(
-    alloc: Global,
-    field: usize,
-    needs: Items<Fact>,
-    gives: Items<Fact>,
-) -> Result<Rule, AllocError>
-    ensures { IfOk result (λ r. r ≡ spec.rule_once field needs gives) }
-{
-    Ok(Rule {
-        needs,
-        absent: Items::from_slice(alloc, &[Fact::Done(field)])?,
-        gives,
-    })
-}
-
-/// All that a call gives.
-pub(crate) fn all_of(alloc: Global, field: usize) -> Result<Items<Fact>, AllocError>
-    ensures { IfOk result (λ f. f ≡ spec.all_of field) }
-{
-    Items::from_slice(
-        alloc,
-        &[
-            Fact::LengthOf(Side::Uncompressed, field),
-            Fact::BitsOf(Side::Uncompressed, field),
-            Fact::LengthOf(Side::Compressed, field),
-            Fact::BitsOf(Side::Compressed, field),
-            Fact::Done(field),
-        ],
-    )
-}
 
 /// The rule by which a listed field that isn't called is taken from the packed bits.
 pub(crate) fn read_take(

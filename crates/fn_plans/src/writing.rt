@@ -6,7 +6,7 @@ ghost use Rattle.fn_rules.specs.Rules as spec;
 
 use crate::facts::{push_all_inputs, push_headers_before};
 use crate::fields::{is_call, is_header};
-use crate::reading::{all_of, rule_once};
+use crate::forms::{all_of, rule_once};
 use fn_cert::{Fact, Rule};
 use fn_expr::Side;
 use fn_normal::{Encoding, Field, Format, MethodSizes};
