@@ -21,7 +21,7 @@ use Rattle.fn_rules.specs.Laws.{OneCount}
 
 module _ (counts others : List ℕ) where
   -- the counts of the methods that the format calls are the same
-  abbrev Same : Format → Type 0
+  abbrev pub Same : Format → Type 0
   Same format = (i j : ℕ) (d : Field) (es : List Expr) → slice_get format.fields i ≡ Some d → d.encoding ≡ encoding.Call j es → slice_get counts j ≡ slice_get others j
 
   called_same : (format : Format) → Same format → (i : ℕ) (o : Option Field) → slice_get format.fields i ≡ o →
@@ -59,7 +59,7 @@ module _ (counts others : List ℕ) where
   method_same (format ∷ formats) same [] = refl
   method_same (format ∷ formats) same (entry ∷ entries) = λ i. format_same format (same zero format refl) entry.plans i + method_same formats (λ n. same (suc n)) entries i
 
-  entry_same : (formats : List Format) → ((n : ℕ) (format : Format) → slice_get formats n ≡ Some format → Same format) → (entry : Option MethodPlans) →
+  pub entry_same : (formats : List Format) → ((n : ℕ) (format : Format) → slice_get formats n ≡ Some format → Same format) → (entry : Option MethodPlans) →
       entry_ways counts formats entry ≡ entry_ways others formats entry
   entry_same formats same None = refl
   entry_same formats same (Some entry) = method_same formats same entry.formats

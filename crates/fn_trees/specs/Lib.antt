@@ -3,3 +3,4 @@ pub mod Tables
 pub mod Equations
 pub mod Told
 pub mod Judged
+pub mod Capped

@@ -1,9 +1,12 @@
 //! Whether a certificate's decision trees part the formats of their methods.
 #![tactic(auto)]
 
+pub use counts::count_candidates;
 pub use fault::TreeFault;
 pub use judging::tree_fault;
 
+mod choices;
+pub mod counts;
 pub mod equations;
 pub mod fault;
 pub mod judging;
