@@ -4,7 +4,7 @@ use Rattle.std.specs.Prelude.{Option, Some, None, slice_get, slice_set, option_a
 use Rattle.std.proofs.lemmas.Bool.{leb-true, leb-false, eqb-true, eqb-false, ltb-true, ltb-false}
 use Rattle.std.proofs.lemmas.Nat.{mul-le}
 use Rattle.std.proofs.lemmas.Option.{slice_get-map, slice_get_within, get_or_from_slice_get}
-use Rattle.std.proofs.lemmas.List.{map-set, length-set, drop_more, drop_all}
+use Rattle.std.proofs.lemmas.List.{map-set, length-set, length-map, drop_more, drop_all}
 use Rattle.fn_expr.specs.declared.expr.Expr.{Expr}
 use Rattle.fn_normal.specs.declared.profile.Encoding.TheVariants as encoding
 use Rattle.fn_normal.specs.declared.profile.Field.{Field}
@@ -19,7 +19,7 @@ use Rattle.fn_cert.specs.declared.certificate.Certificate.{Certificate}
 use Rattle.fn_rules.specs.Rules.{choice}
 use Rattle.fn_rules.specs.Counts.{ways, plan_ways, format_ways, method_ways, entry_ways, entry_at}
 use Rattle.fn_rules.proofs.Counts.{Same, entry_same}
-use Rattle.fn_trees.specs.Capped.{capped, AreCapped, CappedBefore}
+use Rattle.fn_trees.specs.Capped.{capped, AreCapped, CappedBefore, CappedTells, EachIsCounted}
 
 past : {A : Type 0} (xs : List A) (i : ℕ) → slice_get xs i ≡ None → length xs ≤ i
 past [] i e = omega arith
@@ -226,3 +226,14 @@ module _ (methods : List Method) (cert : Certificate) (order : List ℕ) where
     };
     each = so.each;
   }
+
+-- ---- what the numbers tell
+
+pub capped_tells : CappedTells
+capped_tells methods cert found are top k n at n_at =
+    let both : Some k ≡ Some (capped n) = sym at ∙ (ap (λ xs. slice_get xs top) are.each ∙ (slice_get-map capped are.counts top ∙ ap (option_map capped) n_at)) in
+    let same : k ≡ capped n = cc in
+    (λ le. omega (arith, same, le), λ lt. omega (arith, same, lt))
+
+pub each_is_counted : EachIsCounted
+each_is_counted methods cert found are = ap length are.each ∙ (length-map are.counts capped ∙ are.are_counts.each)

@@ -1,5 +1,5 @@
 -- Numbers of candidates up to a cap: they may be astronomically large (docs/DEFINITIONS.md, Certificates).
-use Rattle.std.specs.Prelude.{◌≡◌, ℕ, ◌-◌, ◌<◌, ◌^◌, min, List, length, map, slice_get, Some}
+use Rattle.std.specs.Prelude.{◌≡◌, ℕ, ◌-◌, ◌<◌, ◌≤◌, ◌^◌, min, List, length, map, slice_get, Some}
 use Rattle.fn_normal.specs.declared.profile.Method.{Method}
 use Rattle.fn_cert.specs.declared.certificate.Certificate.{Certificate}
 use Rattle.fn_rules.specs.Counts.{entry_ways, entry_at, AreCounts}
@@ -20,3 +20,11 @@ pub record CappedBefore (methods : List Method) (cert : Certificate) (order : Li
   pub count : length counts ≡ length methods
   pub each : found ≡ map capped counts
   pub right : (i k n : ℕ) (m : Method) → i < place → slice_get order i ≡ Some k → slice_get methods k ≡ Some m → slice_get counts k ≡ Some n → n ≡ entry_ways counts m.formats (entry_at cert k)
+
+-- Numbers up to the cap tell whether the top has more than 4,096 candidates.
+abbrev pub CappedTells : Type 0
+CappedTells = (methods : List Method) (cert : Certificate) (found : List ℕ) (are : AreCapped methods cert found) (top k n : ℕ) → slice_get found top ≡ Some k → slice_get are.counts top ≡ Some n → (k ≤ 4096 → n ≤ 4096) × (4096 < k → 4096 < n)
+
+-- There is a number for each method.
+abbrev pub EachIsCounted : Type 0
+EachIsCounted = (methods : List Method) (cert : Certificate) (found : List ℕ) → AreCapped methods cert found → length found ≡ length methods

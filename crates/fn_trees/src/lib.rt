@@ -10,6 +10,7 @@ pub mod counts;
 pub mod equations;
 pub mod fault;
 pub mod judging;
+pub mod laws;
 mod sets;
 mod tables;
 pub mod told;
