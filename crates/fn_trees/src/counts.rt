@@ -1,6 +1,6 @@
 //! How many candidates the write plans of a certificate have.
 
-ghost use Rattle.std.specs.Prelude.{◌≡◌, ℕ, ◌^◌, ◌<◌, List, map, length, slice_get, slice_set, option_and_then, option_map, unwrap_or, IfOk};
+ghost use Rattle.std.specs.Prelude.{◌≡◌, ℕ, ◌*◌, ◌^◌, List, map, slice_get, option_and_then, option_map, unwrap_or, IfOk};
 ghost use Rattle.fn_cert.specs.declared.certificate.Certificate.{Certificate};
 ghost use Rattle.fn_bounds.specs.Methods.{IsOrder};
 ghost use Rattle.fn_bounds.specs.Passes.{indexed};
@@ -104,9 +104,15 @@ fn plan_count(counts: &[u64], format: &Format, tried: &[Option<u32>], steps: &[S
 {
     let mut total: u64 = 1;
     for step in steps {
-        total = total.saturating_mul(step_count(counts, format, tried, *step));
+        total = product(total, step_count(counts, format, tried, *step));
     }
     total
+}
+
+fn product(total: u64, ways: u64) -> u64
+    ensures { result ≡ spec.capped (total * ways) }
+{
+    total.saturating_mul(ways)
 }
 
 fn step_count(counts: &[u64], format: &Format, tried: &[Option<u32>], step: Step) -> u64

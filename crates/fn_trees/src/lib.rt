@@ -4,6 +4,7 @@
 pub use counts::count_candidates;
 pub use fault::TreeFault;
 pub use judging::tree_fault;
+pub use ordering::callees_first;
 
 mod choices;
 pub mod counts;
@@ -11,6 +12,7 @@ pub mod equations;
 pub mod fault;
 pub mod judging;
 pub mod laws;
+pub mod ordering;
 mod sets;
 mod tables;
 pub mod told;
