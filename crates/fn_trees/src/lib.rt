@@ -1,12 +1,18 @@
 //! Whether a certificate's decision trees part the formats of their methods.
 #![tactic(auto)]
 
+pub use counts::count_candidates;
 pub use fault::TreeFault;
 pub use judging::tree_fault;
+pub use ordering::callees_first;
 
+mod choices;
+pub mod counts;
 pub mod equations;
 pub mod fault;
 pub mod judging;
+pub mod laws;
+pub mod ordering;
 mod sets;
 mod tables;
 pub mod told;
