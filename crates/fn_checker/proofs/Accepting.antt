@@ -11,5 +11,5 @@ use Rattle.fn_checker.specs.Accepted.{Accepting, IsAccepted, IsDeterminate}
 pub determined : (a : Accepting) (p : Resolved) → a.profile ≡ p → AreSizes p.methods p.sizes → IsAccepted a → IsDeterminate a
 determined a p is sized valid =
     let here : AreSizes a.profile.methods a.profile.sizes = subst (λ (q : Resolved). AreSizes q.methods q.sizes) (sym is) sized in
-    let each : (k : ℕ) (args : List ℤ) (path : Path) → DetAt a.profile.methods k args path = determinate a.profile.methods a.profile.sizes a.profile.top a.certificate here valid in
+    let each : (k : ℕ) (args : List ℤ) (path : Path) → DetAt a.profile.methods k args path = determinate a.profile.methods a.profile.sizes a.profile.top a.certificate here valid.valid in
     record { top = each a.profile.top [] []; each = each }

@@ -20,10 +20,15 @@ use Rattle.fn_rules.specs.declared.fault.CheckFault.TheVariants as check
 use Rattle.fn_rules.specs.Plans.{way_of}
 use Rattle.fn_rules.specs.Counts.{entry_at}
 use Rattle.fn_rules.specs.Refusals as refusals
-use Rattle.fn_rules.specs.Valid.{plans_at, HasEntry, Valid}
+use Rattle.fn_rules.specs.Valid.{plans_at, HasEntry}
 use Rattle.fn_trees.specs.declared.fault.TreeFault.{TreeFault}
 use Rattle.fn_trees.specs.Faults.{IsTreeFault, leaf_reached, nowhere_reached, bit_past, constant_outside}
-use Rattle.fn_checker.specs.Judged.{AreEntriesRight, IsTopRight, IsEntryRight, IsMethodRight, RefusesIn, RefusesEntry, RefusesFormats, RefusesFormat, RefusesPlans, of_tree}
+use Rattle.std.proofs.lemmas.Option.{slice_get_within}
+use Rattle.fn_profile.specs.WellFormed.{AreWellFormed}
+use Rattle.fn_trees.specs.Calling.{CallsWithin}
+use Rattle.fn_checker.specs.declared.checking.Verdict.{Verdict}
+use Rattle.fn_checker.specs.declared.checking.Verdict.TheVariants as verdict
+use Rattle.fn_checker.specs.Judged.{AreEntriesRight, IsTopVerdict, IsVerdict, IsEntryRight, IsMethodRight, RefusesIn, RefusesEntry, RefusesFormats, RefusesFormat, RefusesPlans, of_tree}
 
 -- what an option that is there holds
 pub found_in : {A : Type 0} (P : A → Type 0) (o : Option A) (x : A) → o ≡ Some x → IfSome o P → P x
@@ -116,11 +121,21 @@ entry_refuses methods table cert k m s entry (Ok None) at h = tt
 entry_refuses methods table cert k m s entry (Ok (Some f)) at h = h methods cert at
 entry_refuses methods table cert k m s entry (Err e) at h = tt
 
--- all entries and the top are right
-pub all_right : (methods xs : List Method) (table ys : List MethodSizes) (top t : ℕ) (cert es : Entries) (r : Result (Option CheckFault) AllocError) → xs ≡ methods → ys ≡ table → t ≡ top → es ≡ cert → AreEntriesRight xs ys es →
-    IfOk r (λ o. IfNone o (IsTopRight xs ys t es)) → IfOk r (λ o. IfNone o (Valid methods table top cert))
-all_right methods xs table ys top t cert es (Ok (Some f)) a b c d right h = tt
-all_right methods xs table ys top t cert es (Err e) a b c d right h = tt
-all_right methods xs table ys top t cert es (Ok None) a b c d right h =
-    let whole : Valid xs ys t es = record { entries = λ k m s first. right k m s first; counts = h.counts; are_counts = h.are_counts; few = h.few; short = h.short } in
-    subst (λ (x : List Method). Valid x table top cert) a (subst (λ (y : List MethodSizes). Valid xs y top cert) b (subst (λ (z : ℕ). Valid xs ys z cert) c (subst (λ (e : Entries). Valid xs ys t e) d whole)))
+-- all entries are right, and the top has this verdict
+pub whole_verdict : (methods xs : List Method) (table ys : List MethodSizes) (top t : ℕ) (cert es : Entries) (r : Result Verdict AllocError) → xs ≡ methods → ys ≡ table → t ≡ top → es ≡ cert → AreEntriesRight xs ys es →
+    IfOk r (IsTopVerdict xs ys t es) → IfOk r (IsVerdict methods table top cert)
+whole_verdict methods xs table ys top t cert es r a b c d right h =
+    subst (λ (x : List Method). IfOk r (IsVerdict x table top cert)) a (subst (λ (y : List MethodSizes). IfOk r (IsVerdict xs y top cert)) b
+    (subst (λ (z : ℕ). IfOk r (IsVerdict xs ys z cert)) c (subst (λ (e : Entries). IfOk r (IsVerdict xs ys t e)) d (by r h))))
+  where
+    by : (q : Result Verdict AllocError) → IfOk q (IsTopVerdict xs ys t es) → IfOk q (IsVerdict xs ys t es)
+    by (Err e) g = tt
+    by (Ok (verdict.Wrong fault)) g = g
+    by (Ok (verdict.Right counts)) g =
+        (record { entries = λ k m s first. right k m s first; counts = g.counted.counts; are_counts = g.counted.are_counts; few = g.few; short = g.short }, g.counted)
+
+-- each call is of one of the methods
+pub calls_within : (methods : List Method) → AreWellFormed methods → CallsWithin methods
+calls_within methods formed k j m at calls =
+    let callee = (formed.formats k calls.format_place m calls.format at calls.format_at).calls calls.field_place j calls.field calls.arguments calls.field_at calls.is_call in
+    slice_get_within methods j callee.0 callee.1

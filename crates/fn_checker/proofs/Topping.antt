@@ -8,7 +8,7 @@ use Rattle.fn_normal.specs.declared.profile.MethodSizes.{MethodSizes}
 use Rattle.fn_cert.specs.Kept.{Entries}
 use Rattle.fn_rules.specs.declared.fault.CheckFault.TheVariants as check
 use Rattle.fn_rules.specs.Refusals as refusals
-use Rattle.fn_checker.specs.Counting.{AreCapped, capped}
+use Rattle.fn_trees.specs.Capped.{AreCapped, capped}
 use Rattle.fn_checker.specs.Judged.{is_above, is_many, is_long, IsTopRight}
 
 is_more : (limit n : ℕ) → nat_lt limit n ≡ true → limit < n
@@ -27,7 +27,7 @@ within limit n (Some m) e is = let same : m ≡ n = cc in subst (λ x. x ≤ lim
 
 module _ (methods : List Method) (table : List MethodSizes) (top : ℕ) (cert : Entries) (told : List ℕ) (are : AreCapped methods cert told) where
   told_at : slice_get told top ≡ option_map capped (slice_get are.counts top)
-  told_at = ap (λ xs. slice_get xs top) (sym are.capped_are) ∙ slice_get-map capped are.counts top
+  told_at = ap (λ xs. slice_get xs top) are.each ∙ slice_get-map capped are.counts top
 
   counted_at : (c : ℕ) (o : Option ℕ) → slice_get are.counts top ≡ o → option_map capped o ≡ Some c → (n : ℕ) × (slice_get are.counts top ≡ Some n) × (capped n ≡ c)
   counted_at c None at is = absurd cc
@@ -46,10 +46,9 @@ module _ (methods : List Method) (table : List MethodSizes) (top : ℕ) (cert : 
       let low : min n 18446744073709551615 ≤ 4096 = within _ (capped n) (slice_get told top) e (told_at ∙ ap (option_map capped) at) in
       omega (arith, low)
 
-  top_right : is_many told top ≡ false → is_long table top ≡ false → IsTopRight methods table top cert
+  top_right : is_many told top ≡ false → is_long table top ≡ false → IsTopRight methods table top cert told
   top_right many long = record {
-    counts = are.counts;
-    are_counts = are.are_counts;
+    counted = are;
     few = few_told many;
     short = λ s at. within _ s.whole.compressed.most _ long (ap (option_map (λ (z : MethodSizes). z.whole.compressed.most)) at);
   }
@@ -69,5 +68,5 @@ many_refuse_as methods table top cert told shown are same e = many_refuse method
 pub long_refuses_as : (methods : List Method) (table : List MethodSizes) (top : ℕ) (cert : Entries) → true ≡ is_long table top → refusals.IsRefused methods table top cert check.TooLong
 long_refuses_as methods table top cert e = long_refuses methods table top cert (sym e)
 
-pub top_right_as : (methods : List Method) (table : List MethodSizes) (top : ℕ) (cert : Entries) (told shown : List ℕ) → AreCapped methods cert told → shown ≡ told → false ≡ is_many shown top → false ≡ is_long table top → IsTopRight methods table top cert
+pub top_right_as : (methods : List Method) (table : List MethodSizes) (top : ℕ) (cert : Entries) (told shown : List ℕ) → AreCapped methods cert told → shown ≡ told → false ≡ is_many shown top → false ≡ is_long table top → IsTopRight methods table top cert told
 top_right_as methods table top cert told shown are same many long = top_right methods table top cert told are (ap (λ xs. is_many xs top) (sym same) ∙ sym many) (sym long)

@@ -9,13 +9,15 @@ use Rattle.fn_cert.specs.declared.certificate.MethodPlans.{MethodPlans}
 use Rattle.fn_cert.specs.Kept.{Entries}
 use Rattle.fn_rules.specs.declared.fault.CheckFault.{CheckFault}
 use Rattle.fn_rules.specs.declared.fault.CheckFault.TheVariants as check
-use Rattle.fn_rules.specs.Counts.{AreCounts}
 use Rattle.fn_rules.specs.Plans.{way_of, IsPlan}
 use Rattle.fn_rules.specs.Trees.{PartsFormats}
 use Rattle.fn_rules.specs.Refusals.{At, IsRefused}
-use Rattle.fn_rules.specs.Valid.{plans_at, HasPlans, HasEntry}
+use Rattle.fn_rules.specs.Valid.{plans_at, HasPlans, HasEntry, Valid}
+use Rattle.fn_trees.specs.Capped.{AreCapped}
 use Rattle.fn_trees.specs.declared.fault.TreeFault.{TreeFault}
 use Rattle.fn_trees.specs.declared.fault.TreeFault.TheVariants as tree
+use Rattle.fn_checker.specs.declared.checking.Verdict.{Verdict}
+use Rattle.fn_checker.specs.declared.checking.Verdict.TheVariants as verdict
 
 -- ---- what is right
 
@@ -89,8 +91,18 @@ abbrev pub is_long : List MethodSizes → ℕ → Bool
 is_long table top = is_above packed_limit (option_map (λ (s : MethodSizes). s.whole.compressed.most) (slice_get table top))
 
 -- the top has no more candidates and packed bits than it may
-pub record IsTopRight (methods : List Method) (table : List MethodSizes) (top : ℕ) (cert : Entries) : Type 0 where
-  pub counts : List ℕ
-  pub are_counts : AreCounts methods cert counts
-  pub few : (n : ℕ) → slice_get counts top ≡ Some n → n ≤ candidate_limit
+pub record IsTopRight (methods : List Method) (table : List MethodSizes) (top : ℕ) (cert : Entries) (told : List ℕ) : Type 0 where
+  pub counted : AreCapped methods cert told
+  pub few : (n : ℕ) → slice_get counted.counts top ≡ Some n → n ≤ candidate_limit
   pub short : (s : MethodSizes) → slice_get table top ≡ Some s → s.whole.compressed.most ≤ packed_limit
+
+-- ---- verdicts
+
+-- what is said of the top, or of the whole certificate where its entries are right
+abbrev pub IsTopVerdict : List Method → List MethodSizes → ℕ → Entries → Verdict → Type 0
+IsTopVerdict methods table top cert (verdict.Right counts) = IsTopRight methods table top cert counts
+IsTopVerdict methods table top cert (verdict.Wrong fault) = IsRefused methods table top cert fault
+
+abbrev pub IsVerdict : List Method → List MethodSizes → ℕ → Entries → Verdict → Type 0
+IsVerdict methods table top cert (verdict.Right counts) = Valid methods table top cert × AreCapped methods cert counts
+IsVerdict methods table top cert (verdict.Wrong fault) = IsRefused methods table top cert fault

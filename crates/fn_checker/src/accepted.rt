@@ -6,6 +6,7 @@ ghost use Rattle.fn_checker.specs.Accepted.{IsAccepted, IsDeterminate};
 use fn_cert::Certificate;
 use fn_profile::Profile;
 use fn_rules::CheckFault;
+use sqlite_items::Items;
 use std::marker::Model;
 
 /// A profile with a certificate that is valid for it. Only `check` makes one.
@@ -13,6 +14,7 @@ use std::marker::Model;
 pub struct Accepted {
     profile: Profile,
     certificate: Certificate,
+    counts: Items<u64>,
 }
 
 impl Model for Accepted {
@@ -25,20 +27,21 @@ impl Model for Accepted {
 
     ghost coded = { Prim.hlevel (codes, expr.the_row.coded, cond.the_row.coded) };
 
-    ghost view = { λ a. record { profile = a.profile; certificate = a.certificate } };
+    ghost view = { λ a. record { profile = a.profile; certificate = a.certificate; counts = a.counts } };
 
-    ghost invariant = { λ a. IsAccepted (record { profile = a.profile; certificate = a.certificate }) };
+    ghost invariant = { λ a. IsAccepted (record { profile = a.profile; certificate = a.certificate; counts = a.counts }) };
 }
 
 impl Accepted {
-    pub(crate) fn of(profile: Profile, certificate: Certificate) -> Accepted
-        requires { IsAccepted (record { profile = profile; certificate = certificate }) }
+    pub(crate) fn of(profile: Profile, certificate: Certificate, counts: Items<u64>) -> Accepted
+        requires { IsAccepted (record { profile = profile; certificate = certificate; counts = counts }) }
         ensures profile { result.profile ≡ profile }
         ensures certificate { result.certificate ≡ certificate }
     {
         Accepted {
             profile,
             certificate,
+            counts,
         }
     }
 
@@ -54,6 +57,13 @@ impl Accepted {
         ensures { result.now ≡ self.now.certificate }
     {
         &self.certificate
+    }
+
+    /// For each method the number of its candidates, the greatest of 64 bits where it is above that.
+    pub fn counts(&self) -> &[u64]
+        ensures { result.now ≡ self.now.counts }
+    {
+        self.counts.as_slice()
     }
 
     /// A law of what is accepted: the certificate is valid for the profile.

@@ -3,25 +3,23 @@
 ghost use Rattle.std.specs.Prelude.{◌≡◌, true, IfOk, IfErr, IfSome, IfNone};
 ghost use Rattle.std.specs.Option.{option_copied};
 ghost use Rattle.fn_cert.specs.Kept.{AreKept, are_trees};
-ghost use Rattle.fn_checker.specs.Counting.{HaveOrder};
+ghost use Rattle.fn_trees.specs.Calling.{HasOrder, CallsWithin};
 ghost use Rattle.fn_plans.specs.Laws.{refusal_of};
 ghost use Rattle.fn_rules.specs.Counts as counts;
-ghost use Rattle.fn_rules.specs.Refusals.{IsRefused};
 ghost use Rattle.fn_rules.specs.Valid as valid;
-ghost use Rattle.fn_rules.specs.Valid.{Valid, HasPlans};
+ghost use Rattle.fn_rules.specs.Valid.{HasPlans};
 ghost use Rattle.fn_checker.specs.Accepted.{Blames};
 ghost use Rattle.fn_checker.specs.Judged as spec;
-ghost use Rattle.fn_checker.specs.Judged.{Serve, AreEntriesRight, AreFormatsRight, IsMethodRight, IsEntryRight, IsTopRight, RefusesIn, RefusesEntry, RefusesFormats, RefusesFormat, RefusesPlans};
+ghost use Rattle.fn_checker.specs.Judged.{Serve, AreEntriesRight, AreFormatsRight, IsMethodRight, IsEntryRight, RefusesIn, RefusesEntry, RefusesFormats, RefusesFormat, RefusesPlans};
 
 use crate::accepted::{Accepted, CheckError, Refusal};
-use crate::counting::candidates;
 use fn_cert::{Certificate, Direction, MethodPlans, Plans};
 use fn_normal::{Format, Method, MethodSizes};
 use fn_plans::{PlanFault, plan_fault};
 use fn_profile::Profile;
 use fn_rules::CheckFault;
-use fn_trees::{TreeFault, tree_fault};
-use sqlite_items::at;
+use fn_trees::{TreeFault, callees_first, count_candidates, tree_fault};
+use sqlite_items::{Items, at};
 use std::alloc::{AllocError, Global};
 
 /// The most candidates of the top.
@@ -44,9 +42,9 @@ pub fn check(
     ensures same_certificate { IfErr result (λ r. r.certificate ≡ certificate) }
     ensures fault { IfErr result (λ r. Blames profile certificate r.error) }
 {
-    match first_fault(alloc, &profile, &certificate) {
-        Ok(None) => Ok(Accepted::of(profile, certificate)),
-        Ok(Some(fault)) => Err(Refusal {
+    match verdict(alloc, &profile, &certificate) {
+        Ok(Verdict::Right(counts)) => Ok(Accepted::of(profile, certificate, counts)),
+        Ok(Verdict::Wrong(fault)) => Err(Refusal {
             error: CheckError::Fault(fault),
             profile,
             certificate,
@@ -59,14 +57,19 @@ pub fn check(
     }
 }
 
-/// The first fault, if there is one.
-fn first_fault(
+/// What is found of a certificate: that it is valid, with the number of each method's candidates, or its first fault.
+#[derive(Drop)]
+enum Verdict {
+    Right(Items<u64>),
+    Wrong(CheckFault),
+}
+
+fn verdict(
     alloc: Global,
     profile: &Profile,
     certificate: &Certificate,
-) -> Result<Option<CheckFault>, AllocError>
-    ensures right { IfOk result (λ o. IfNone o (Valid profile.now.methods profile.now.sizes profile.now.top certificate.now)) }
-    ensures found { IfOk result (λ o. IfSome o (IsRefused profile.now.methods profile.now.sizes profile.now.top certificate.now)) }
+) -> Result<Verdict, AllocError>
+    ensures { IfOk result (spec.IsVerdict profile.now.methods profile.now.sizes profile.now.top certificate.now) }
 {
     profile.keeps();
     certificate.keeps();
@@ -74,9 +77,9 @@ fn first_fault(
     let sizes = profile.sizes();
     let entries = certificate.methods();
     if let Some(fault) = entries_fault(alloc, methods, sizes, entries)? {
-        return Ok(Some(fault));
+        return Ok(Verdict::Wrong(fault));
     }
-    top_fault(alloc, methods, sizes, profile.top(), entries)
+    top_verdict(alloc, methods, sizes, profile.top(), entries)
 }
 
 /// The first fault of the entries, method by method.
@@ -262,26 +265,27 @@ fn of_plan(method: usize, format: usize, direction: Direction, fault: PlanFault)
     }
 }
 
-/// Whether the top has too many candidates, or packed bits that may be too long.
-fn top_fault(
+/// Whether the top has no more candidates and packed bits than it may.
+fn top_verdict(
     alloc: Global,
     methods: &[Method],
     sizes: &[MethodSizes],
     top: usize,
     entries: &[Option<MethodPlans>],
-) -> Result<Option<CheckFault>, AllocError>
-    requires { HaveOrder methods.now }
-    ensures right { IfOk result (λ o. IfNone o (IsTopRight methods.now sizes.now top entries.now)) }
-    ensures found { IfOk result (λ o. IfSome o (IsRefused methods.now sizes.now top entries.now)) }
+) -> Result<Verdict, AllocError>
+    requires ordered { HasOrder methods.now }
+    requires within { CallsWithin methods.now }
+    ensures { IfOk result (spec.IsTopVerdict methods.now sizes.now top entries.now) }
 {
-    let counts = candidates(alloc, methods, entries)?;
+    let order = callees_first(alloc, methods)?;
+    let counts = count_candidates(alloc, methods, entries, order.as_slice())?;
     if is_many(counts.as_slice(), top) {
-        return Ok(Some(CheckFault::TooMany));
+        return Ok(Verdict::Wrong(CheckFault::TooMany));
     }
     if is_long(sizes, top) {
-        return Ok(Some(CheckFault::TooLong));
+        return Ok(Verdict::Wrong(CheckFault::TooLong));
     }
-    Ok(None)
+    Ok(Verdict::Right(counts))
 }
 
 fn is_many(counts: &[u64], top: usize) -> bool

@@ -6,4 +6,3 @@ pub use checking::check;
 
 pub mod accepted;
 pub mod checking;
-pub(crate) mod counting;

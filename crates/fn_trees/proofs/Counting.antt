@@ -15,7 +15,7 @@ use Rattle.fn_bounds.specs.Passes.{indexed}
 use Rattle.fn_bounds.proofs.Places.{indexed-at, indexed-more}
 use Rattle.fn_cert.specs.declared.certificate.Step.{Step}
 use Rattle.fn_cert.specs.declared.certificate.FormatPlans.{FormatPlans}
-use Rattle.fn_cert.specs.declared.certificate.Certificate.{Certificate}
+use Rattle.fn_cert.specs.Kept.{Entries}
 use Rattle.fn_rules.specs.Rules.{choice}
 use Rattle.fn_rules.specs.Counts.{ways, plan_ways, format_ways, method_ways, entry_ways, entry_at}
 use Rattle.fn_rules.proofs.Counts.{Same, entry_same}
@@ -144,7 +144,7 @@ set_apart (x ∷ xs) zero (suc j) y ne = refl
 set_apart (x ∷ xs) (suc k) zero y ne = refl
 set_apart (x ∷ xs) (suc k) (suc j) y ne = set_apart xs k j y (λ e. ne (ap suc e))
 
-module _ (methods : List Method) (cert : Certificate) (order : List ℕ) where
+module _ (methods : List Method) (cert : Entries) (order : List ℕ) where
   pub none_counted : (found : List ℕ) → found ≡ replicate (length methods) 0 → CappedBefore methods cert order 0 found
   none_counted found is = record {
     counts = replicate (length methods) 0;

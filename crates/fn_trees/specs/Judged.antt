@@ -5,7 +5,8 @@ use Rattle.fn_normal.specs.declared.profile.MethodSizes.{MethodSizes}
 use Rattle.fn_normal.specs.declared.profile.Format.{Format}
 use Rattle.fn_cert.specs.declared.certificate.Node.{Node}
 use Rattle.fn_cert.specs.declared.certificate.Node.TheVariants.{Bit, Parameter, Leaf, Nowhere}
-use Rattle.fn_rules.specs.Trees.{Reach, are_trees, reach_at, everything}
+use Rattle.fn_cert.specs.Kept.{are_trees}
+use Rattle.fn_rules.specs.Trees.{Reach, reach_at, everything}
 use Rattle.fn_trees.specs.Faults.{RightBefore}
 
 -- the least length of the packed bits is at most the offset

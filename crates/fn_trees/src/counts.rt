@@ -1,7 +1,6 @@
 //! How many candidates the write plans of a certificate have.
 
 ghost use Rattle.std.specs.Prelude.{◌≡◌, ℕ, ◌*◌, ◌^◌, List, map, slice_get, option_and_then, option_map, unwrap_or, IfOk};
-ghost use Rattle.fn_cert.specs.declared.certificate.Certificate.{Certificate};
 ghost use Rattle.fn_bounds.specs.Methods.{IsOrder};
 ghost use Rattle.fn_bounds.specs.Passes.{indexed};
 ghost use Rattle.fn_rules.specs.Rules.{choice};
@@ -23,7 +22,7 @@ pub fn count_candidates(
     order: &[usize],
 ) -> Result<Items<u64>, AllocError>
     requires { IsOrder methods.now order.now }
-    ensures { IfOk result (λ found. (cert : Certificate) → cert.methods ≡ entries.now → spec.AreCapped methods.now cert found) }
+    ensures { IfOk result (spec.AreCapped methods.now entries.now) }
 {
     let mut found = Items::from_vec(vec![in alloc; 0; methods.len()]?);
     for index in order {

@@ -10,9 +10,9 @@ use Rattle.fn_trees.proofs.counts.count_candidates.Goals as goal
 pub loop-index-preserved-in_default : goal.loop-index-preserved-in_default
 loop-index-preserved-in_default c = record {
   count = c.loop-index.invariant.count;
-  counted = λ cert is.
-      no_method c.args.methods.now cert c.args.order.now c.loop-index.index-index _ c.loop-index.found (slice_get-get_or c.args.order.now c.loop-index.index-index _ c.loop-index-test.true) (sym c.in_default.ensures)
-      (c.loop-index.invariant.counted cert is);
+  counted =
+      no_method c.args.methods.now c.args.entries.now c.args.order.now c.loop-index.index-index _ c.loop-index.found (slice_get-get_or c.args.order.now c.loop-index.index-index _ c.loop-index-test.true) (sym c.in_default.ensures)
+      c.loop-index.invariant.counted;
 }
 
 pub set-requires : goal.set-requires
@@ -23,12 +23,12 @@ set-requires c =
 pub loop-index-preserved : goal.loop-index-preserved
 loop-index-preserved c = record {
   count = ap length c.set.ensures ∙ (length-set c.loop-index.found _ _ ∙ c.loop-index.invariant.count);
-  counted = λ cert is.
-      let so = c.loop-index.invariant.counted cert is in
+  counted =
+      let so = c.loop-index.invariant.counted in
       let count = c.in_ok-count.ensures so.counts (c.as_slice.ensures ∙ so.each) in
-      one_more c.args.methods.now cert c.args.order.now c.requires c.loop-index.index-index _ c.in-Some.method.now (slice_get-get_or c.args.order.now c.loop-index.index-index _ c.loop-index-test.true) (sym c.in-Some.ensures)
-      c.loop-index.found c.set.new.self c.in_ok-count.count so (count ∙ ap (λ xs. capped (entry_ways so.counts c.in-Some.method.now.formats (option_and_then (λ o. o) (slice_get xs (get_or c.args.order.now c.loop-index.index-index 0))))) (sym is)) c.set.ensures;
+      one_more c.args.methods.now c.args.entries.now c.args.order.now c.requires c.loop-index.index-index _ c.in-Some.method.now (slice_get-get_or c.args.order.now c.loop-index.index-index _ c.loop-index-test.true) (sym c.in-Some.ensures)
+      c.loop-index.found c.set.new.self c.in_ok-count.count so count c.set.ensures;
 }
 
 pub returns : goal.returns
-returns c = λ cert is. all_counted c.args.methods.now cert c.args.order.now c.loop-index.index-index c.loop-index.found c.requires c.loop-index-test.false (c.loop-index.invariant.counted cert is)
+returns c = all_counted c.args.methods.now c.args.entries.now c.args.order.now c.loop-index.index-index c.loop-index.found c.requires c.loop-index-test.false c.loop-index.invariant.counted
