@@ -31,18 +31,14 @@ const PACKED_LIMIT: u128 = 8_192;
 /// Accepts the profile where the certificate is valid for it. A refusal hands both back; its fault is the first in this order: for each method in the order
 /// of the text a missing entry, the nodes of its tree in preorder, then each format's missing plans, its read plan and its write plan; at the end the
 /// number of candidates and the length of the top.
-pub fn check(
-    alloc: Global,
-    profile: Profile,
-    certificate: Certificate,
-) -> Result<Accepted, Refusal>
+pub fn check(alloc: Global, profile: Profile, certificate: Certificate) -> Result<Accepted, Refusal>
     ensures profile { IfOk result (λ a. a.profile ≡ profile) }
     ensures certificate { IfOk result (λ a. a.certificate ≡ certificate) }
     ensures same_profile { IfErr result (λ r. r.profile ≡ profile) }
     ensures same_certificate { IfErr result (λ r. r.certificate ≡ certificate) }
     ensures fault { IfErr result (λ r. Blames profile certificate r.error) }
 {
-    match verdict(alloc, &profile, &certificate) {
+    match judged(alloc, &profile, &certificate) {
         Ok(Verdict::Right(counts)) => Ok(Accepted::of(profile, certificate, counts)),
         Ok(Verdict::Wrong(fault)) => Err(Refusal {
             error: CheckError::Fault(fault),
@@ -64,7 +60,7 @@ enum Verdict {
     Wrong(CheckFault),
 }
 
-fn verdict(
+fn judged(
     alloc: Global,
     profile: &Profile,
     certificate: &Certificate,
@@ -148,7 +144,12 @@ fn entry_fault(
     ensures right { IfOk result (λ o. IfNone o (IsEntryRight table.now method.now bounds.now entry.now)) }
     ensures found { IfOk result (λ o. IfSome o (RefusesEntry table.now k method.now bounds.now entry.now)) }
 {
-    if let Some(fault) = tree_fault(alloc, method.formats.as_slice(), bounds, entry.tree.as_slice())? {
+    if let Some(fault) = tree_fault(
+        alloc,
+        method.formats.as_slice(),
+        bounds,
+        entry.tree.as_slice(),
+    )? {
         return Ok(Some(of_tree(k, fault)));
     }
     formats_fault(alloc, table, method, entry, k)
