@@ -1,22 +1,10 @@
 -- The fault of a plan is one of the certificate's.
-use Rattle.std.proofs.Common.{◌≡◌, refl, sym, ◌∙◌, ap, subst, ℕ, List, [], ◌∷◌, ◌++◌, length}
+use Rattle.std.proofs.Common.{◌≡◌, refl, ◌∙◌, ap, subst, List, [], ◌∷◌, ◌++◌, length}
 use Rattle.std.specs.Prelude.{Some, slice_get}
-use Rattle.fn_expr.specs.declared.expr.Side.{Side}
-use Rattle.fn_normal.specs.declared.profile.Format.{Format}
-use Rattle.fn_normal.specs.declared.profile.Method.{Method}
-use Rattle.fn_normal.specs.declared.profile.MethodSizes.{MethodSizes}
-use Rattle.fn_cert.specs.declared.certificate.Direction.{Direction}
-use Rattle.fn_cert.specs.declared.certificate.Plans.{Plans}
-use Rattle.fn_cert.specs.declared.certificate.MethodPlans.{MethodPlans}
-use Rattle.fn_cert.specs.Kept.{Entries}
 use Rattle.fn_rules.specs.declared.fault.CheckFault.TheVariants as check
-use Rattle.fn_rules.specs.Plans.{Goal, way_of}
-use Rattle.fn_rules.specs.Valid.{plans_at}
-use Rattle.fn_rules.specs.Refusals.{steps_of, At, IsRefused, step_refused, side_unknown}
-use Rattle.fn_plans.specs.declared.fault.PlanFault.{PlanFault}
+use Rattle.fn_rules.specs.Refusals.{IsRefused, step_refused, side_unknown}
 use Rattle.fn_plans.specs.declared.fault.PlanFault.TheVariants.{NotEnabled, NeverLearnt}
-use Rattle.fn_plans.specs.Faults.{StopsAt, Lacks, IsPlanFault}
-use Rattle.fn_plans.specs.Laws.{refusal_of, PlanFaultsRefuse}
+use Rattle.fn_plans.specs.Laws.{PlanFaultsRefuse}
 
 -- the element between two parts
 at_middle : {A : Type 0} (before : List A) (x : A) (after : List A) → slice_get (before ++ x ∷ after) (length before) ≡ Some x

@@ -6,7 +6,7 @@ use Rattle.std.proofs.lemmas.List.{take_more, take_all, drop_more, take-append-d
 use Rattle.fn_cert.specs.declared.certificate.Step.{Step}
 use Rattle.fn_cert.specs.declared.rule.Fact.{Fact}
 use Rattle.fn_cert.specs.declared.rule.Rule.{Rule}
-use Rattle.fn_rules.specs.Plans.{Way, enabled, learnt, known_after, all_enabled, is_complete, IsPlan}
+use Rattle.fn_rules.specs.Plans.{Way, enabled, learnt, known_after, all_enabled, IsPlan}
 use Rattle.fn_plans.specs.declared.fault.PlanFault.{PlanFault}
 use Rattle.fn_plans.specs.declared.fault.PlanFault.TheVariants.{NotEnabled, NeverLearnt}
 use Rattle.fn_plans.specs.declared.knowledge.Knowledge.{Knowledge}

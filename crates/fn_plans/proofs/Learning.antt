@@ -1,6 +1,6 @@
 -- The sides that are learnt, field by field.
-use Rattle.std.proofs.Common.{◌≡◌, refl, sym, ◌∙◌, ap, subst, ℕ, suc, ◌+◌, ◌<◌, ◌≤◌, Bool, true, false, List, [], ◌∷◌, ◌++◌, length, drop, get_or, append_assoc, arith}
-use Rattle.std.specs.Prelude.{Option, Some, None, ◌&&◌, ◌||◌, not, if◌then◌else◌}
+use Rattle.std.proofs.Common.{◌≡◌, refl, sym, ◌∙◌, ap, ℕ, suc, ◌+◌, ◌<◌, ◌≤◌, Bool, true, false, List, [], ◌∷◌, ◌++◌, length, drop, get_or, append_assoc, arith}
+use Rattle.std.specs.Prelude.{Some, None, ◌&&◌, ◌||◌, not, if◌then◌else◌}
 use Rattle.std.proofs.lemmas.Bool.{and_from, and_parts}
 use Rattle.std.proofs.lemmas.List.{drop_more, drop_all, append-nil}
 use Rattle.fn_expr.specs.declared.expr.Side.{Side}
@@ -18,7 +18,7 @@ use Rattle.fn_rules.specs.Plans as plans
 use Rattle.fn_rules.specs.Plans.{Goal, is_told, wanted, goal, goals_from, goals_of, is_complete}
 use Rattle.fn_plans.specs.declared.knowledge.Knowledge.{Knowledge}
 use Rattle.fn_plans.specs.Knowing.{shows, Knows}
-use Rattle.fn_plans.specs.Judging.{is_due, is_learnt, missing_side, Misses, AreLearnt}
+use Rattle.fn_plans.specs.Judging.{is_due, is_learnt, missing_side, Misses}
 
 pub due_same : (direction : Direction) (format : Format) (i : ℕ) (d : Field) (listed : Bool) → listed ≡ lists format.listing i → is_due direction listed d ≡ plans.is_due direction format i d
 due_same Read format i d listed e = ap (λ b. is_due Read b d) e
