@@ -1,12 +1,10 @@
 -- Numbers up to the cap, and the counts that they are of.
 use Rattle.std.proofs.Common.{◌≡◌, ◌∙◌, refl, sym, ap, subst, ℕ, zero, suc, ◌+◌, ◌-◌, ◌*◌, ◌^◌, ◌<◌, ◌≤◌, min, nat_le, nat_eq, Bool, true, false, List, [], ◌∷◌, ◌++◌, length, map, take, drop, get_or, replicate, arith}
 use Rattle.std.specs.Prelude.{Option, Some, None, slice_get, slice_set, option_and_then, option_map, unwrap_or}
-use Rattle.std.proofs.lemmas.Bool.{leb-true, leb-false, eqb-true, eqb-false, ltb-true, ltb-false}
+use Rattle.std.proofs.lemmas.Bool.{leb-true, leb-false, eqb-true, eqb-false}
 use Rattle.std.proofs.lemmas.Nat.{mul-le}
 use Rattle.std.proofs.lemmas.Option.{slice_get-map, slice_get_within, get_or_from_slice_get}
 use Rattle.std.proofs.lemmas.List.{map-set, length-set, length-map, drop_more, drop_all}
-use Rattle.fn_expr.specs.declared.expr.Expr.{Expr}
-use Rattle.fn_normal.specs.declared.profile.Encoding.TheVariants as encoding
 use Rattle.fn_normal.specs.declared.profile.Field.{Field}
 use Rattle.fn_normal.specs.declared.profile.Format.{Format}
 use Rattle.fn_normal.specs.declared.profile.Method.{Method}
@@ -18,7 +16,7 @@ use Rattle.fn_cert.specs.declared.certificate.FormatPlans.{FormatPlans}
 use Rattle.fn_cert.specs.declared.certificate.Certificate.{Certificate}
 use Rattle.fn_rules.specs.Rules.{choice}
 use Rattle.fn_rules.specs.Counts.{ways, plan_ways, format_ways, method_ways, entry_ways, entry_at}
-use Rattle.fn_rules.proofs.Counts.{Same, entry_same}
+use Rattle.fn_rules.proofs.Counts.{entry_same}
 use Rattle.fn_trees.specs.Capped.{capped, AreCapped, CappedBefore, CappedTells, EachIsCounted}
 
 past : {A : Type 0} (xs : List A) (i : ℕ) → slice_get xs i ≡ None → length xs ≤ i
@@ -39,6 +37,7 @@ module _ (cap : ℕ) where
       above zero lt = ap (λ n. min n cap) (omega arith)
       above (suc b) lt = let p : cap * 1 ≤ cap * suc b = mul-le cap 1 cap (suc b) (omega arith) (omega arith) in let q : a * 1 ≤ a * suc b = mul-le a 1 a (suc b) (omega arith) (omega arith) in
           let r : cap ≤ cap * suc b = omega (arith, p) in let s : cap ≤ a * suc b = omega (arith, q, lt) in omega (arith, r, s)
+
       by : (t : Bool) → nat_le a cap ≡ t → min (min a cap * b) cap ≡ min (a * b) cap
       by true e = let low : min a cap ≡ a = omega (arith, leb-true a cap e) in ap (λ n. min (n * b) cap) low
       by false e = let lt = leb-false a cap e in let high : min a cap ≡ cap = omega (arith, lt) in ap (λ n. min (n * b) cap) high ∙ above b lt
@@ -182,9 +181,9 @@ module _ (methods : List Method) (cert : Certificate) (order : List ℕ) where
     unchanged counts y i j n le at n_at =
         entry_same counts (slice_set counts k y) n.formats
         (λ f_place format f_at place' q d es d_at is.
-          let calls : CallsMethod n q = record { format = format; format_place = f_place; format_at = f_at; field = d; field_place = place'; field_at = d_at; arguments = es; is_call = is } in
-          let p = ordered.before i j q n at n_at calls in
-          sym (set_apart counts k q y (other p.0 q (omega (arith, p.1, le)) p.2)))
+        let calls : CallsMethod n q = record { format = format; format_place = f_place; format_at = f_at; field = d; field_place = place'; field_at = d_at; arguments = es; is_call = is } in
+        let p = ordered.before i j q n at n_at calls in
+        sym (set_apart counts k q y (other p.0 q (omega (arith, p.1, le)) p.2)))
         (entry_at cert j)
 
     pub one_more : (found newer : List ℕ) (count : ℕ) (so : CappedBefore methods cert order place found) → count ≡ capped (entry_ways so.counts m.formats (entry_at cert k)) → newer ≡ slice_set found k count →

@@ -31,12 +31,7 @@ pub(crate) fn choices(alloc: Global, format: &Format) -> Result<Items<Option<u32
 fn choice_of(alloc: Global, format: &Format, index: usize, field: &Field) -> Option<u32>
     ensures { result ≡ rules.choice format.now index field.now }
 {
-    let size = chosen_size(
-        alloc,
-        index,
-        format.constraints.as_slice(),
-        &field.encoding,
-    );
+    let size = chosen_size(alloc, index, format.constraints.as_slice(), &field.encoding);
     let bits = choosable(size)?;
     if is_given(field) { None } else { Some(bits) }
 }
