@@ -13,8 +13,9 @@ use fn_normal::{Encoding, Format, Method};
 use sqlite_items::{Items, at};
 use std::alloc::{AllocError, Global};
 
-/// For each method how many candidates its write plans have by the certificate's entries: the number, or the greatest of
-/// 64 bits where it is above that. In the order each method comes after those that it calls.
+/// For each method how many candidates its write plans have by the certificate's entries (docs/DEFINITIONS.md, Certificates):
+/// the number, or the greatest of 64 bits where it is above that. In the order each method comes after those that it calls.
+/// It fails only for want of memory.
 pub fn count_candidates(
     alloc: Global,
     methods: &[Method],
@@ -108,6 +109,7 @@ fn plan_count(counts: &[u64], format: &Format, tried: &[Option<u32>], steps: &[S
     total
 }
 
+/// The product, up to the cap.
 fn product(total: u64, ways: u64) -> u64
     ensures { result ≡ spec.capped (total * ways) }
 {

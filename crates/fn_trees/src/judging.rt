@@ -20,7 +20,8 @@ use fn_normal::{Format, MethodSizes};
 use sqlite_items::{Items, at};
 use std::alloc::{AllocError, Global};
 
-/// What is wrong with a method's tree: at the first node, in preorder, at which something is. The nodes are one tree.
+/// What is wrong with a method's decision tree (docs/DEFINITIONS.md, Certificates): at the first node, in preorder, at which
+/// something is. The nodes are one tree, and the bounds are those of the method. It fails only for want of memory.
 pub fn tree_fault(
     alloc: Global,
     formats: &[Format],

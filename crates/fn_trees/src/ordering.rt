@@ -11,7 +11,8 @@ use fn_normal::{Encoding, Field, Format, Method};
 use sqlite_items::Items;
 use std::alloc::{AllocError, Global};
 
-/// The methods, each after those that it calls, where there is such an order and each call is of one of them.
+/// The methods by their places, each after those that it calls, where there is such an order and each call is of one of
+/// them. It fails only for want of memory.
 pub fn callees_first(alloc: Global, methods: &[Method]) -> Result<Items<usize>, AllocError>
     requires ordered { spec.HasOrder methods.now }
     requires within { spec.CallsWithin methods.now }
