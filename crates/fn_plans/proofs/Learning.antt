@@ -25,12 +25,12 @@ due_same Read format i d listed e = ap (λ b. is_due Read b d) e
 due_same Write format i d listed e = refl
 
 -- that a field is done, where it is to be known
-done_known : (b h s : Bool) (facts : List Fact) (i : ℕ) → s ≡ has facts (Done i) → has_all facts (where_true b (Done i ∷ [])) ≡ (not b || s)
-done_known true h s facts i e = and_true_right (has facts (Done i)) ∙ sym e where
+done_known : (b s : Bool) (facts : List Fact) (i : ℕ) → s ≡ has facts (Done i) → has_all facts (where_true b (Done i ∷ [])) ≡ (not b || s)
+done_known true s facts i e = and_true_right (has facts (Done i)) ∙ sym e where
   and_true_right : (b : Bool) → (b && true) ≡ b
   and_true_right true = refl
   and_true_right false = refl
-done_known false h s facts i e = refl
+done_known false s facts i e = refl
 
 complete_both : (goals more : List Goal) (facts : List Fact) → is_complete goals facts ≡ true → is_complete more facts ≡ true → is_complete (goals ++ more) facts ≡ true
 complete_both [] more facts h g = g
@@ -52,7 +52,7 @@ module _ (direction : Direction) (format : Format) (known : Knowledge) where
     wanted_is : (facts : List Fact) → Knows known facts → (side : Side) → has_all facts (wanted direction format i d side) ≡ is_learnt direction (shows known) i due side
     wanted_is facts k side =
         ap (λ b. b && has_all facts (where_true (is_told direction side && plans.is_due direction format i d) (Done i ∷ []))) (sym (k (BitsOf side i)))
-        ∙ ap (λ b. shows known (BitsOf side i) && b) (done_known (is_told direction side && plans.is_due direction format i d) true (shows known (Done i)) facts i (k (Done i)))
+        ∙ ap (λ b. shows known (BitsOf side i) && b) (done_known (is_told direction side && plans.is_due direction format i d) (shows known (Done i)) facts i (k (Done i)))
         ∙ ap (λ b. shows known (BitsOf side i) && (not (is_told direction side && b) || shows known (Done i))) (sym due_is)
 
     rest : List Goal

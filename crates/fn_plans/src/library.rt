@@ -3,6 +3,7 @@
 ghost use Rattle.std.specs.Prelude.{◌≡◌, [], ◌∷◌, ◌++◌, IfOk, OnOk};
 ghost use Rattle.std.specs.Option.{option_copied};
 ghost use Rattle.fn_bounds.specs.HasBounds as bounds;
+ghost use Rattle.fn_rules.specs.Facts as facts;
 ghost use Rattle.fn_rules.specs.Rules as spec;
 ghost use Rattle.fn_cert.specs.declared.rule.Fact.TheVariants as fact;
 
