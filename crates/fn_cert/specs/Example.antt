@@ -9,19 +9,19 @@ use Rattle.fn_cert.specs.Text.{certificate_text}
 -- one method of two formats, of which it names the first
 abbrev pub certificate : Entries
 certificate =
-  Some record {
-    name = codes "m";
-    parameters = codes "p" ∷ [];
-    tree = Parameter 0 (negsuc 2) ∷ Bit 12 ∷ Leaf 0 ∷ Nowhere ∷ Leaf 1 ∷ [];
-    formats = record {
-      name = Some (codes "one");
-      fields = codes "a" ∷ codes "b" ∷ [];
-      plans = Some record {
-        read = Take 0 ∷ Call 1 ∷ LibraryUp 0 ∷ LibraryDown 1 ∷ MethodLength 0 Compressed ∷ ConstraintLength 1 Uncompressed 10 ∷ Solve 0 2 ∷ [];
-        write = Choose 0 ∷ Ask 1 ∷ [];
-      };
-    } ∷ record { name = None; fields = []; plans = None } ∷ [];
-  } ∷ None ∷ []
+    Some record {
+      name = codes "m";
+      parameters = codes "p" ∷ [];
+      tree = Parameter 0 (negsuc 2) ∷ Bit 12 ∷ Leaf 0 ∷ Nowhere ∷ Leaf 1 ∷ [];
+      formats = record {
+        name = Some (codes "one");
+        fields = codes "a" ∷ codes "b" ∷ [];
+        plans = Some record {
+          read = Take 0 ∷ Call 1 ∷ LibraryUp 0 ∷ LibraryDown 1 ∷ MethodLength 0 Compressed ∷ ConstraintLength 1 Uncompressed 10 ∷ Solve 0 2 ∷ [];
+          write = Choose 0 ∷ Ask 1 ∷ [];
+        };
+      } ∷ record { name = None; fields = []; plans = None } ∷ [];
+    } ∷ None ∷ []
 
 -- Its text.
 abbrev pub IsPrinted : Type 0

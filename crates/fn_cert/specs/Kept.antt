@@ -2,6 +2,7 @@
 use Rattle.std.specs.Prelude.{◌≡◌, ℕ, zero, suc, ◌^◌, ◌<◌, ◌≤◌, Bool, true, false, List, [], ◌∷◌, length, Option, Some, slice_get, ℤ, pos, negsuc}
 use Rattle.std.specs.List.{AllByRecursion}
 use Rattle.fn_cert.specs.declared.certificate.Step.{Step}
+use Rattle.fn_cert.specs.declared.certificate.Step.TheVariants.{ConstraintLength, Solve}
 use Rattle.fn_cert.specs.declared.certificate.Node.{Node}
 use Rattle.fn_cert.specs.declared.certificate.Node.TheVariants.{Bit, Parameter, Leaf, Nowhere}
 use Rattle.fn_cert.specs.declared.certificate.Plans.{Plans}
@@ -74,10 +75,20 @@ pub record IsTreeKept (tree : List Node) : Type 0 where
   pub shallow : AllByRecursion (λ d. d ≤ depth_limit) (depths (1 ∷ []) tree)
   pub each : AllByRecursion IsNodeKept tree
 
+-- the number of its constraint has 64 bits
+abbrev pub IsStepKept : Step → Type 0
+IsStepKept (ConstraintLength i side n) = n < 2 ^ 64
+IsStepKept (Solve i n) = n < 2 ^ 64
+IsStepKept _ = Unit {0}
+
+pub record IsPlanKept (steps : List Step) : Type 0 where
+  pub few : length steps ≤ step_limit
+  pub each : AllByRecursion IsStepKept steps
+
 -- neither plan has too many steps
 pub record ArePlansKept (plans : Plans) : Type 0 where
-  pub read : length plans.read ≤ step_limit
-  pub write : length plans.write ≤ step_limit
+  pub read : IsPlanKept plans.read
+  pub write : IsPlanKept plans.write
 
 abbrev pub AreFormatsKept : List FormatPlans → Type 0
 AreFormatsKept formats = (n : ℕ) (format : FormatPlans) (plans : Plans) → slice_get formats n ≡ Some format → format.plans ≡ Some plans → ArePlansKept plans

@@ -2,12 +2,18 @@
 #![tactic(auto)]
 
 pub use certificate::{
-    Certificate, DEPTH_LIMIT, Direction, FormatPlans, MethodPlans, NODE_LIMIT, Node, OFFSET_LIMIT, Plans, STEP_LIMIT, Step,
+    Certificate, DEPTH_LIMIT, Direction, FormatPlans, MethodPlans, NODE_LIMIT, Node, OFFSET_LIMIT,
+    Plans, STEP_LIMIT, Step,
 };
 pub use printing::print;
+pub use reading::{CertificateError, TEXT_LIMIT, read};
 pub use rule::{Fact, Rule};
 
 pub mod certificate;
+mod draft;
+mod faults;
 pub mod laws;
 pub mod printing;
+pub mod reading;
 pub mod rule;
+mod words;

@@ -1,0 +1,19 @@
+use Rattle.std.proofs.Common.{◌∙◌, sym, ap, subst, map}
+use Rattle.fn_cert.specs.Drafts.{next, when}
+use Rattle.fn_cert.specs.Faults.{Stops}
+use Rattle.fn_cert.proofs.Meaning.{some_is}
+use Rattle.fn_cert.proofs.Outcome.{drafted_more, stops_at}
+use Rattle.fn_cert.proofs.reading.drafted.Goals as goal
+
+pub returns-then-not-branch-clause-fault : goal.returns-then-not-branch-clause-fault
+returns-then-not-branch-clause-fault c = λ n e.
+    let shown = ap (map (λ w. w.now)) c.as_slice.ensures.value ∙ c.in_ok-words.ensures in
+    let stopped = ap (next c.args.methods.now c.loop-line.draft) (sym shown) ∙ c.in_ok-next.ensures ∙ ap (λ b. when b c.next.new.self) c.if-not-branch.true in
+    subst (Stops c.args.methods.now (map (λ l. (l.number, l.text.now)) c.args.lines.now)) (some_is _ n (sym c.error_at.ensures ∙ e))
+    (stops_at (λ l. (l.number, l.text.now)) c.args.methods.now c.args.lines.now c.loop-line.line-index _ c.loop-line.draft c.loop-line-test.true c.loop-line.invariant stopped)
+
+pub loop-line-preserved : goal.loop-line-preserved
+loop-line-preserved c =
+    let shown = ap (map (λ w. w.now)) c.as_slice.ensures.value ∙ c.in_ok-words.ensures in
+    let taken = ap (next c.args.methods.now c.loop-line.draft) (sym shown) ∙ c.in_ok-next.ensures ∙ ap (λ b. when b c.next.new.self) c.if-not-branch.false in
+    drafted_more (λ l. l.text.now) c.args.methods.now c.args.lines.now c.loop-line.line-index _ c.loop-line.draft c.next.new.self c.loop-line-test.true c.loop-line.invariant taken
