@@ -6,7 +6,7 @@ pub use reach::reached;
 pub use weight::{WEIGHT_CAP, weights};
 
 pub mod depth;
-mod marks;
+pub mod marks;
 pub mod ordering;
 pub mod reach;
 mod sorting;

@@ -9,8 +9,8 @@ pub fn is_path(text: &str) -> bool
     text.split('.').all(|name| is_name(name.as_bytes()))
 }
 
-/// Whether octets are a name.
-fn is_name(octets: &[u8]) -> bool
+/// Whether octets are a name: a letter, then letters, digits and underscores, all of ASCII.
+pub fn is_name(octets: &[u8]) -> bool
     ensures { result ≡ is_name octets.now }
 {
     let [first, rest @ ..] = octets else {

@@ -156,12 +156,12 @@ fn walk(
 fn blank(alloc: Global, count: usize) -> Result<Items<FilledField>, AllocError>
     ensures { IfOk result (λ filled. length filled ≡ count) }
 {
-    let nameless = Name::new(alloc, "")?;
+    let blank = Name::of_octets(alloc, b"blank".as_slice())?;
     let mut filled = Items::new(alloc);
     for _i in 0..count {
         filled.push(FilledField {
             declared: Declared {
-                name: nameless.share()?,
+                name: blank.share()?,
                 part: Part::Local,
                 asked: false,
             },

@@ -12,7 +12,7 @@ use Rattle.fn_sections.specs.Causes.{earliest}
 use Rattle.fn_terms.specs.Names.{Names, names}
 use Rattle.fn_formats.specs.declared.drafts.Setting.{Setting}
 use Rattle.fn_formats.specs.declared.drafts.Draft.{Draft}
-use Rattle.fn_formats.specs.Encodings.{FieldMeans, field_fault}
+use Rattle.fn_formats.specs.Encodings.{FieldMeans, format_fault}
 use Rattle.fn_formats.specs.Constraints.{AreNumbered, statements, statement_fault}
 
 -- the tables of a setting are those of the encoded fields of UNCOMPRESSED and CONTROL, and of DEFAULT
@@ -42,7 +42,7 @@ abbrev pub chosen : Setting → ℕ → Section → List (Option Mention)
 chosen x number section = chosen_by x (own x number section) (fields x number section)
 
 abbrev pub encodings_fault : Setting → ℕ → Section → Option ProfileFault
-encodings_fault x number section = earliest (field_fault (scope x number section) x.methods.now x.sections.now) (chosen x number section)
+encodings_fault x number section = format_fault (scope x number section) x.methods.now x.sections.now (chosen x number section) section.items
 
 abbrev pub constraints_fault : Setting → ℕ → Section → Option ProfileFault
 constraints_fault x number section =

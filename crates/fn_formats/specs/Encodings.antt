@@ -2,10 +2,13 @@
 use Rattle.std.specs.Prelude.{List, Option, Some, None}
 use Rattle.std.specs.Option.{option_and_then}
 use Rattle.fn_tree.specs.declared.tree.Encoding.{Encoding as TreeEncoding}
+use Rattle.fn_tree.specs.declared.tree.Item.{Item}
+use Rattle.fn_tree.specs.declared.tree.Item.TheVariants as items
 use Rattle.fn_tree.specs.declared.tree.Section.{Section}
 use Rattle.fn_normal.specs.declared.fault.ProfileFault.{ProfileFault}
 use Rattle.fn_normal.specs.declared.profile.Encoding.{Encoding}
 use Rattle.fn_normal.specs.declared.profile.Encoding.TheVariants as encoding
+use Rattle.fn_normal.specs.Judging.{earlier, earliest}
 use Rattle.fn_sections.specs.declared.mention.Mention.{Mention}
 use Rattle.fn_sections.specs.Fields.{encoding_at}
 use Rattle.fn_terms.specs.Names.{Names}
@@ -30,3 +33,13 @@ given_fault s methods (Some e) = fault_of s methods e
 
 abbrev pub field_fault : Names → Methods → List Section → Option Mention → Option ProfileFault
 field_fault s methods sections choice = given_fault s methods (given sections choice)
+
+-- the fault in the encoding of a statement, whether the field is encoded by it or by another one
+abbrev pub own_fault : Names → Methods → Item → Option ProfileFault
+own_fault s methods (items.Bound b) = fault_of s methods b.encoding
+own_fault s methods (items.Field name bracket) = None
+own_fault s methods (items.Enforce at condition) = None
+
+-- the earliest fault of encodings: those of the fields, and all that the section gives, also where another section encodes the field
+unfoldable pub format_fault : Names → Methods → List Section → List (Option Mention) → List Item → Option ProfileFault
+format_fault s methods sections chosen items = earlier (earliest (field_fault s methods sections) chosen) (earliest (own_fault s methods) items)

@@ -3,3 +3,4 @@ pub mod Drafts
 pub mod Encodings
 pub mod Fields
 pub mod Formats
+pub mod Worded

@@ -5,7 +5,7 @@ ghost use Rattle.fn_sections.specs.Tables.{IsTable};
 ghost use Rattle.fn_formats.specs.Drafts as spec;
 
 use crate::constraints::format_constraints;
-use crate::encodings::field_encodings;
+use crate::encodings::format_encodings;
 use fn_bits::Bits;
 use fn_normal::{Constraint, Encoding, ProfileFault, Words, earlier};
 use fn_sections::{Mention, Table, encoded, encodings, in_order, listing, of_section};
@@ -52,7 +52,8 @@ pub(crate) fn draft_format<'t>(
     number: usize,
     section: &Section,
 ) -> Result<Draft<'t>, AllocError>
-    ensures { IsTable setting.now.text.now (spec.base setting.now) setting.now.base.now → IsTable setting.now.text.now (spec.default setting.now) setting.now.default.now → IfOk result (spec.IsDraft setting.now number section.now) }
+    ensures fields { IfOk result (λ d. d.fields.firsts ≡ spec.fields setting.now number section.now) }
+    ensures draft { IsTable setting.now.text.now (spec.base setting.now) setting.now.base.now → IsTable setting.now.text.now (spec.default setting.now) setting.now.default.now → IfOk result (spec.IsDraft setting.now number section.now) }
 {
     let text = setting.text;
     let own = of_section(alloc, text, number, section)?;
@@ -66,12 +67,13 @@ pub(crate) fn draft_format<'t>(
         setting.parameters,
         &fields.words,
     );
-    let encodings = field_encodings(
+    let encodings = format_encodings(
         alloc,
         &scope,
         setting.methods,
         setting.sections,
         chosen.as_slice(),
+        section.items.as_slice(),
     )?;
     let constraints = format_constraints(
         alloc,

@@ -4,6 +4,7 @@ ghost use Rattle.std.specs.Prelude.{◌≡◌, None, IfOk, IfErr};
 ghost use Rattle.std.specs.List.{AllZip};
 ghost use Rattle.fn_normal.specs.Faults as faults;
 ghost use Rattle.fn_terms.specs.Judged.{Refuses};
+ghost use Rattle.fn_statements.specs.Encodings.{fault_of as first_fault};
 ghost use Rattle.fn_sections.specs.Causes.{earliest};
 ghost use Rattle.fn_formats.specs.Encodings as spec;
 
@@ -11,19 +12,41 @@ use fn_normal::{Encoding, ProfileFault, ResolveError, earlier, fault_of};
 use fn_sections::{Mention, encoding_at};
 use fn_statements::{Methods, encoding};
 use fn_terms::Scope;
-use fn_tree::Section;
+use fn_tree::{Bound, Item, Section};
 use sqlite_items::Items;
 use std::alloc::{AllocError, Global};
 
-/// The encodings of a format's fields, in field order, and the earliest fault in them. With a fault some are missing.
+/// The encodings of a format's fields, in field order, and the earliest fault of encodings. With a fault some are missing.
 #[derive(Drop)]
 pub struct Encodings {
     pub found: Items<Encoding>,
     pub fault: Option<ProfileFault>,
 }
 
+/// The encodings of the fields whose encoding statements these are, and the earliest fault in them and in all that the section's statements
+/// give, whether a field is encoded by them or not.
+#[tactic(auto, unfolding(crate::specs::Encodings::format_fault))]
+pub(crate) fn format_encodings(
+    alloc: Global,
+    scope: &Scope<'_, '_>,
+    methods: &Methods<'_>,
+    sections: &[Section],
+    chosen: &[Option<Mention>],
+    items: &[Item],
+) -> Result<Encodings, AllocError>
+    ensures fault { IfOk result (λ e. e.fault ≡ spec.format_fault scope.now methods.now sections.now chosen.now items.now) }
+    ensures found { IfOk result (λ e. e.fault ≡ None → AllZip (spec.FieldMeans scope.now methods.now sections.now) chosen.now e.found) }
+{
+    let encodings = field_encodings(alloc, scope, methods, sections, chosen)?;
+    let own_fault = own_fault(alloc, scope, methods, items)?;
+    Ok(Encodings {
+        found: encodings.found,
+        fault: earlier(encodings.fault, own_fault),
+    })
+}
+
 /// The encodings of the fields whose encoding statements these are.
-pub(crate) fn field_encodings(
+fn field_encodings(
     alloc: Global,
     scope: &Scope<'_, '_>,
     methods: &Methods<'_>,
@@ -61,5 +84,38 @@ fn field_encoding(
     match encoding_at(sections, *mention) {
         Some(given) => encoding(alloc, scope, methods, given),
         None => Ok(Encoding::Bare),
+    }
+}
+
+/// The earliest fault in the encodings that statements give.
+fn own_fault(
+    alloc: Global,
+    scope: &Scope<'_, '_>,
+    methods: &Methods<'_>,
+    items: &[Item],
+) -> Result<Option<ProfileFault>, AllocError>
+    ensures { IfOk result (λ fault. fault ≡ earliest (spec.own_fault scope.now methods.now) items.now) }
+{
+    let mut fault = None;
+    for item in items {
+        if let Item::Bound(bound) = item {
+            fault = earlier(fault, encoding_fault(alloc, scope, methods, bound)?);
+        }
+    }
+    Ok(fault)
+}
+
+/// The first fault in the encoding of a statement.
+pub fn encoding_fault(
+    alloc: Global,
+    scope: &Scope<'_, '_>,
+    methods: &Methods<'_>,
+    bound: &Bound,
+) -> Result<Option<ProfileFault>, AllocError>
+    ensures { IfOk result (λ fault. fault ≡ first_fault scope.now methods.now bound.now.encoding) }
+{
+    match encoding(alloc, scope, methods, &bound.encoding) {
+        Ok(_) => Ok(None),
+        Err(error) => Ok(Some(fault_of(error)?)),
     }
 }

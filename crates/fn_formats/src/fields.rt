@@ -2,6 +2,7 @@
 
 ghost use Rattle.std.specs.Prelude.{◌≡◌, IfOk, get_or, drop, reverse, slice_get};
 ghost use Rattle.fn_formats.specs.Fields as spec;
+ghost use Rattle.fn_formats.specs.Worded.{IsNamed, AreMentionsWorded};
 
 use crate::drafts::Setting;
 use fn_bits::Bits;
@@ -10,7 +11,6 @@ use fn_sections::Mention;
 use fn_tree::{Section, SectionKind};
 use sqlite_items::Items;
 use std::alloc::{AllocError, Global};
-use std::str::from_utf8;
 
 /// The fields of a format with their encodings, in field order.
 pub(crate) fn joined_fields(
@@ -19,6 +19,7 @@ pub(crate) fn joined_fields(
     mentions: &[Mention],
     encodings: Items<Encoding>,
 ) -> Result<Items<Field>, AllocError>
+    requires { AreMentionsWorded setting.now.text.now mentions.now }
     ensures { IfOk result (λ all. all ≡ spec.joined setting.now mentions.now encodings) }
 {
     let mut left = reversed(alloc, encodings)?;
@@ -47,13 +48,14 @@ fn field(
     mention: Mention,
     encoding: Encoding,
 ) -> Result<Field, AllocError>
+    requires { IsNamed setting.now.text.now mention.name }
     ensures { IfOk result (λ f. f ≡ spec.field setting.now mention encoding) }
 {
     let name = word(setting.text, mention.name);
     let initial = initial_of(alloc, setting.initial_names, setting.initial_values, name)?;
     Ok(Field {
         declared: Declared {
-            name: name_of(alloc, name)?,
+            name: Name::of_octets(alloc, name)?,
             part: part(setting.sections, mention),
             asked: is_one_of(setting.asked, name),
         },
@@ -111,15 +113,5 @@ fn part_of(kind: SectionKind) -> Part
         SectionKind::Uncompressed => Part::Header,
         SectionKind::Control => Part::Control,
         _ => Part::Local,
-    }
-}
-
-/// The name of these octets. A name of the notation is ASCII; octets that are no UTF-8 are answered as want of memory.
-pub fn name_of(alloc: Global, octets: &[u8]) -> Result<Name, AllocError>
-    ensures { IfOk result (λ n. n ≡ octets.now) }
-{
-    match from_utf8(octets) {
-        Ok(text) => Name::new(alloc, text),
-        Err(_) => Err(AllocError),
     }
 }

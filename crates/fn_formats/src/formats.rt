@@ -1,14 +1,15 @@
 //! The format that a section gives.
 
-ghost use Rattle.std.specs.Prelude.{◌≡◌, IfOk};
+ghost use Rattle.std.specs.Prelude.{◌≡◌, IfOk, IfSome};
 ghost use Rattle.std.specs.Option.{option_map};
 ghost use Rattle.fn_normal.specs.Words.{word as words};
 ghost use Rattle.fn_sections.specs.Tables.{IsTable};
 ghost use Rattle.fn_formats.specs.Drafts as drafts;
 ghost use Rattle.fn_formats.specs.Formats as spec;
+ghost use Rattle.fn_formats.specs.Worded as worded;
 
 use crate::drafts::{Setting, draft_format};
-use crate::fields::{joined_fields, name_of};
+use crate::fields::joined_fields;
 use fn_normal::{Format, Name, ProfileFault, word};
 use fn_source::Span;
 use fn_tree::{Section, SectionKind};
@@ -28,6 +29,8 @@ pub fn section_format(
     number: usize,
     section: &Section,
 ) -> Result<Resolved, AllocError>
+    requires sections { worded.AreSectionsWorded setting.now.text.now setting.now.sections.now }
+    requires section { worded.SectionIsWorded setting.now.text.now section.now }
     ensures { IsTable setting.now.text.now (drafts.base setting.now) setting.now.base.now → IsTable setting.now.text.now (drafts.default setting.now) setting.now.default.now → IfOk result (spec.IsResolved setting.now number section.now) }
 {
     let draft = draft_format(alloc, setting, number, section)?;
@@ -46,6 +49,7 @@ pub fn section_format(
 }
 
 fn format_name(alloc: Global, text: &[u8], kind: SectionKind) -> Result<Option<Name>, AllocError>
+    requires { worded.KindIsWorded text.now kind }
     ensures { IfOk result (λ n. n ≡ spec.name text.now kind) }
 {
     match kind {
@@ -59,11 +63,12 @@ fn optional_name(
     text: &[u8],
     given: Option<Span>,
 ) -> Result<Option<Name>, AllocError>
+    requires { IfSome given (worded.IsNamed text.now) }
     ensures { IfOk result (λ n. n ≡ option_map (words text.now) given) }
 {
     match given {
         Some(span) => {
-            let name = name_of(alloc, word(text, span))?;
+            let name = Name::of_octets(alloc, word(text, span))?;
             Ok(Some(name))
         }
         None => Ok(None),

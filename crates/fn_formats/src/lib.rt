@@ -3,8 +3,7 @@
 
 pub use constraints::Constraints;
 pub use drafts::{Draft, Setting};
-pub use encodings::Encodings;
-pub use fields::name_of;
+pub use encodings::{Encodings, encoding_fault};
 pub use formats::{Resolved, section_format};
 
 pub mod constraints;

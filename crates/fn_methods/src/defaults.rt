@@ -6,13 +6,13 @@ ghost use Rattle.fn_sections.specs.Tables.{IsTable};
 ghost use Rattle.fn_methods.specs.Defaults as spec;
 
 use fn_expr::Side;
-use fn_formats::Setting;
+use fn_formats::{Setting, encoding_fault};
 use fn_normal::{ProfileFault, earlier, fault_of};
 use fn_sections::mention::is_in;
 use fn_sections::{Group, Table, mentions};
-use fn_statements::{Methods, encoding, section_constraints};
+use fn_statements::{Methods, section_constraints};
 use fn_terms::Scope;
-use fn_tree::{Bound, Item, Section};
+use fn_tree::{Item, Section};
 use std::alloc::{AllocError, Global};
 use std::slice::from_ref;
 
@@ -99,20 +99,6 @@ fn item_fault(
         }
         Item::Field(_, _) => Ok(None),
         Item::Enforce(_, _) => Ok(None),
-    }
-}
-
-fn encoding_fault(
-    alloc: Global,
-    scope: &Scope<'_, '_>,
-    methods: &Methods<'_>,
-    bound: &Bound,
-) -> Result<Option<ProfileFault>, AllocError>
-    ensures { IfOk result (λ fault. fault ≡ spec.fault_of scope.now methods.now bound.now.encoding) }
-{
-    match encoding(alloc, scope, methods, &bound.encoding) {
-        Ok(_) => Ok(None),
-        Err(error) => Ok(Some(fault_of(error)?)),
     }
 }
 

@@ -5,6 +5,7 @@ ghost use Rattle.fn_tree.specs.declared.tree.Section.{Section as GivenSection};
 ghost use Rattle.fn_normal.specs.Judging.{Judged};
 ghost use Rattle.fn_sections.specs.Tables.{IsTable};
 ghost use Rattle.fn_formats.specs.Drafts as drafts;
+ghost use Rattle.fn_formats.specs.Worded.{AreSectionsWorded, SectionIsWorded};
 ghost use Rattle.fn_methods.specs.Listing as spec;
 
 use fn_formats::{Setting, section_format};
@@ -27,6 +28,7 @@ pub(crate) fn listed_formats(
     alloc: Global,
     setting: &Setting<'_, '_>,
 ) -> Result<Formats, AllocError>
+    requires { AreSectionsWorded setting.now.text.now setting.now.sections.now }
     ensures { IsTable setting.now.text.now (drafts.base setting.now) setting.now.base.now → IsTable setting.now.text.now (drafts.default setting.now) setting.now.default.now → IfOk result (λ all. Judged (spec.AreFormats setting.now 0 setting.now.sections.now all.found) (spec.FormatCause setting.now) all.fault) }
 {
     let mut all = Formats {
@@ -46,6 +48,8 @@ fn add_section(
     section: &Section,
     all: &mut Formats,
 ) -> Result<(), AllocError>
+    requires sections { AreSectionsWorded setting.now.text.now setting.now.sections.now }
+    requires section { SectionIsWorded setting.now.text.now section.now }
     ensures { IsTable setting.now.text.now (drafts.base setting.now) setting.now.base.now → IsTable setting.now.text.now (drafts.default setting.now) setting.now.default.now → slice_get setting.now.sections.now place ≡ Some section.now → OnOk result ((rest : List GivenSection) → spec.Leads setting.now place (section.now ∷ rest) all.old → spec.Leads setting.now (place + 1) rest all.new) }
 {
     if is_in(Group::Formats, section.kind) {

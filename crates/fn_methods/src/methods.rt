@@ -5,14 +5,15 @@ ghost use Rattle.fn_normal.specs.Judging.{Judged};
 ghost use Rattle.fn_sections.specs.declared.mention.Mention.{Mention as ListedMention};
 ghost use Rattle.fn_sections.specs.Tables.{IsTable};
 ghost use Rattle.fn_sections.specs.Mentions.{encoded as encoded_mentions, mentions_in as mentions_of_group};
+ghost use Rattle.fn_formats.specs.Worded.{AreSectionsWorded, MethodIsWorded};
 ghost use Rattle.fn_methods.specs.Methods as spec;
 
 use crate::defaults::default_fault;
 use crate::listing::listed_formats;
 use crate::parameters::{parameter_names, parameter_table};
-use fn_formats::{Setting, name_of};
+use fn_formats::Setting;
 use fn_given::{Givens, given};
-use fn_normal::{Format, Method, ProfileFault, Words, earlier, word};
+use fn_normal::{Format, Method, Name, ProfileFault, Words, earlier, word};
 use fn_sections::{Group, Table, encoded, judge, mentions};
 use fn_statements::Methods;
 use fn_terms::Scope;
@@ -45,11 +46,12 @@ pub fn resolved_method(
     method: &tree::Method,
     is_top: bool,
 ) -> Result<MethodDraft, AllocError>
+    requires { MethodIsWorded file.now.text.now method.now }
     ensures { (names : List ListedMention) → IsTable file.now.text.now names file.now.listed.now → IfOk result (λ d. Judged (spec.IsMethod file.now names method.now is_top d.method) (spec.MethodCause file.now names method.now) d.fault) }
 {
     let named = judge(alloc, file.text, file.listed, method)?;
     let body = method_body(alloc, file, method, is_top)?;
-    let name = name_of(alloc, word(file.text, method.name))?;
+    let name = Name::of_octets(alloc, word(file.text, method.name))?;
     let parameters = parameter_names(alloc, file.text, method.parameters.as_slice())?;
     Ok(MethodDraft {
         method: Method {
@@ -75,6 +77,7 @@ fn method_body(
     method: &tree::Method,
     is_top: bool,
 ) -> Result<MethodBody, AllocError>
+    requires { AreSectionsWorded file.now.text.now method.now.sections }
     ensures { IfOk result (λ b. Judged (spec.IsBody file.now method.now is_top b.formats) (spec.BodyCause file.now method.now) b.fault) }
 {
     let parameters = parameter_table(alloc, file.text, method.parameters.as_slice())?;
@@ -96,7 +99,8 @@ fn body_with<'t>(
     parameters: &Words<'t>,
     givens: &Givens<'t>,
 ) -> Result<MethodBody, AllocError>
-    requires { parameters.now ≡ spec.distinct_words file.now.text.now method.now.parameters }
+    requires parameters { parameters.now ≡ spec.distinct_words file.now.text.now method.now.parameters }
+    requires sections { AreSectionsWorded file.now.text.now method.now.sections }
     ensures { IfOk result (λ b. spec.HasFormats file.now method.now givens.now b.formats b.fault) }
 {
     let sections = method.sections.as_slice();

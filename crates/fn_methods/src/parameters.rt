@@ -1,10 +1,11 @@
 //! The parameters of a method.
 
 ghost use Rattle.std.specs.Prelude.{◌≡◌, map, IfOk};
+ghost use Rattle.std.specs.List.{AllByRecursion};
 ghost use Rattle.fn_normal.specs.Words.{word as words};
+ghost use Rattle.fn_formats.specs.Worded.{IsNamed};
 ghost use Rattle.fn_methods.specs.Parameters as spec;
 
-use fn_formats::name_of;
 use fn_normal::{Name, Words, word};
 use fn_source::Span;
 use sqlite_items::Items;
@@ -31,11 +32,12 @@ pub(crate) fn parameter_names(
     text: &[u8],
     parameters: &[Span],
 ) -> Result<Items<Name>, AllocError>
+    requires { AllByRecursion (IsNamed text.now) parameters.now }
     ensures { IfOk result (λ names. names ≡ map (words text.now) parameters.now) }
 {
     let mut names = Items::new(alloc);
     for parameter in parameters {
-        names.push(name_of(alloc, word(text, *parameter))?)?;
+        names.push(Name::of_octets(alloc, word(text, *parameter))?)?;
     }
     Ok(names)
 }

@@ -1,4 +1,4 @@
-pub mod Chains
+pub mod Ends
 pub mod Distinct
 pub mod Keeping
 pub mod Returns
@@ -26,3 +26,4 @@ pub mod KeptLimits
 pub mod NamedMethods
 pub mod KeptNames
 pub mod Refusing
+pub mod Tokens

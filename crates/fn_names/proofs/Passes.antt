@@ -21,7 +21,7 @@ use Rattle.fn_profile.specs.Uses.{Uses, AreReached}
 use Rattle.fn_names.specs.Twice.{AreDistinct}
 use Rattle.fn_profile.specs.Resolved.{Resolved, IsSound}
 use Rattle.fn_names.specs.Resolved.{top_of, OrderOfText, IsProfile, IsNormalForm, ProfileCause, no_bounds}
-use Rattle.fn_profile.specs.Named.{AreNamed}
+use Rattle.fn_profile.specs.Named.{AreNamed, AreWords}
 use Rattle.fn_profile.specs.Rooted.{IsPlain, HaveFormats}
 use Rattle.fn_profile.specs.WellFormed.{AreWellFormed}
 use Rattle.fn_names.proofs.SoundKept.{kept_well_formed}
@@ -62,14 +62,15 @@ forms_ordered text parts top all order form ordered =
 
 -- the methods that the top reaches, with bounds
 pub sound : (all kept : List Method) (table : List MethodSizes) (top : ℕ) (order : List ℕ) → IsOrder (Uses all) (length all) order → top < length all → AreReached all top kept
-    → sizes.AreSizes kept table → AreWellFormed all → AreNamed all → IsPlain all top → HaveFormats all → IsWithinLimits all top → IsSound (record { methods = kept; sizes = table; top = top })
-sound all kept table top order ordered within reached sized well_formed named plain formats limits = record {
+    → sizes.AreSizes kept table → AreWellFormed all → AreNamed all → AreWords kept → IsPlain all top → HaveFormats all → IsWithinLimits all top → IsSound (record { methods = kept; sizes = table; top = top })
+sound all kept table top order ordered within reached sized well_formed named words plain formats limits = record {
   order = order;
   ordered = order_of_kept (length all) order all kept top refl ordered reached;
   sized = sized;
   within = subst (λ n. top < n) (sym reached.each) within;
   well_formed = kept_well_formed all kept top well_formed reached;
   named = kept_named all kept top named reached;
+  words = words;
   rooted = kept_rooted all kept top plain formats reached;
   limits = kept_within_limits all kept top order ordered within reached limits;
 }

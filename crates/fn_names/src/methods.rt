@@ -5,6 +5,7 @@ ghost use Rattle.fn_tree.specs.declared.tree.Method.{Method as TreeMethod};
 ghost use Rattle.fn_tree.specs.declared.tree.Part.{Part as GivenPart};
 ghost use Rattle.fn_normal.specs.Judging.{Blames, Judged};
 ghost use Rattle.fn_sections.specs.Tables.{IsTable};
+ghost use Rattle.fn_formats.specs.Worded.{AreWorded, MethodIsWorded};
 ghost use Rattle.fn_names.specs.Methods as spec;
 ghost use Rattle.fn_names.specs.Parts.{methods_of};
 
@@ -33,7 +34,8 @@ pub(crate) fn resolved_methods(
     head: &Head<'_>,
     top: Option<usize>,
 ) -> Result<Items<Method>, ResolveError>
-    requires { spec.IsHead text.now parts.now head.now }
+    requires head { spec.IsHead text.now parts.now head.now }
+    requires words { AreWorded text.now parts.now }
     ensures found { IfOk result (spec.HaveForm text.now parts.now top) }
     ensures refused { IfErr result (Blames (spec.FormCause text.now parts.now)) }
 {
@@ -63,7 +65,8 @@ fn all_drafts(
     parts: &[Part],
     top: Option<usize>,
 ) -> Result<Drafts, AllocError>
-    requires { IsTable file.now.text.now (spec.constant_mentions parts.now) file.now.listed.now }
+    requires table { IsTable file.now.text.now (spec.constant_mentions parts.now) file.now.listed.now }
+    requires words { AreWorded file.now.text.now parts.now }
     ensures { IfOk result (λ d. Judged (spec.AreMethods file.now (spec.constant_mentions parts.now) top 0 (methods_of parts.now) d.found) (spec.InMethod file.now parts.now) d.fault) }
 {
     let mut drafts = Drafts {
@@ -109,6 +112,7 @@ fn add_method(
     is_top: bool,
     drafts: &mut Drafts,
 ) -> Result<(), AllocError>
+    requires { MethodIsWorded file.now.text.now method.now }
     ensures { (parts : List GivenPart) (top : Option ℕ) (k : ℕ) → IsTable file.now.text.now (spec.constant_mentions parts) file.now.listed.now → is_top ≡ spec.is_at top k → OnOk result ((rest : List TreeMethod) → spec.Leads file.now parts top k (method.now ∷ rest) drafts.old → spec.Leads file.now parts top (k + 1) rest drafts.new) }
 {
     let draft = resolved_method(alloc, file, method, is_top)?;

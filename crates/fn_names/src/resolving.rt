@@ -4,6 +4,7 @@ ghost use Rattle.std.specs.Prelude.{◌≡◌, ◌<◌, length, IfOk, IfErr};
 ghost use Rattle.fn_calls.specs.Order.{IsOrder};
 ghost use Rattle.fn_normal.specs.Judging.{Blames};
 ghost use Rattle.fn_names.specs.Parts.{methods_of};
+ghost use Rattle.fn_formats.specs.Worded.{AreWorded};
 ghost use Rattle.fn_names.specs.Resolved as spec;
 ghost use Rattle.fn_profile.specs.Named.{AreNamed};
 ghost use Rattle.fn_profile.specs.Rooted.{IsPlain, HaveFormats};
@@ -19,7 +20,7 @@ use crate::top::{no_top, top};
 use crate::uses::used_graph;
 use fn_bounds::sizes;
 use fn_normal::{Method, ResolveError};
-use fn_profile::Profile;
+use fn_profile::{Profile, are_words};
 use fn_tree::Part;
 use sqlite_items::Items;
 use std::alloc::Global;
@@ -27,13 +28,14 @@ use std::alloc::Global;
 /// The normal form of a file with the top of this name, or its fault.
 ///
 /// The passes: names that are defined twice; the values of constants; the methods, where the earliest fault is answered; the top; calls that lead back; sizes; the bounds of the methods that the top reaches.
-/// The first pass with a fault answers.
+/// The first pass with a fault answers. The names of the tree are names of the text, as those of a tree that `parse` reads are.
 pub fn resolve(
     alloc: Global,
     text: &[u8],
     parts: &[Part],
     name: &[u8],
 ) -> Result<Profile, ResolveError>
+    requires { AreWorded text.now parts.now }
     ensures found { IfOk result (spec.IsNormalForm text.now parts.now name.now) }
     ensures refused { IfErr result (Blames (spec.Cause text.now parts.now name.now)) }
 {
@@ -71,6 +73,7 @@ fn profile_of(
         return Err(ResolveError::Fault(fault));
     }
     let methods = reached_methods(alloc, methods, graph, top)?;
+    are_words(methods.as_slice());
     match sizes(alloc, methods.as_slice(), order) {
         Ok(sizes) => Ok(Profile::of(methods, sizes, top)),
         Err(error) => Err(error),

@@ -1,3 +1,4 @@
 pub mod Judgements
 pub mod Loops
 pub mod Tables
+pub mod Spelled

@@ -5,7 +5,7 @@ use Rattle.fn_normal.specs.declared.profile.MethodSizes.{MethodSizes}
 use Rattle.fn_bounds.specs.Methods as bounds
 use Rattle.fn_bounds.specs.Outcome as sizes
 use Rattle.fn_profile.specs.Limits.{IsWithinLimits}
-use Rattle.fn_profile.specs.Named.{AreNamed}
+use Rattle.fn_profile.specs.Named.{AreNamed, AreWords}
 use Rattle.fn_profile.specs.Rooted.{IsRooted}
 use Rattle.fn_profile.specs.WellFormed.{AreWellFormed}
 
@@ -25,6 +25,8 @@ pub record IsSound (p : Resolved) : Type 0 where
   pub well_formed : AreWellFormed p.methods
   -- each name stands once where it is looked up
   pub named : AreNamed p.methods
+  -- and each is a letter, then letters, digits and underscores
+  pub words : AreWords p.methods
   -- the top has no parameters, and the methods that it reaches are those with formats
   pub rooted : IsRooted p.methods p.top
   -- no call chain, format or message is too large, by the methods as they are kept

@@ -2,5 +2,7 @@
 #![tactic(auto)]
 
 pub use profile::Profile;
+pub use words::are_words;
 
 pub mod profile;
+pub mod words;

@@ -186,7 +186,7 @@ fn read_field(alloc: Global, name: &str, rest: &str) -> Result<FilledField> {
     let part = read_part(part)?;
     let uncompressed = bits(alloc, uncompressed)?;
     let compressed = bits(alloc, compressed)?;
-    let name = Name::new(alloc, name)?;
+    let name = Name::new(alloc, name)?.context("no name")?;
     let asked = asked == "asked";
     Ok(FilledField {
         declared: Declared { name, part, asked },

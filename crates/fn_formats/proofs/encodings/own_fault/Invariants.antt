@@ -1,0 +1,7 @@
+use Rattle.std.proofs.Common.{◌≡◌, fold, drop}
+use Rattle.fn_normal.specs.Judging.{earlier, earliest}
+use Rattle.fn_formats.specs.Encodings.{own_fault}
+use Rattle.fn_formats.proofs.encodings.own_fault.Given as goal
+
+abbrev pub invariant-loop-item : goal.invariant-loop-item
+invariant-loop-item l = fold (λ found item. earlier found (own_fault l.scope l.methods item)) l.fault (drop l.item-index l.items) ≡ earliest (own_fault l.scope l.methods) l.items
