@@ -21,6 +21,7 @@ module _ (parts : Parts) (before : List Part) (name : List ℕ) (text : Bor (Lis
   held_words e none = record {
     words = text_put (codes "words") before (named name text.now) e (no_text parts.words _ none held.words);
     profile = kept (codes "words") (codes "profile") _ e refl held.profile;
+    certificate = kept (codes "words") (codes "certificate") _ e refl held.certificate;
     items = kept (codes "words") (codes "items") _ e refl held.items;
     packets = kept (codes "words") (codes "packets") _ e refl held.packets;
   }
@@ -29,14 +30,25 @@ module _ (parts : Parts) (before : List Part) (name : List ℕ) (text : Bor (Lis
   held_profile e none = record {
     words = kept (codes "profile") (codes "words") _ e refl held.words;
     profile = text_put (codes "profile") before (named name text.now) e (no_text parts.profile _ none held.profile);
+    certificate = kept (codes "profile") (codes "certificate") _ e refl held.certificate;
     items = kept (codes "profile") (codes "items") _ e refl held.items;
     packets = kept (codes "profile") (codes "packets") _ e refl held.packets;
+  }
+
+  pub held_certificate : bytes_eq name (codes "certificate") ≡ true → is_some parts.certificate ≡ false → HoldsParts (record parts { certificate = Some text }) (before ++ named name text.now ∷ [])
+  held_certificate e none = record {
+    words = kept (codes "certificate") (codes "words") _ e refl held.words;
+    profile = kept (codes "certificate") (codes "profile") _ e refl held.profile;
+    certificate = text_put (codes "certificate") before (named name text.now) e (no_text parts.certificate _ none held.certificate);
+    items = kept (codes "certificate") (codes "items") _ e refl held.items;
+    packets = kept (codes "certificate") (codes "packets") _ e refl held.packets;
   }
 
   pub held_items : bytes_eq name (codes "items") ≡ true → is_some parts.items ≡ false → HoldsParts (record parts { items = Some text }) (before ++ named name text.now ∷ [])
   held_items e none = record {
     words = kept (codes "items") (codes "words") _ e refl held.words;
     profile = kept (codes "items") (codes "profile") _ e refl held.profile;
+    certificate = kept (codes "items") (codes "certificate") _ e refl held.certificate;
     items = text_put (codes "items") before (named name text.now) e (no_text parts.items _ none held.items);
     packets = kept (codes "items") (codes "packets") _ e refl held.packets;
   }
@@ -45,6 +57,7 @@ module _ (parts : Parts) (before : List Part) (name : List ℕ) (text : Bor (Lis
   held_packets e none = record {
     words = kept (codes "packets") (codes "words") _ e refl held.words;
     profile = kept (codes "packets") (codes "profile") _ e refl held.profile;
+    certificate = kept (codes "packets") (codes "certificate") _ e refl held.certificate;
     items = kept (codes "packets") (codes "items") _ e refl held.items;
     packets = text_put (codes "packets") before (named name text.now) e (no_text parts.packets _ none held.packets);
   }

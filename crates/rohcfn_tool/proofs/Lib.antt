@@ -9,3 +9,4 @@ pub mod BundleHeld
 pub mod BundleLines
 pub mod BundleParts
 pub mod BundleSpelled
+pub mod Checking

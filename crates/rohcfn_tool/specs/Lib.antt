@@ -1,3 +1,4 @@
+pub mod Verdicts
 pub mod Printed
 pub mod Program
 pub mod Status

@@ -23,7 +23,7 @@ use Rattle.fn_engine.specs.declared.reader.UnpackFault.TheVariants.{Truncated, R
 use Rattle.rohcfn_tool.specs.declared.status.Answer.{Answer}
 use Rattle.rohcfn_tool.specs.declared.status.Status.{Status}
 use Rattle.rohcfn_tool.specs.declared.status.Status.TheVariants as status
-use Rattle.rohcfn_tool.specs.declared.words.Command.TheVariants.{Show, Run}
+use Rattle.rohcfn_tool.specs.declared.words.Command.TheVariants.{Show, Check, Run}
 use Rattle.rohcfn_tool.specs.declared.words.Direction.{Direction}
 use Rattle.rohcfn_tool.specs.declared.words.Direction.TheVariants.{Pack, Unpack}
 use Rattle.rohcfn_tool.specs.declared.words.Order.{Order}
@@ -33,6 +33,7 @@ use Rattle.rohcfn_tool.specs.declared.inputs.BadLine.{BadLine}
 use Rattle.rohcfn_tool.specs.declared.inputs.BadLine.TheVariants as bad
 use Rattle.rohcfn_tool.specs.declared.replies.Printed.{Printed}
 use Rattle.rohcfn_tool.specs.declared.replies.Printed.TheVariants as printed
+use Rattle.rohcfn_tool.specs.Verdicts.{CheckedBy}
 use Rattle.fn_engine.specs.Faults.{Blames, BlamesItem, FitsAlways, header_item}
 use Rattle.fn_engine.specs.Fragment.{IsFragment}
 
@@ -139,6 +140,15 @@ pub data ShownBy (top octets : List ℕ) : Status → List ℕ → Type 0 where
   -- the methods, bounds and constraints of the normal form
   listed : (p : Resolved) → Reads octets top p → ShownBy top octets status.Done (listing.shown octets p.methods p.sizes)
 
+-- What is answered to `check`, by the octets of a profile and of a certificate, if there is one.
+pub data CheckedOctets (top profile : List ℕ) (certificate : Option (Bor (List ℕ))) : Status → List ℕ → Type 0 where
+  -- the profile is at fault
+  profile_at_fault : (text : List ℕ) → IsFaultLine top profile text → CheckedOctets top profile certificate status.Refused (text ++ 10 ∷ [])
+  -- no certificate is given, and none is made yet
+  unmade : (p : Resolved) → Reads profile top p → certificate ≡ None → CheckedOctets top profile certificate status.Refused (codes "prove: P3 Limit" ++ 10 ∷ [])
+  -- by the profile that the octets stand for
+  checked_by : {s : Status} {output : List ℕ} (p : Resolved) (octets : Bor (List ℕ)) → Reads profile top p → certificate ≡ Some octets → CheckedBy p octets.now s output → CheckedOctets top profile certificate s output
+
 -- What is answered in a direction, by a profile and the octets of items or packets.
 pub data AnsweredFor (direction : Direction) (top : List ℕ) (p : Resolved) (input : List ℕ) : Status → List ℕ → Type 0 where
   -- the profile is outside the fragment
@@ -166,6 +176,8 @@ pub data Answered (order : Order) (parts : Parts) : Status → List ℕ → Type
   no_profile : parts.profile ≡ None → Answered order parts status.Refused (codes "bundle: I4 bad part profile" ++ 10 ∷ [])
   shown : {s : Status} {output : List ℕ} (profile : Bor (List ℕ)) → parts.profile ≡ Some profile → order.command ≡ Show
       → ShownBy order.top.now profile.now s output → Answered order parts s output
+  checked : {s : Status} {output : List ℕ} (profile : Bor (List ℕ)) → parts.profile ≡ Some profile → order.command ≡ Check
+      → CheckedOctets order.top.now profile.now parts.certificate s output → Answered order parts s output
   ran : {s : Status} {output : List ℕ} (profile : Bor (List ℕ)) (direction : Direction) → parts.profile ≡ Some profile → order.command ≡ Run direction
       → AnsweredRun direction order.top.now profile.now parts s output → Answered order parts s output
 
@@ -176,6 +188,9 @@ Answers order parts a = Answered order parts a.status (string_bytes a.output)
 
 abbrev pub AnswersRun : Direction → List ℕ → List ℕ → Parts → Answer → Type 0
 AnswersRun direction top profile parts a = AnsweredRun direction top profile parts a.status (string_bytes a.output)
+
+abbrev pub ChecksOctets : List ℕ → List ℕ → Option (Bor (List ℕ)) → Answer → Type 0
+ChecksOctets top profile certificate a = CheckedOctets top profile certificate a.status (string_bytes a.output)
 
 abbrev pub Shows : List ℕ → List ℕ → Answer → Type 0
 Shows top octets a = ShownBy top octets a.status (string_bytes a.output)

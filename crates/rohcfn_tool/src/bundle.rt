@@ -8,6 +8,7 @@ ghost use Rattle.rohcfn_tool.specs.Bundle.{BlamesPart, HasSpelled, HoldsParts, I
 pub struct Parts<'a> {
     pub words: Option<&'a [u8]>,
     pub profile: Option<&'a [u8]>,
+    pub certificate: Option<&'a [u8]>,
     pub items: Option<&'a [u8]>,
     pub packets: Option<&'a [u8]>,
 }
@@ -27,6 +28,8 @@ const WORDS: &[u8] = b"words";
 
 const PROFILE: &[u8] = b"profile";
 
+const CERTIFICATE: &[u8] = b"certificate";
+
 const ITEMS: &[u8] = b"items";
 
 const PACKETS: &[u8] = b"packets";
@@ -45,6 +48,7 @@ pub fn split(input: &[u8]) -> Result<Parts<'_>, BadPart<'_>>
     let mut parts = Parts {
         words: None,
         profile: None,
+        certificate: None,
         items: None,
         packets: None,
     };
@@ -83,6 +87,11 @@ fn with_part<'a>(parts: Parts<'a>, name: &[u8], text: &'a [u8]) -> Option<Parts<
     } else if name == PROFILE && parts.profile.is_none() {
         Some(Parts {
             profile: Some(text),
+            ..parts
+        })
+    } else if name == CERTIFICATE && parts.certificate.is_none() {
+        Some(Parts {
+            certificate: Some(text),
             ..parts
         })
     } else if name == ITEMS && parts.items.is_none() {

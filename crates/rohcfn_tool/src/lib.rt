@@ -7,4 +7,5 @@ pub mod program;
 pub mod replies;
 pub mod showing;
 pub mod status;
+pub mod verdicts;
 pub mod words;

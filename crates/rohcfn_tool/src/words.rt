@@ -14,6 +14,8 @@ use thiserror::Error;
 pub enum Command {
     /// Lists what the part `profile` says.
     Show,
+    /// Checks the part `certificate` against the part `profile`.
+    Check,
     /// Turns lines into lines by the part `profile`.
     Run(Direction),
 }
@@ -55,7 +57,7 @@ impl From<AllocError> for WordsError {
     }
 }
 
-/// Reads the words that follow the program's name: a command, `pack`, `unpack` or `show`, and its
+/// Reads the words that follow the program's name: a command, `pack`, `unpack`, `show` or `check`, and its
 /// flag `--top NAME`.
 ///
 /// The clauses say it by clap's own account of a command line (`asked_of`), on which clap's parse is
@@ -93,6 +95,11 @@ fn program<'a>(alloc: Global) -> Result<clap::Command<'a>, AllocError>
         "show",
         "Shows the methods, bounds and constraints of the part profile",
     )?;
+    let check = with_top(
+        alloc,
+        "check",
+        "Checks the part certificate against the part profile",
+    )?;
     clap::Command::new(alloc, "rohcfn")
         .about("Packs and unpacks headers by a profile in the ROHC formal notation")
         .bin_name("rohcfn")?
@@ -100,7 +107,8 @@ fn program<'a>(alloc: Global) -> Result<clap::Command<'a>, AllocError>
         .subcommand_required(true)
         .subcommand(pack)?
         .subcommand(unpack)?
-        .subcommand(show)
+        .subcommand(show)?
+        .subcommand(check)
 }
 
 // A command with its flag.
@@ -139,6 +147,8 @@ fn command_of(name: &str) -> Option<Command>
         Some(Command::Run(Direction::Unpack))
     } else if name == "show" {
         Some(Command::Show)
+    } else if name == "check" {
+        Some(Command::Check)
     } else {
         None
     }

@@ -1,5 +1,5 @@
 use Rattle.rohcfn_tool.specs.Printed.{no_profile}
-use Rattle.rohcfn_tool.proofs.Replying.{refused_order, order_ran, order_shown}
+use Rattle.rohcfn_tool.proofs.Replying.{refused_order, order_ran, order_shown, order_checked}
 use Rattle.rohcfn_tool.proofs.replies.answer.Goals as goal
 
 pub returns-in_default : goal.returns-in_default
@@ -10,3 +10,6 @@ returns-in-Show c = order_shown _ _ c.in-Some.profile _ c.in-Some.is c.in-Show.i
 
 pub returns-in-Run : goal.returns-in-Run
 returns-in-Run c = order_ran _ _ c.in-Run.direction c.in-Some.profile _ c.in-Some.is c.in-Run.is c.answer_run.ensures
+
+pub returns-in-Check : goal.returns-in-Check
+returns-in-Check c = order_checked _ _ c.in-Some.profile _ c.in-Some.is c.in-Check.is c.answer_check.ensures

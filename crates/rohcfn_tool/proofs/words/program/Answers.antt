@@ -14,4 +14,5 @@ returns c =
     let bare : app_of c.subcommand_required.result ≡ bare_program = ap app_of_fields c.subcommand_required.ensures ∙ ap (on_top (λ top. record top { subcommand_required = true })) (named ∙ ap (on_top (λ top. record top { no_binary_name = true })) shown) in
     let one = c.in_ok-subcommand.ensures.shape c.in_ok-pack.ensures.local ∙ ap₂ with_subcommand bare (ap (λ (a : App). a.top) c.in_ok-pack.ensures.app) in
     let two = c.in_ok-subcommand-2.ensures.shape c.in_ok-unpack.ensures.local ∙ ap₂ with_subcommand one (ap (λ (a : App). a.top) c.in_ok-unpack.ensures.app) in
-    IfOk-weaker c.subcommand-3.result _ _ (λ command adds. adds.shape c.in_ok-show.ensures.local ∙ ap₂ with_subcommand two (ap (λ (a : App). a.top) c.in_ok-show.ensures.app)) c.subcommand-3.ensures
+    let three = c.in_ok-subcommand-3.ensures.shape c.in_ok-show.ensures.local ∙ ap₂ with_subcommand two (ap (λ (a : App). a.top) c.in_ok-show.ensures.app) in
+    IfOk-weaker c.subcommand-4.result _ _ (λ command adds. adds.shape c.in_ok-check.ensures.local ∙ ap₂ with_subcommand three (ap (λ (a : App). a.top) c.in_ok-check.ensures.app)) c.subcommand-4.ensures

@@ -1,0 +1,332 @@
+//! What is answered to `check`.
+
+ghost use Rattle.std.specs.Prelude.{◌≡◌, ℕ, List, ◌++◌, codes, decimal, IfOk, string_bytes};
+ghost use Rattle.std.specs.Option.{option_copied};
+ghost use Rattle.std.specs.Str.{IsUtf8};
+ghost use Rattle.fn_cert.specs.Faults.{IsReading, Blames};
+ghost use Rattle.fn_bits.specs.Lines.{numbered_lines};
+ghost use Rattle.fn_cert.specs.Text as text;
+ghost use Rattle.fn_profile.specs.Resolved.{Resolved};
+ghost use Rattle.rohcfn_tool.specs.Printed.{ChecksOctets};
+ghost use Rattle.rohcfn_tool.specs.Verdicts as spec;
+ghost use Rattle.rohcfn_tool.specs.Verdicts.{Checks};
+
+use crate::bundle::Parts;
+use crate::replies::refusal;
+use crate::showing::error_line;
+use crate::status::{Answer, Status};
+use fn_bits::LinesError;
+use fn_bits::lines::lines;
+use fn_cert::{Certificate, CertificateError, Direction};
+use fn_checker::{CheckError, check};
+use fn_expr::Side;
+use fn_names::read;
+use fn_normal::{Field, Format, Method, Name};
+use fn_profile::Profile;
+use fn_rules::CheckFault;
+use std::alloc::{AllocError, Global};
+
+/// The answer to `check`: `accepted`, or the line of the first fault of the profile, of the certificate's text or of the certificate. Where no certificate
+/// is given, none is made yet.
+pub(crate) fn answer_check(
+    alloc: Global,
+    top: &str,
+    profile: &[u8],
+    parts: &Parts<'_>,
+) -> Result<Answer, AllocError>
+    ensures { IfOk result (ChecksOctets top.now profile.now parts.now.certificate) }
+{
+    match read(alloc, profile, top.as_bytes()) {
+        Ok(normal) => match parts.certificate {
+            Some(octets) => check_octets(alloc, normal, octets),
+            None => refusal(alloc, "prove: P3 Limit"),
+        },
+        Err(error) => {
+            let line = error_line(alloc, profile, error)?;
+            refusal(alloc, line.as_str())
+        }
+    }
+}
+
+/// The answer by a profile and the octets of a certificate.
+fn check_octets(alloc: Global, profile: Profile, octets: &[u8]) -> Result<Answer, AllocError>
+    ensures { IfOk result (Checks profile octets.now) }
+{
+    match str::from_utf8(octets) {
+        Ok(text) => check_text(alloc, profile, text),
+        Err(_) => broken(alloc, octets),
+    }
+}
+
+/// The refusal of octets that are no UTF-8, at their first line that isn't.
+fn broken(alloc: Global, octets: &[u8]) -> Result<Answer, AllocError>
+    requires { IsUtf8 octets.now → ⊥ }
+    ensures { (p : Resolved) → IfOk result (Checks p octets.now) }
+{
+    match lines(alloc, octets) {
+        Ok(_) => unreachable!(),
+        Err(LinesError::NotText { line }) => {
+            let line = error_text(alloc, "K1 bad word", line)?;
+            refusal(alloc, line.as_str())
+        }
+        Err(LinesError::OutOfMemory) => Err(AllocError),
+    }
+}
+
+/// The answer by a profile and the text of a certificate.
+fn check_text(alloc: Global, profile: Profile, text: &str) -> Result<Answer, AllocError>
+    ensures { IfOk result (Checks profile text.now) }
+{
+    match fn_cert::read(alloc, &profile, text) {
+        Ok(certificate) => verdict(alloc, profile, certificate),
+        Err(error) => unread(alloc, error),
+    }
+}
+
+/// The refusal of a text that is no certificate of the profile.
+fn unread(alloc: Global, error: CertificateError) -> Result<Answer, AllocError>
+    ensures { (p : Resolved) (octets : List ℕ) → IsUtf8 octets → Blames p.methods error octets → IfOk result (Checks p octets) }
+{
+    let line = unread_line(alloc, error)?;
+    refusal(alloc, line.as_str())
+}
+
+fn unread_line(alloc: Global, error: CertificateError) -> Result<String, AllocError>
+    ensures { IfOk result (λ text. spec.IsErrorLine error (string_bytes text)) }
+{
+    match error {
+        CertificateError::BadWord { line } => error_text(alloc, "K1 bad word", line),
+        CertificateError::UnknownName { line } => error_text(alloc, "K2 unknown name", line),
+        CertificateError::AboveLimits { line } => error_text(alloc, "K3 above limits", line),
+        CertificateError::OutOfMemory => Err(AllocError),
+    }
+}
+
+/// A fault of a certificate's text, at its line.
+fn error_text(alloc: Global, words: &str, line: usize) -> Result<String, AllocError>
+    ensures { IfOk result (λ text. string_bytes text ≡ spec.line_of_certificate line words.now) }
+{
+    format!(in alloc; "certificate:{line}: {words}")
+}
+
+/// The verdict on a certificate.
+fn verdict(alloc: Global, profile: Profile, certificate: Certificate) -> Result<Answer, AllocError>
+    ensures { (octets : List ℕ) → IsUtf8 octets → IsReading profile.methods (numbered_lines octets) certificate → IfOk result (Checks profile octets) }
+{
+    match check(alloc, profile, certificate) {
+        Ok(accepted) => {
+            accepted.keeps();
+            let output = String::from_str(alloc, "accepted\n")?;
+            Ok(Answer {
+                status: Status::Done,
+                output,
+            })
+        }
+        Err(refused) => match refused.error {
+            CheckError::Fault(fault) => {
+                let line = verdict_line(alloc, refused.profile.methods(), fault)?;
+                refusal(alloc, line.as_str())
+            }
+            CheckError::OutOfMemory => Err(AllocError),
+        },
+    }
+}
+
+/// The line of a fault: its code, and where it is by the profile's names.
+pub(crate) fn verdict_line(
+    alloc: Global,
+    methods: &[Method],
+    fault: CheckFault,
+) -> Result<String, AllocError>
+    ensures { IfOk result (λ text. string_bytes text ≡ spec.verdict_line methods.now fault) }
+{
+    match fault {
+        CheckFault::NoMethod { method } => {
+            let name = method_name(methods, method);
+            format!(in alloc; "check: V1 {name}")
+        }
+        CheckFault::NoFormat { method, format } => {
+            let names = names(alloc, methods, method, format)?;
+            let names = names.as_str();
+            format!(in alloc; "check: V1 {names}")
+        }
+        CheckFault::NotEnabled {
+            method,
+            format,
+            direction,
+            step,
+        } => step_line(alloc, methods, method, format, direction, step),
+        CheckFault::NeverLearnt {
+            method,
+            format,
+            direction,
+            field,
+            side,
+        } => {
+            let names = names(alloc, methods, method, format)?;
+            let field = field_name(methods, method, format, field);
+            side_line(
+                alloc,
+                names.as_str(),
+                direction_word(direction),
+                field,
+                side_word(side),
+            )
+        }
+        CheckFault::WrongLeaf {
+            method,
+            node,
+            format,
+        } => {
+            let format = format_name(methods, method, format);
+            node_line(alloc, "check: V4 ", method_name(methods, method), node, format)
+        },
+        CheckFault::ShortFormat {
+            method,
+            node,
+            format,
+        } => {
+            let format = format_name(methods, method, format);
+            node_line(alloc, "check: V5 ", method_name(methods, method), node, format)
+        },
+        CheckFault::OutOfRange { method, node } => {
+            range_line(alloc, method_name(methods, method), node)
+        }
+        CheckFault::TooMany => String::from_str(alloc, "check: V6 candidates"),
+        CheckFault::TooLong => String::from_str(alloc, "check: V8 length"),
+    }
+}
+
+fn step_line(
+    alloc: Global,
+    methods: &[Method],
+    method: usize,
+    format: usize,
+    direction: Direction,
+    step: usize,
+) -> Result<String, AllocError>
+    ensures { IfOk result (λ text. string_bytes text ≡ spec.verdict_line methods.now (CheckFault.NotEnabled method format direction step)) }
+{
+    let names = names(alloc, methods, method, format)?;
+    let names = names.as_str();
+    let direction = direction_word(direction);
+    format!(in alloc; "check: V2 {names} {direction} step {step}")
+}
+
+/// A side of a field that a plan never learns.
+fn side_line(
+    alloc: Global,
+    names: &str,
+    direction: &str,
+    field: &str,
+    side: &str,
+) -> Result<String, AllocError>
+    ensures { IfOk result (λ text. string_bytes text ≡ codes "check: V3 " ++ names.now ++ codes " " ++ direction.now ++ codes " " ++ field.now ++ codes " " ++ side.now) }
+{
+    format!(in alloc; "check: V3 {names} {direction} {field} {side}")
+}
+
+/// A fault of a format at a node.
+fn node_line(
+    alloc: Global,
+    code: &str,
+    name: &str,
+    node: usize,
+    format: &str,
+) -> Result<String, AllocError>
+    ensures { IfOk result (λ text. string_bytes text ≡ code.now ++ (name.now ++ codes " node " ++ decimal node) ++ codes " " ++ format.now) }
+{
+    format!(in alloc; "{code}{name} node {node} {format}")
+}
+
+/// A constant outside its range.
+fn range_line(alloc: Global, name: &str, node: usize) -> Result<String, AllocError>
+    ensures { IfOk result (λ text. string_bytes text ≡ codes "check: V7 " ++ name.now ++ codes " node " ++ decimal node) }
+{
+    format!(in alloc; "check: V7 {name} node {node}")
+}
+
+/// The names of a method and of a format of it.
+fn names(
+    alloc: Global,
+    methods: &[Method],
+    method: usize,
+    format: usize,
+) -> Result<String, AllocError>
+    ensures { IfOk result (λ text. string_bytes text ≡ spec.names methods.now method format) }
+{
+    both(alloc, method_name(methods, method), format_name(methods, method, format))
+}
+
+fn both(alloc: Global, name: &str, format: &str) -> Result<String, AllocError>
+    ensures { IfOk result (λ text. string_bytes text ≡ name.now ++ codes " " ++ format.now) }
+{
+    format!(in alloc; "{name} {format}")
+}
+
+/// The name, or `-`.
+fn name_of(name: &Option<Name>) -> &str
+    ensures { result.now ≡ text.name_of name.now }
+{
+    match name {
+        Some(name) => name.as_str(),
+        None => "-",
+    }
+}
+
+fn method_name(methods: &[Method], method: usize) -> &str
+    ensures { result.now ≡ spec.method_name methods.now method }
+{
+    match methods.get(method) {
+        Some(method) => method.name.as_str(),
+        None => "-",
+    }
+}
+
+fn format_at(methods: &[Method], method: usize, format: usize) -> Option<&Format>
+    ensures { option_copied result ≡ spec.format_at methods.now method format }
+{
+    methods.get(method)?.formats.get(format)
+}
+
+fn format_name(methods: &[Method], method: usize, format: usize) -> &str
+    ensures { result.now ≡ spec.format_name methods.now method format }
+{
+    match format_at(methods, method, format) {
+        Some(format) => name_of(&format.name),
+        None => "-",
+    }
+}
+
+fn field_name(methods: &[Method], method: usize, format: usize, field: usize) -> &str
+    ensures { result.now ≡ spec.field_name methods.now method format field }
+{
+    match field_at(methods, method, format, field) {
+        Some(field) => field.declared.name.as_str(),
+        None => "-",
+    }
+}
+
+fn field_at(methods: &[Method], method: usize, format: usize, field: usize) -> Option<&Field>
+    ensures { option_copied result ≡ spec.field_at methods.now method format field }
+{
+    format_at(methods, method, format)?.fields.get(field)
+}
+
+fn direction_word(direction: Direction) -> &'static str
+    ensures { result.now ≡ spec.direction_word direction }
+{
+    match direction {
+        Direction::Read => "read",
+        Direction::Write => "write",
+    }
+}
+
+fn side_word(side: Side) -> &'static str
+    ensures { result.now ≡ text.side_word side }
+{
+    match side {
+        Side::Uncompressed => "U",
+        Side::Compressed => "C",
+    }
+}
