@@ -1,12 +1,12 @@
 -- The lines of a certificate of a profile are read to their end, one by one, and give that certificate.
 use Rattle.std.proofs.Common.{◌≡◌, ◌∙◌, sym, ap, subst, refl, cond, ℕ, zero, suc, ◌+◌, ◌-◌, ◌<◌, ◌≤◌, ◌^◌, ◌&&◌, Bool, true, false, List, [], ◌∷◌, ◌++◌, map, length, take, drop, append_assoc, length-append, arith}
-use Rattle.std.specs.Prelude.{Option, Some, None, slice_get, option_and_then, option_map, codes, decimal, flat_map, nat_lt, nat_le}
+use Rattle.std.specs.Prelude.{Option, Some, None, slice_get, option_and_then, option_map, codes, decimal, flat_map}
 use Rattle.std.specs.Fmt.{signed_decimal}
 use Rattle.std.specs.List.{AllByRecursion, AllZip}
 use Rattle.std.specs.Str.{bytes_eq}
 use Rattle.std.proofs.lemmas.Bool.{lt-ltb, le-leb, false≢true}
 use Rattle.std.proofs.lemmas.List.{append-nil, length-map, map-append}
-use Rattle.std.proofs.lemmas.Option.{slice_get_within, slice_get-map}
+use Rattle.std.proofs.lemmas.Option.{slice_get-map}
 use Rattle.std.proofs.lemmas.Slice.Eq.{bytes_eq-Decides}
 use Rattle.fn_expr.specs.declared.expr.Side.{Side}
 use Rattle.fn_expr.specs.declared.expr.Side.TheVariants.{Uncompressed, Compressed}
@@ -24,8 +24,8 @@ use Rattle.fn_cert.specs.declared.certificate.MethodPlans.{MethodPlans}
 use Rattle.fn_cert.specs.declared.draft.Draft.{Draft}
 use Rattle.fn_cert.specs.declared.draft.Stage.{Stage}
 use Rattle.fn_cert.specs.declared.draft.Stage.TheVariants as stage
-use Rattle.fn_cert.specs.Drafts.{words, when, number_below, place_by, side_of, step_on, step_of, node_of, format_place, open_format, inner_at, after_node, next, read_lines, blank, blanks, begin_format, close_format, close_format_at, close_method, close_method_at, nones, finish, begin_method, start}
-use Rattle.fn_cert.specs.Kept.{Entries, IsWide, IsStepKept, IsNodeKept, step_limit, node_limit, depth_limit, offset_limit, trees_after, are_trees, owed_after, depths, AreFormatsKept, ArePlansKept, IsMethodKept, AreKept}
+use Rattle.fn_cert.specs.Drafts.{words, when, number_below, side_of, step_on, step_of, node_of, format_place, open_format, inner_at, after_node, next, read_lines, blank, blanks, begin_format, close_format, close_format_at, close_method, close_method_at, nones, finish, begin_method, start}
+use Rattle.fn_cert.specs.Kept.{Entries, IsStepKept, IsNodeKept, step_limit, node_limit, depth_limit, offset_limit, trees_after, are_trees, owed_after, depths, AreFormatsKept, ArePlansKept, IsMethodKept, AreKept}
 use Rattle.fn_cert.specs.Of.{field_names, IsConstraintBelow, IsStepOf, IsNodeOf, IsFormatOf, ArePlansOf, IsMethodOf, IsEntryOf, IsOf, IsWord, AreWords}
 use Rattle.fn_cert.specs.Text.{name_of, name_at, side_word, field_of, step_line, step_words, node_line, format_name, plans_lines, format_lines, method_lines, certificate_lines}
 use Rattle.fn_cert.proofs.Numerals.{below_some, constant_some}

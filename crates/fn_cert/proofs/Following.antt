@@ -1,6 +1,6 @@
 -- What a draft says goes on from line to line.
-use Rattle.std.proofs.Common.{◌≡◌, ◌∙◌, sym, ap, subst, refl, cond, ℕ, zero, suc, ◌+◌, ◌-◌, ◌<◌, ◌≤◌, ◌&&◌, Bool, true, false, ◌⊎◌, inl, inr, List, [], ◌∷◌, ◌++◌, map, length, take, drop, append_assoc, length-append, arith}
-use Rattle.std.specs.Prelude.{Option, Some, None, slice_get, option_and_then, codes, flat_map, nat_lt, nat_le}
+use Rattle.std.proofs.Common.{◌≡◌, ◌∙◌, sym, ap, subst, refl, cond, ℕ, zero, suc, ◌+◌, ◌-◌, ◌<◌, ◌≤◌, ◌&&◌, true, ◌⊎◌, inl, inr, List, [], ◌∷◌, ◌++◌, map, length, take, drop, append_assoc, length-append, arith}
+use Rattle.std.specs.Prelude.{Some, None, slice_get, option_and_then, codes, flat_map, nat_lt, nat_le}
 use Rattle.std.specs.List.{AllByRecursion, AllZip, join_with_byte}
 use Rattle.std.specs.Str.{bytes_eq}
 use Rattle.std.proofs.lemmas.Bool.{false≢true, ltb-true, leb-true}
@@ -9,21 +9,18 @@ use Rattle.std.proofs.lemmas.List.{append-nil, map-append, take-append-drop}
 use Rattle.std.proofs.lemmas.List.Splits.{join_with_byte-slice_split}
 use Rattle.std.proofs.lemmas.Option.{slice_get_within}
 use Rattle.std.proofs.lemmas.Slice.Eq.{bytes_eq-Decides}
-use Rattle.fn_normal.specs.declared.profile.Format.{Format}
 use Rattle.fn_normal.specs.declared.profile.Method.{Method}
-use Rattle.fn_cert.specs.declared.certificate.Step.{Step}
 use Rattle.fn_cert.specs.declared.certificate.Node.{Node}
-use Rattle.fn_cert.specs.declared.certificate.FormatPlans.{FormatPlans}
 use Rattle.fn_cert.specs.declared.draft.Draft.{Draft}
 use Rattle.fn_cert.specs.declared.draft.Stage.{Stage}
 use Rattle.fn_cert.specs.declared.draft.Stage.TheVariants as stage
-use Rattle.fn_cert.specs.Drafts.{words, when, is_stage, blank, blanks, nones, at, method_place, format_place, open_method, open_format, close_format, close_format_at, close_method, close_method_at, node_of, step_of, with_node, with_node_at, with_read, with_write, after_node, begin_method, begin_format, finish, inner_at, one_word, two_words, next, read_lines, start}
+use Rattle.fn_cert.specs.Drafts.{words, when, is_stage, blanks, nones, at, method_place, format_place, open_method, open_format, close_format, close_format_at, close_method, close_method_at, node_of, step_of, with_node, with_node_at, with_read, with_write, after_node, begin_method, begin_format, finish, inner_at, one_word, two_words, next, read_lines, start}
 use Rattle.fn_cert.specs.Kept.{Entries, AreKept, IsNodeKept, IsStepKept, IsMethodKept, are_trees, owed_after, depths, depth_limit, node_limit, step_limit}
 use Rattle.fn_cert.specs.Of.{field_names, IsNodeOf, IsStepOf, IsEntryOf, IsFormatOf, IsOf}
 use Rattle.fn_cert.specs.Text.{name_of, step_line, node_line, format_lines, method_lines, certificate_lines}
 use Rattle.fn_cert.proofs.Numerals.{both_true, when_true}
-use Rattle.fn_cert.proofs.Accepting.{st, counted, nones_long, take_front, drop_front}
-use Rattle.fn_cert.proofs.Telling.{zip_long, zip_append, all_push, all_append, front, shown, step_lines, tree_lines, formats_lines, format_head, IsEntryKept, IsFormatKept, Told, Opened, TreeSo, FormatsSo, StepsSo, Fresh, Between, InTree, InFormats, InFormat, AtHead, InRead, InWrite, AtEnd, GoodAt, Good, closed_format, closed_method, blanks_of, blanks_kept, blanks_lines}
+use Rattle.fn_cert.proofs.Accepting.{st, counted, nones_long}
+use Rattle.fn_cert.proofs.Telling.{zip_long, zip_append, all_push, all_append, front, shown, step_lines, tree_lines, formats_lines, format_head, IsEntryKept, IsFormatKept, Told, TreeSo, Fresh, Between, InTree, InFormats, AtHead, InRead, InWrite, AtEnd, GoodAt, Good, closed_format, closed_method, blanks_of, blanks_kept, blanks_lines}
 use Rattle.fn_cert.proofs.Meaning.{if_some, and_some, some_is, place_means, node_said, step_said}
 
 -- ---- the stage of a draft

@@ -1,6 +1,6 @@
 -- What comes of lines that are read one by one.
-use Rattle.std.proofs.Common.{◌≡◌, ◌∙◌, sym, ap, subst, refl, ℕ, suc, ◌+◌, ◌<◌, Bool, true, false, inl, inr, List, [], ◌∷◌, ◌++◌, map, length, take, drop, get_or, append_assoc, arith}
-use Rattle.std.specs.Prelude.{Option, Some, None, option_and_then}
+use Rattle.std.proofs.Common.{◌≡◌, ◌∙◌, sym, ap, refl, ℕ, suc, ◌+◌, ◌<◌, true, false, inl, inr, List, [], ◌∷◌, ◌++◌, map, length, take, drop, get_or, arith}
+use Rattle.std.specs.Prelude.{Some, None, option_and_then}
 use Rattle.std.specs.Str.Lines.{lines}
 use Rattle.std.proofs.lemmas.Bool.{false≢true}
 use Rattle.std.proofs.lemmas.List.{map-append, take_more}
@@ -13,13 +13,16 @@ use Rattle.fn_cert.specs.declared.draft.Stage.TheVariants as stage
 use Rattle.fn_cert.specs.declared.reading.CertificateError.{CertificateError}
 use Rattle.fn_cert.specs.declared.reading.CertificateError.TheVariants.{BadWord, UnknownName, AboveLimits, OutOfMemory}
 use Rattle.fn_cert.specs.Drafts.{words, is_stage, next, read_lines, start}
-use Rattle.fn_cert.specs.Faults.{texts, IsCertificate, IsReading, IsFaultAt, IsCutOff, Blames, number_of, Stops}
+use Rattle.fn_cert.specs.Faults.{texts, IsReading, IsFaultAt, IsCutOff, Blames, fault_of, Stops}
+use Rattle.fn_cert.specs.Shapes.{line_fault}
+use Rattle.fn_cert.specs.declared.faults.Fault.{Fault}
+use Rattle.fn_cert.specs.declared.faults.Fault.TheVariants as fault
 use Rattle.fn_cert.specs.Kept.{Entries, AreKept}
 use Rattle.fn_cert.specs.Laws.{OneReading, FaultsExclude, ReadsBack, ReadsOnly, NoBlame}
 use Rattle.fn_cert.specs.Text.{certificate_lines, certificate_text}
 use Rattle.fn_cert.proofs.Accepting.{st, accept, readable_by}
 use Rattle.fn_cert.proofs.Meaning.{and_some, some_is}
-use Rattle.fn_cert.proofs.Following.{Whole, whole}
+use Rattle.fn_cert.proofs.Following.{whole}
 use Rattle.fn_cert.proofs.Printed.{printed_lines}
 
 -- ---- one line more
@@ -44,9 +47,9 @@ texts_of : {A : Type 0} (f : A → ℕ × List ℕ) (xs : List A) → texts (map
 texts_of f [] = refl
 texts_of f (x ∷ xs) = ap (λ r. (f x).1 ∷ r) (texts_of f xs)
 
-pub stops_at : {A : Type 0} (f : A → ℕ × List ℕ) (methods : List Method) (items : List A) (i : ℕ) (z : A) (d : Draft) → i < length items → read_lines methods start (map (λ x. (f x).1) (take i items)) ≡ Some d → next methods d (words (f (get_or items i z)).1) ≡ None
-    → Stops methods (map f items) (f (get_or items i z)).0
-stops_at f methods items i z d inside so_far stops =
+pub stops_at : {A : Type 0} (f : A → ℕ × List ℕ) (methods : List Method) (items : List A) (i : ℕ) (z : A) (d : Draft) (fault : Fault) → i < length items → read_lines methods start (map (λ x. (f x).1) (take i items)) ≡ Some d → next methods d (words (f (get_or items i z)).1) ≡ None
+    → ((k : Fault) → line_fault (words (f (get_or items i z)).1) ≡ Some k → k ≡ fault) → Stops methods (map f items) fault (f (get_or items i z)).0
+stops_at f methods items i z d fault inside so_far stops told =
     let x = get_or items i z in
     record {
       before = map f (take i items);
@@ -56,12 +59,14 @@ stops_at f methods items i z d inside so_far stops =
       draft = d;
       so_far = ap (read_lines methods start) (texts_of f (take i items)) ∙ so_far;
       stops = stops;
+      told = told;
     }
 
 -- ---- what is blamed
 
-fault_here : (methods : List Method) → AreNamed methods → (numbered : List (ℕ × List ℕ)) (n : ℕ) → Stops methods numbered n → IsFaultAt methods numbered n
-fault_here methods named numbered n s = record {
+fault_here : (methods : List Method) → AreNamed methods → (numbered : List (ℕ × List ℕ)) (fault : Fault) (n : ℕ) → Stops methods numbered fault n → IsFaultAt methods numbered fault n
+fault_here methods named numbered fault n s = record {
+  told = s.told;
   before = s.before;
   line = s.line;
   after = s.after;
@@ -72,10 +77,10 @@ fault_here methods named numbered n s = record {
       let wrong : None ≡ Some (st stage.End entries [] [] [] [] []) = sym stopped ∙ accepted in absurd cc;
 }
 
-pub blamed : (methods : List Method) → AreNamed methods → (text : List ℕ) (e : CertificateError) → ((n : ℕ) → number_of e ≡ Some n → Stops methods (numbered_lines text) n) → Blames methods e text
-blamed methods named text (BadWord n) h = inl (fault_here methods named (numbered_lines text) n (h n refl))
-blamed methods named text (UnknownName n) h = fault_here methods named (numbered_lines text) n (h n refl)
-blamed methods named text (AboveLimits n) h = inl (fault_here methods named (numbered_lines text) n (h n refl))
+pub blamed : (methods : List Method) → AreNamed methods → (text : List ℕ) (e : CertificateError) → ((f : Fault) (n : ℕ) → fault_of e ≡ Some (f, n) → Stops methods (numbered_lines text) f n) → Blames methods e text
+blamed methods named text (BadWord n) h = inl (fault_here methods named (numbered_lines text) fault.BadWord n (h fault.BadWord n refl))
+blamed methods named text (UnknownName n) h = fault_here methods named (numbered_lines text) fault.UnknownName n (h fault.UnknownName n refl)
+blamed methods named text (AboveLimits n) h = inl (fault_here methods named (numbered_lines text) fault.AboveLimits n (h fault.AboveLimits n refl))
 blamed methods named text OutOfMemory h = tt
 
 pub cut_off : {A : Type 0} (f : A → ℕ × List ℕ) (methods : List Method) → AreNamed methods → (text : List ℕ) (items : List A) (d : Draft) (n : ℕ) → map f items ≡ numbered_lines text → read_lines methods start (map (λ x. (f x).1) items) ≡ Some d → is_stage d.stage stage.End ≡ false
@@ -108,9 +113,9 @@ one_reading methods numbered es others named spelled a b h k =
     one_end methods (texts numbered) es others (ap (read_lines methods start) h.lines_are ∙ accept methods r es a.of a.kept) (ap (read_lines methods start) k.lines_are ∙ accept methods r others b.of b.kept)
 
 pub faults_exclude : FaultsExclude
-faults_exclude methods numbered n es spelled certificate reading fault =
-    fault.unfit spelled es (texts fault.after) certificate
-    (sym reading.lines_are ∙ ap texts fault.cut ∙ map-append (λ l. l.1) fault.before ((n, fault.line) ∷ fault.after))
+faults_exclude methods numbered fault n es spelled certificate reading at =
+    at.unfit spelled es (texts at.after) certificate
+    (sym reading.lines_are ∙ ap texts at.cut ∙ map-append (λ l. l.1) at.before ((n, at.line) ∷ at.after))
 
 pub reads_back : ReadsBack
 reads_back methods es named spelled certificate = record { lines_are = printed_lines methods es (readable_by methods named spelled) certificate.of certificate.kept.each; of = certificate.of }
@@ -119,9 +124,9 @@ pub reads_only : ReadsOnly
 reads_only methods es others named spelled a b h = one_reading methods (numbered_lines (certificate_text es)) others es named spelled b a h (reads_back methods es named spelled a)
 
 pub no_blame : NoBlame
-no_blame methods es (BadWord n) named spelled a short (inl h) = absurd (faults_exclude methods (numbered_lines (certificate_text es)) n es spelled a (reads_back methods es named spelled a) h)
+no_blame methods es (BadWord n) named spelled a short (inl h) = absurd (faults_exclude methods (numbered_lines (certificate_text es)) fault.BadWord n es spelled a (reads_back methods es named spelled a) h)
 no_blame methods es (BadWord n) named spelled a short (inr h) = absurd (h.unfit spelled es a (reads_back methods es named spelled a).lines_are)
-no_blame methods es (UnknownName n) named spelled a short h = absurd (faults_exclude methods (numbered_lines (certificate_text es)) n es spelled a (reads_back methods es named spelled a) h)
-no_blame methods es (AboveLimits n) named spelled a short (inl h) = absurd (faults_exclude methods (numbered_lines (certificate_text es)) n es spelled a (reads_back methods es named spelled a) h)
+no_blame methods es (UnknownName n) named spelled a short h = absurd (faults_exclude methods (numbered_lines (certificate_text es)) fault.UnknownName n es spelled a (reads_back methods es named spelled a) h)
+no_blame methods es (AboveLimits n) named spelled a short (inl h) = absurd (faults_exclude methods (numbered_lines (certificate_text es)) fault.AboveLimits n es spelled a (reads_back methods es named spelled a) h)
 no_blame methods es (AboveLimits n) named spelled a short (inr h) = absurd (omega (arith, short, h.0))
 no_blame methods es OutOfMemory named spelled a short h = refl

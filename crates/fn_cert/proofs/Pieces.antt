@@ -2,7 +2,7 @@
 use Rattle.std.proofs.Common.{◌≡◌, ◌∙◌, refl, sym, ap, ℕ, suc, ◌-◌, ◌<◌, ◌≤◌, List, [], ◌∷◌, map, length, take, drop, get_or, arith}
 use Rattle.std.specs.Prelude.{option_and_then}
 use Rattle.std.proofs.Common.{append_assoc, ◌++◌, ◌+◌}
-use Rattle.std.specs.Prelude.{Some, None, slice_get, ◌&&◌, nat_le, nat_lt, true}
+use Rattle.std.specs.Prelude.{Some, None, slice_get, ◌&&◌, true}
 use Rattle.std.proofs.Common.{zero, Bool, false, IsTrue, ◌↔◌}
 use Rattle.std.proofs.lemmas.Bool.{false≢true}
 use Rattle.std.proofs.lemmas.Bool.{lt-ltb, le-leb}
@@ -10,6 +10,8 @@ use Rattle.fn_cert.specs.declared.certificate.FormatPlans.{FormatPlans}
 use Rattle.fn_cert.specs.declared.draft.Draft.{Draft}
 use Rattle.fn_cert.specs.declared.draft.Stage.TheVariants as stage
 use Rattle.std.proofs.lemmas.List.{take_all, append-nil}
+use Rattle.fn_cert.specs.declared.faults.Fault.TheVariants as fault
+use Rattle.fn_cert.specs.Shapes.{line_fault}
 use Rattle.fn_cert.specs.Kept.{Entries}
 use Rattle.fn_normal.specs.declared.profile.Format.{Format}
 use Rattle.std.specs.Borrow.{Bor}
@@ -76,3 +78,11 @@ begun methods d name k m es owed placed at here up some entries_are owed_are =
 pub some_left : {A : Type 0} (xs : List A) (empty : Bool) → IsTrue empty ↔ (xs ≡ []) → empty ≡ false → 0 < length xs
 some_left [] empty h e = absurd (false≢true (sym e ∙ h.1 refl))
 some_left (x ∷ xs) empty h e = omega arith
+
+pub many_words : (ws : List (Bor (List ℕ))) → 5 ≤ length ws → line_fault (map (λ w. w.now) ws) ≡ Some fault.BadWord
+many_words [] h = absurd (omega arith)
+many_words (a ∷ []) h = absurd (omega arith)
+many_words (a ∷ b ∷ []) h = absurd (omega arith)
+many_words (a ∷ b ∷ c ∷ []) h = absurd (omega arith)
+many_words (a ∷ b ∷ c ∷ e ∷ []) h = absurd (omega arith)
+many_words (a ∷ b ∷ c ∷ e ∷ g ∷ ws) h = refl

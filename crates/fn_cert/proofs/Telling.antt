@@ -1,10 +1,9 @@
 -- What a draft says of the lines that made it.
-use Rattle.std.proofs.Common.{◌≡◌, ◌∙◌, sym, ap, subst, refl, cond, ℕ, zero, suc, ◌+◌, ◌-◌, ◌<◌, ◌≤◌, ◌&&◌, Bool, true, false, List, [], ◌∷◌, ◌++◌, map, length, take, drop, append_assoc, length-append, arith}
-use Rattle.std.specs.Prelude.{Option, Some, None, slice_get, option_and_then, option_map, codes, flat_map, nat_lt, nat_le}
+use Rattle.std.proofs.Common.{◌≡◌, ◌∙◌, sym, ap, subst, refl, ℕ, zero, suc, ◌<◌, ◌≤◌, List, [], ◌∷◌, ◌++◌, map, length, take, drop, append_assoc}
+use Rattle.std.specs.Prelude.{Option, Some, None, slice_get, option_and_then, codes, flat_map}
 use Rattle.std.specs.List.{AllByRecursion, AllZip}
-use Rattle.std.proofs.lemmas.Bool.{false≢true, ltb-true, leb-true}
 use Rattle.std.proofs.lemmas.Grind.{flat_map-append}
-use Rattle.std.proofs.lemmas.List.{append-nil, length-map, map-append}
+use Rattle.std.proofs.lemmas.List.{append-nil}
 use Rattle.fn_normal.specs.declared.profile.Format.{Format}
 use Rattle.fn_normal.specs.declared.profile.Method.{Method}
 use Rattle.fn_cert.specs.declared.certificate.Step.{Step}
@@ -16,11 +15,11 @@ use Rattle.fn_cert.specs.declared.certificate.MethodPlans.{MethodPlans}
 use Rattle.fn_cert.specs.declared.draft.Draft.{Draft}
 use Rattle.fn_cert.specs.declared.draft.Stage.{Stage}
 use Rattle.fn_cert.specs.declared.draft.Stage.TheVariants as stage
-use Rattle.fn_cert.specs.Drafts.{when, is_stage, blank, blanks, nones, at, with_format, with_method, close_format, close_format_at, close_method, close_method_at, start}
-use Rattle.fn_cert.specs.Kept.{Entries, IsNodeKept, IsStepKept, ArePlansKept, AreFormatsKept, IsMethodKept, AreKept, trees_after, are_trees, owed_after, depths, node_limit, depth_limit, step_limit}
+use Rattle.fn_cert.specs.Drafts.{blank, blanks, at, close_format_at, close_method_at, start}
+use Rattle.fn_cert.specs.Kept.{Entries, IsNodeKept, IsStepKept, ArePlansKept, AreFormatsKept, IsMethodKept, are_trees, depths, node_limit, depth_limit, step_limit}
 use Rattle.fn_cert.specs.Of.{field_names, IsStepOf, IsNodeOf, IsFormatOf, ArePlansOf, IsMethodOf, IsEntryOf, IsOf}
-use Rattle.fn_cert.specs.Text.{name_of, format_name, step_line, node_line, plans_lines, format_lines, method_lines, certificate_lines}
-use Rattle.fn_cert.proofs.Accepting.{st, take_front, drop_front, counted, nones_long}
+use Rattle.fn_cert.specs.Text.{name_of, format_name, step_line, node_line, format_lines, method_lines}
+use Rattle.fn_cert.proofs.Accepting.{st, take_front, drop_front}
 
 -- ---- lists
 

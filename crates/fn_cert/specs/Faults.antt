@@ -1,14 +1,17 @@
 -- What it is to read a certificate from lines, and what its faults say of them (docs/FORMATS.md, The text of a certificate).
-use Rattle.std.specs.Prelude.{◌≡◌, ℕ, suc, ◌<◌, ◌⊎◌, List, [], ◌∷◌, ◌++◌, map, length, Option, Some, None}
+use Rattle.std.specs.Prelude.{◌≡◌, ℕ, suc, ◌<◌, ◌⊎◌, List, ◌∷◌, ◌++◌, map, length, Option, Some, None}
 use Rattle.std.specs.Str.Lines.{lines}
 use Rattle.fn_normal.specs.declared.profile.Method.{Method}
 use Rattle.fn_bits.specs.Lines.{numbered_lines}
 use Rattle.fn_cert.specs.declared.draft.Draft.{Draft}
+use Rattle.fn_cert.specs.declared.faults.Fault.{Fault}
+use Rattle.fn_cert.specs.declared.faults.Fault.TheVariants as fault
 use Rattle.fn_cert.specs.declared.reading.CertificateError.{CertificateError}
 use Rattle.fn_cert.specs.declared.reading.CertificateError.TheVariants.{BadWord, UnknownName, AboveLimits, OutOfMemory}
 use Rattle.fn_cert.specs.Drafts.{words, next, read_lines, start}
 use Rattle.fn_cert.specs.Kept.{Entries, AreKept}
 use Rattle.fn_cert.specs.Of.{IsOf, AreWords}
+use Rattle.fn_cert.specs.Shapes.{line_fault}
 use Rattle.fn_cert.specs.Text.{certificate_lines}
 
 -- numbered lines without their numbers
@@ -25,13 +28,15 @@ pub record IsReading (methods : List Method) (numbered : List (ℕ × List ℕ))
   pub lines_are : texts numbered ≡ certificate_lines entries
   pub of : IsOf methods entries
 
--- The line of that number is at fault: where names are words, no certificate of the methods has lines that begin with those before it and then this one.
-pub record IsFaultAt (methods : List Method) (numbered : List (ℕ × List ℕ)) (number : ℕ) : Type 0 where
+-- The line of that number is at fault: where names are words, no certificate of the methods has lines that begin with those before it and then this one. Where the
+-- words of the line alone tell a fault, it is that one.
+pub record IsFaultAt (methods : List Method) (numbered : List (ℕ × List ℕ)) (fault : Fault) (number : ℕ) : Type 0 where
   pub before : List (ℕ × List ℕ)
   pub line : List ℕ
   pub after : List (ℕ × List ℕ)
   pub cut : numbered ≡ before ++ (number, line) ∷ after
   pub unfit : AreWords methods → (entries : Entries) (more : List (List ℕ)) → IsCertificate methods entries → certificate_lines entries ≡ texts before ++ line ∷ more → ⊥
+  pub told : (f : Fault) → line_fault (words line) ≡ Some f → f ≡ fault
 
 -- The lines end too early: where names are words, no certificate of the methods has just these, and the number is that after the last line.
 pub record IsCutOff (methods : List Method) (text : List ℕ) (number : ℕ) : Type 0 where
@@ -44,20 +49,20 @@ text_limit = 1048576
 
 -- what an error of `read` says of the text
 abbrev pub Blames : List Method → CertificateError → List ℕ → Type 0
-Blames methods (BadWord number) text = IsFaultAt methods (numbered_lines text) number ⊎ IsCutOff methods text number
-Blames methods (UnknownName number) text = IsFaultAt methods (numbered_lines text) number
-Blames methods (AboveLimits number) text = IsFaultAt methods (numbered_lines text) number ⊎ ((text_limit < length text) × (number ≡ 1))
+Blames methods (BadWord number) text = IsFaultAt methods (numbered_lines text) fault.BadWord number ⊎ IsCutOff methods text number
+Blames methods (UnknownName number) text = IsFaultAt methods (numbered_lines text) fault.UnknownName number
+Blames methods (AboveLimits number) text = IsFaultAt methods (numbered_lines text) fault.AboveLimits number ⊎ ((text_limit < length text) × (number ≡ 1))
 Blames methods OutOfMemory text = Unit {0}
 
--- the line of an error
-abbrev pub number_of : CertificateError → Option ℕ
-number_of (BadWord number) = Some number
-number_of (UnknownName number) = Some number
-number_of (AboveLimits number) = Some number
-number_of OutOfMemory = None
+-- the fault of an error, and its line
+abbrev pub fault_of : CertificateError → Option (Fault × ℕ)
+fault_of (BadWord number) = Some (fault.BadWord, number)
+fault_of (UnknownName number) = Some (fault.UnknownName, number)
+fault_of (AboveLimits number) = Some (fault.AboveLimits, number)
+fault_of OutOfMemory = None
 
 -- the lines before that of the number make a draft, of which this line makes none
-pub record Stops (methods : List Method) (numbered : List (ℕ × List ℕ)) (number : ℕ) : Type 0 where
+pub record Stops (methods : List Method) (numbered : List (ℕ × List ℕ)) (fault : Fault) (number : ℕ) : Type 0 where
   pub before : List (ℕ × List ℕ)
   pub line : List ℕ
   pub after : List (ℕ × List ℕ)
@@ -65,3 +70,4 @@ pub record Stops (methods : List Method) (numbered : List (ℕ × List ℕ)) (nu
   pub draft : Draft
   pub so_far : read_lines methods start (texts before) ≡ Some draft
   pub stops : next methods draft (words line) ≡ None
+  pub told : (f : Fault) → line_fault (words line) ≡ Some f → f ≡ fault

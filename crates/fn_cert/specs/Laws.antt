@@ -3,6 +3,7 @@ use Rattle.std.specs.Prelude.{◌≡◌, ℕ, ◌≤◌, List, length}
 use Rattle.fn_normal.specs.declared.profile.Method.{Method}
 use Rattle.fn_profile.specs.Named.{AreNamed}
 use Rattle.fn_bits.specs.Lines.{numbered_lines}
+use Rattle.fn_cert.specs.declared.faults.Fault.{Fault}
 use Rattle.fn_cert.specs.declared.reading.CertificateError.{CertificateError}
 use Rattle.fn_cert.specs.declared.reading.CertificateError.TheVariants.{OutOfMemory}
 use Rattle.fn_cert.specs.Faults.{IsCertificate, IsReading, IsFaultAt, Blames, text_limit}
@@ -17,7 +18,7 @@ OneReading = (methods : List Method) (numbered : List (ℕ × List ℕ)) (es oth
 
 -- Lines that are those of a certificate have none at fault.
 abbrev pub FaultsExclude : Type 0
-FaultsExclude = (methods : List Method) (numbered : List (ℕ × List ℕ)) (n : ℕ) (es : Entries) → AreWords methods → IsCertificate methods es → IsReading methods numbered es → IsFaultAt methods numbered n → ⊥
+FaultsExclude = (methods : List Method) (numbered : List (ℕ × List ℕ)) (fault : Fault) (n : ℕ) (es : Entries) → AreWords methods → IsCertificate methods es → IsReading methods numbered es → IsFaultAt methods numbered fault n → ⊥
 
 -- The text of a certificate is read as that certificate, and as no other one; below the limit nothing is blamed but want of memory.
 abbrev pub ReadsBack : Type 0

@@ -1,6 +1,11 @@
 //! What is wrong with a line of a certificate's text.
 
-ghost use Rattle.std.specs.Prelude.{◌≡◌};
+ghost use Rattle.std.specs.Prelude.{◌≡◌, map, Some};
+ghost use Rattle.std.specs.Char.{is_ascii_digit};
+ghost use Rattle.std.specs.List.{list_all};
+ghost use Rattle.fn_cert.specs.Drafts.{number_below, constant_of};
+ghost use Rattle.fn_cert.specs.Kept.{offset_limit};
+ghost use Rattle.fn_cert.specs.Shapes as spec;
 
 use crate::certificate::OFFSET_LIMIT;
 use crate::draft::{Draft, Stage};
@@ -16,7 +21,9 @@ pub enum Fault {
 }
 
 /// What is wrong with a line that may not come next: its shape, its numbers, its names, its place, the counts.
-pub fn fault_of(draft: &Draft, methods: &[Method], words: &[&str]) -> Fault {
+pub fn fault_of(draft: &Draft, methods: &[Method], words: &[&str]) -> Fault
+    ensures { (k : Fault) → spec.line_fault (map (λ w. w.now) words.now) ≡ Some k → k ≡ result }
+{
     if let Some(fault) = line_fault(words) {
         return fault;
     }
@@ -87,12 +94,16 @@ fn is_step(word: &str) -> bool {
     is_plain_step(word) || word == "library" || word == "length" || word == "solve"
 }
 
-fn is_plain_step(word: &str) -> bool {
+fn is_plain_step(word: &str) -> bool
+    ensures { result ≡ spec.is_plain_step word.now }
+{
     word == "take" || word == "call" || word == "choose" || word == "ask"
 }
 
 /// What is wrong with a line by its words alone: its shape, or a number that is too large.
-fn line_fault(words: &[&str]) -> Option<Fault> {
+fn line_fault(words: &[&str]) -> Option<Fault>
+    ensures { result ≡ spec.line_fault (map (λ w. w.now) words.now) }
+{
     match words {
         [word] => one_fault(word),
         [word, name] => two_fault(word, name),
@@ -102,14 +113,18 @@ fn line_fault(words: &[&str]) -> Option<Fault> {
     }
 }
 
-fn one_fault(word: &str) -> Option<Fault> {
+fn one_fault(word: &str) -> Option<Fault>
+    ensures { result ≡ spec.one_fault word.now }
+{
     if word == "none" || word == "read" || word == "write" || word == "end" {
         return None;
     }
     Some(Fault::BadWord)
 }
 
-fn two_fault(word: &str, name: &str) -> Option<Fault> {
+fn two_fault(word: &str, name: &str) -> Option<Fault>
+    ensures { result ≡ spec.two_fault word.now name.now }
+{
     if word == "bit" {
         return offset_fault(name);
     }
@@ -125,7 +140,9 @@ fn two_fault(word: &str, name: &str) -> Option<Fault> {
     Some(Fault::BadWord)
 }
 
-fn three_fault(word: &str, name: &str, last: &str) -> Option<Fault> {
+fn three_fault(word: &str, name: &str, last: &str) -> Option<Fault>
+    ensures { result ≡ spec.three_fault word.now name.now last.now }
+{
     if name.is_empty() {
         return Some(Fault::BadWord);
     }
@@ -141,7 +158,9 @@ fn three_fault(word: &str, name: &str, last: &str) -> Option<Fault> {
     Some(Fault::BadWord)
 }
 
-fn four_fault(word: &str, name: &str, side: &str, last: &str) -> Option<Fault> {
+fn four_fault(word: &str, name: &str, side: &str, last: &str) -> Option<Fault>
+    ensures { result ≡ spec.four_fault word.now name.now side.now last.now }
+{
     if word != "length" || name.is_empty() || !(side == "U" || side == "C") {
         return Some(Fault::BadWord);
     }
@@ -152,7 +171,9 @@ fn four_fault(word: &str, name: &str, side: &str, last: &str) -> Option<Fault> {
 }
 
 /// The offset of a bit.
-fn offset_fault(word: &str) -> Option<Fault> {
+fn offset_fault(word: &str) -> Option<Fault>
+    ensures { result ≡ spec.number_fault (spec.is_number word.now) (number_below offset_limit word.now) }
+{
     if !is_number(word.as_bytes()) {
         return Some(Fault::BadWord);
     }
@@ -163,7 +184,9 @@ fn offset_fault(word: &str) -> Option<Fault> {
 }
 
 /// The number of a constraint.
-fn number_fault(word: &str) -> Option<Fault> {
+fn number_fault(word: &str) -> Option<Fault>
+    ensures { result ≡ spec.number_fault (spec.is_number word.now) (constant_of word.now) }
+{
     if !is_number(word.as_bytes()) {
         return Some(Fault::BadWord);
     }
@@ -171,14 +194,18 @@ fn number_fault(word: &str) -> Option<Fault> {
 }
 
 /// The constant of a parameter.
-fn constant_fault(word: &str) -> Option<Fault> {
+fn constant_fault(word: &str) -> Option<Fault>
+    ensures { result ≡ spec.number_fault (spec.is_signed word.now) (constant_of word.now) }
+{
     if !is_signed(word.as_bytes()) {
         return Some(Fault::BadWord);
     }
     wide_fault(word)
 }
 
-fn wide_fault(word: &str) -> Option<Fault> {
+fn wide_fault(word: &str) -> Option<Fault>
+    ensures { result ≡ spec.in_range (constant_of word.now) }
+{
     match constant_of(word) {
         Some(_) => None,
         None => Some(Fault::AboveLimits),
@@ -186,7 +213,9 @@ fn wide_fault(word: &str) -> Option<Fault> {
 }
 
 /// Digits without a leading zero, with `-` before them where the number is negative.
-fn is_signed(octets: &[u8]) -> bool {
+fn is_signed(octets: &[u8]) -> bool
+    ensures { result ≡ spec.is_signed octets.now }
+{
     match octets {
         [b'-', rest @ ..] => is_number(rest) && rest != b"0".as_slice(),
         _ => is_number(octets),
@@ -194,11 +223,23 @@ fn is_signed(octets: &[u8]) -> bool {
 }
 
 /// Digits without a leading zero.
-fn is_number(octets: &[u8]) -> bool {
-    let [first, rest @ ..] = octets else {
-        return false;
-    };
-    first.is_ascii_digit()
-        && rest.iter().all(|b| b.is_ascii_digit())
-        && (*first != b'0' || rest.is_empty())
+fn is_number(octets: &[u8]) -> bool
+    ensures { result ≡ spec.is_number octets.now }
+{
+    !octets.is_empty() && are_digits(octets) && !has_leading_zero(octets)
+}
+
+fn are_digits(octets: &[u8]) -> bool
+    ensures { result ≡ list_all is_ascii_digit octets.now }
+{
+    octets.iter().all(|b| b.is_ascii_digit())
+}
+
+fn has_leading_zero(octets: &[u8]) -> bool
+    ensures { result ≡ spec.has_leading_zero octets.now }
+{
+    match octets {
+        [first, _, ..] => *first == b'0',
+        _ => false,
+    }
 }

@@ -5,7 +5,8 @@ ghost use Rattle.std.specs.List.{slice_split};
 ghost use Rattle.std.specs.Str.Lines.{lines as lines_of};
 ghost use Rattle.fn_bits.specs.Lines.{numbered_lines};
 ghost use Rattle.fn_cert.specs.Drafts as spec;
-ghost use Rattle.fn_cert.specs.Faults.{IsReading, Blames, number_of, Stops};
+ghost use Rattle.fn_cert.specs.Faults.{IsReading, Blames, Stops};
+ghost use Rattle.fn_cert.specs.Faults as said;
 ghost use Rattle.fn_cert.specs.declared.draft.Stage.TheVariants as stage;
 
 use crate::certificate::Certificate;
@@ -71,7 +72,7 @@ pub fn read(alloc: Global, profile: &Profile, text: &str) -> Result<Certificate,
 /// What the lines make, one after the other.
 fn drafted(alloc: Global, methods: &[Method], lines: &[Line<'_>]) -> Result<Draft, CertificateError>
     ensures found { IfOk result (λ d. spec.read_lines methods.now spec.start (map (λ l. l.text.now) lines.now) ≡ Some d) }
-    ensures fault { IfErr result (λ e. (n : ℕ) → number_of e ≡ Some n → Stops methods.now (map (λ l. (l.number, l.text.now)) lines.now) n) }
+    ensures fault { IfErr result (λ e. (f : Fault) (n : ℕ) → said.fault_of e ≡ Some (f, n) → Stops methods.now (map (λ l. (l.number, l.text.now)) lines.now) f n) }
 {
     let mut draft = Draft::new(alloc);
     for line in lines {
@@ -91,7 +92,7 @@ fn words(alloc: Global, line: &str) -> Result<Vec<&str>, AllocError>
 }
 
 fn error_at(fault: Fault, line: usize) -> CertificateError
-    ensures { number_of result ≡ Some line }
+    ensures { said.fault_of result ≡ Some (fault, line) }
 {
     match fault {
         Fault::BadWord => CertificateError::BadWord { line },

@@ -1,16 +1,20 @@
 use Rattle.std.proofs.Common.{◌∙◌, sym, ap, subst, map}
 use Rattle.fn_cert.specs.Drafts.{next, when}
 use Rattle.fn_cert.specs.Faults.{Stops}
+use Rattle.fn_cert.specs.Shapes.{line_fault}
 use Rattle.fn_cert.proofs.Meaning.{some_is}
 use Rattle.fn_cert.proofs.Outcome.{drafted_more, stops_at}
 use Rattle.fn_cert.proofs.reading.drafted.Goals as goal
 
 pub returns-then-not-branch-clause-fault : goal.returns-then-not-branch-clause-fault
-returns-then-not-branch-clause-fault c = λ n e.
+returns-then-not-branch-clause-fault c = λ f n e.
     let shown = ap (map (λ w. w.now)) c.as_slice.ensures.value ∙ c.in_ok-words.ensures in
+    let again = ap (map (λ w. w.now)) c.as_slice-then-not-branch.ensures.value ∙ c.in_ok-words.ensures in
     let stopped = ap (next c.args.methods.now c.loop-line.draft) (sym shown) ∙ c.in_ok-next.ensures ∙ ap (λ b. when b c.next.new.self) c.if-not-branch.true in
-    subst (Stops c.args.methods.now (map (λ l. (l.number, l.text.now)) c.args.lines.now)) (some_is _ n (sym c.error_at.ensures ∙ e))
-    (stops_at (λ l. (l.number, l.text.now)) c.args.methods.now c.args.lines.now c.loop-line.line-index _ c.loop-line.draft c.loop-line-test.true c.loop-line.invariant stopped)
+    let same = some_is _ (f, n) (sym c.error_at.ensures ∙ e) in
+    subst (λ p. Stops c.args.methods.now (map (λ l. (l.number, l.text.now)) c.args.lines.now) p.0 p.1) same
+    (stops_at (λ l. (l.number, l.text.now)) c.args.methods.now c.args.lines.now c.loop-line.line-index _ c.loop-line.draft c.fault_of.result c.loop-line-test.true c.loop-line.invariant stopped
+    (λ k is. c.fault_of.ensures k (ap line_fault again ∙ is)))
 
 pub loop-line-preserved : goal.loop-line-preserved
 loop-line-preserved c =

@@ -12,7 +12,7 @@ returns-in_err-draft-clause-fault c =
     let all = ap (map (λ l. (l.number, l.text.now))) c.as_slice.ensures.value ∙ c.in_ok-lines.ensures in
     rw (p.1, p.2)
     (blamed c.args.profile.now.methods c.keeps.ensures.named c.args.text.now c.in_err-draft.field-0.0
-    (λ n e. subst (λ ls. Stops c.args.profile.now.methods ls n) all (subst (λ ms. Stops ms (map (λ l. (l.number, l.text.now)) c.as_slice.result.now) n) c.methods.ensures (c.in_err-draft.ensures.fault n e))))
+    (λ f n e. subst (λ ls. Stops c.args.profile.now.methods ls f n) all (subst (λ ms. Stops ms (map (λ l. (l.number, l.text.now)) c.as_slice.result.now) f n) c.methods.ensures (c.in_err-draft.ensures.fault f n e))))
 
 pub returns-then-not-is_whole-clause-fault : goal.returns-then-not-is_whole-clause-fault
 returns-then-not-is_whole-clause-fault c =
