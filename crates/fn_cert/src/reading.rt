@@ -49,8 +49,8 @@ impl From<AllocError> for CertificateError {
     }
 }
 
-/// The certificate of the profile that a text spells (docs/FORMATS.md). A text above `TEXT_LIMIT` is a fault of line 1, before all others; else the error
-/// names the first line with which the lines so far begin no certificate of the profile, or the line after the last where more would have to come.
+/// The certificate of the profile that a text spells (docs/FORMATS.md). A text above `TEXT_LIMIT` is a fault of line 1, before all others. Else the error names a
+/// line such that no certificate of the profile has lines that begin with those up to it, or the line after the last where more would have to come.
 pub fn read(alloc: Global, profile: &Profile, text: &str) -> Result<Certificate, CertificateError>
     ensures found { IfOk result (λ c. IsReading profile.now.methods (numbered_lines text.now) c) }
     ensures fault { IfErr result (λ e. Blames profile.now.methods e text.now) }
