@@ -179,7 +179,13 @@ pub(crate) fn verdict_line(
             format,
         } => {
             let format = format_name(methods, method, format);
-            node_line(alloc, "check: V4 ", method_name(methods, method), node, format)
+            node_line(
+                alloc,
+                "check: V4 ",
+                method_name(methods, method),
+                node,
+                format,
+            )
         },
         CheckFault::ShortFormat {
             method,
@@ -187,7 +193,13 @@ pub(crate) fn verdict_line(
             format,
         } => {
             let format = format_name(methods, method, format);
-            node_line(alloc, "check: V5 ", method_name(methods, method), node, format)
+            node_line(
+                alloc,
+                "check: V5 ",
+                method_name(methods, method),
+                node,
+                format,
+            )
         },
         CheckFault::OutOfRange { method, node } => {
             range_line(alloc, method_name(methods, method), node)
@@ -255,7 +267,11 @@ fn names(
 ) -> Result<String, AllocError>
     ensures { IfOk result (λ text. string_bytes text ≡ spec.names methods.now method format) }
 {
-    both(alloc, method_name(methods, method), format_name(methods, method, format))
+    both(
+        alloc,
+        method_name(methods, method),
+        format_name(methods, method, format),
+    )
 }
 
 fn both(alloc: Global, name: &str, format: &str) -> Result<String, AllocError>
