@@ -125,7 +125,33 @@ def fronts():
         yield "INITIAL after %d tokens" % count, shows(front + "INITIAL"), 1, AT_THE_END if goes_on else fault(front, "E10", "unexpected token")
 
 
+def certificates():
+    """Certificates of `tick` at a limit, and one step, node, depth or octet above it. The tree begins at line 3, the steps at line 8; what is whole lacks a format, or a leaf is wrong."""
+    head = "rohcfn-certificate 1\nmethod tick\n"
+    plan = head + "bit 0\nleaf short\nleaf full\nformat short\nread\n"
+    for count, answer in [(2048, "check: V3 tick short read sn U"), (2049, "certificate:2056: K3 above limits")]:
+        yield "%d steps" % count, plan + "library d up\n" * count + "write\nend\n", answer
+    for depth, answer in [(128, "check: V5 tick node 8 short"), (129, "certificate:131: K3 above limits")]:
+        yield "depth %d" % depth, head + "bit 0\n" + "".join("bit %d\n" % i for i in range(1, depth - 1)) + "none\n" * depth + "end\n", answer
+    for count, answer in [(4095, "check: V4 tick node 11 short"), (4097, "certificate:4099: K3 above limits")]:
+        yield "%d nodes" % count, head + whole_tree(12) * (count == 4095) + whole_tree(13) * (count == 4097) + "end\n", answer
+    for count, answer in [(1 << 20, "certificate:1: K1 bad word"), ((1 << 20) + 1, "certificate:1: K3 above limits")]:
+        yield "a text of %d octets" % count, "x" * (count - 1) + "\n", answer
+
+
+def whole_tree(depth):
+    """All nodes of a tree whose leaves have that depth, in preorder; each test is of bit 0."""
+    if depth == 1:
+        return "none\n"
+    return "bit 0\n" + whole_tree(depth - 1) + whole_tree(depth - 1)
+
+
+def checked():
+    for name, text, answer in certificates():
+        yield name, bundle(b"check --top tick", TICK.encode(), b"=== certificate\n" + text.encode()), 1, answer.encode() + b"\n"
+
+
 def cases():
     """Name, bundle, status and output of each."""
-    for part in (counts, nestings, packed, long_inputs, fronts):
+    for part in (counts, nestings, packed, long_inputs, fronts, checked):
         yield from part()

@@ -1,5 +1,5 @@
 #!/usr/bin/env bash
-# Runs each example through the built program and compares what it prints; then the cases of cases/ and of built.py.
+# Runs each example through the built program and compares what it prints; then the cases of cases/ and of built.py, and certificates with a slip against a second reading.
 set -u
 cd "$(dirname "$0")"
 passed=0
@@ -15,4 +15,5 @@ for bundle in *.bundle; do
 done
 echo "examples: $passed passed, $failed failed"
 ./cases.py || failed=1
+./certificates.py || failed=1
 [ "$failed" -eq 0 ]
