@@ -155,9 +155,9 @@ pub fn register(alloc: Global, out: &mut String, rest: &str) -> Result<()> {
     let (times, word) = parted(rest, " ")?;
     let covered = bits(alloc, word)?;
     ensure!(covered.len() % 8 == 0, "no whole octets");
-    let mut register = 0xff_u8;
+    let mut register = 0xff;
     for _ in 0..count(times)? {
-        register = crc_of(8, 0xe0, u64::from(register), &covered) as u8;
+        register = crc_of(8, 0xe0, register, &covered);
     }
     Ok(write!(out, "{register:02x}")?)
 }
