@@ -116,11 +116,9 @@ class Reader:
 
     def begin_format(self, name):
         self.known_word(name)
-        here = self.methods[self.method].formats if self.method >= 0 else []
-        if self.stage not in ("formats", "write"):
-            raise Fault("K1 bad word")
-        n = named(here, name, Format.shown)
-        self.want(n > self.format)
+        self.want(self.method >= 0)
+        n = named(self.methods[self.method].formats, name, Format.shown)
+        self.want(self.stage in ("formats", "write") and n > self.format)
         self.format, self.stage = n, "head"
         self.entries[self.method][1][n] = ([], [])
 
@@ -131,12 +129,13 @@ class Reader:
         values = [number(rest[0])] if head == "bit" else [rest[0], constant(rest[1])] if head == "param" else list(rest)
         if head == "bit" and values[0] >= LIMIT["offset"]:
             raise Fault("K3 above limits")
-        self.want(self.stage == "tree")
+        self.want(self.method >= 0)
         m = self.methods[self.method]
         if head == "param":
             values[0] = named(list(m.parameters), values[0], lambda it: it)
         if head == "leaf":
             values[0] = named(m.formats, values[0], Format.shown)
+        self.want(self.stage == "tree")
         tree, depth = self.entries[self.method][0], self.open.pop()
         if len(tree) == LIMIT["nodes"] or depth > LIMIT["depth"]:
             raise Fault("K3 above limits")
@@ -154,11 +153,12 @@ class Reader:
             self.want(rest[1] in ("U", "C"))
         if head == "solve" or head == "length" and rest[2] != "method":
             rest[-1] = number(rest[-1])
-        self.want(self.stage in ("read", "write"))
+        self.want(self.stage in ("head", "read", "write"))
         f = self.methods[self.method].formats[self.format]
         rest[0] = f.fields[named(f.fields, rest[0], lambda it: it.name)].name
         if isinstance(rest[-1], int) and rest[-1] >= len(f.constraints):
             raise Fault("K2 unknown name")
+        self.want(self.stage != "head")
         plan = self.entries[self.method][1][self.format][self.stage == "write"]
         if len(plan) == LIMIT["steps"]:
             raise Fault("K3 above limits")
