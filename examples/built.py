@@ -3,24 +3,9 @@
 The places are counted here from the parts that the text is built of, by docs/FORMATS.md; none is taken from the program."""
 import re
 
-PLAIN = b"plain\n{\n  UNCOMPRESSED { a [4]; b [12]; }\n  COMPRESSED {\n    d =:= '10' [2];\n    a =:= irregular(4) [4];\n    b =:= irregular(12) [12];\n  }\n}\n"
+from samples import TICK
 
-TICK = """tick
-{
-  UNCOMPRESSED {
-    sn [8];
-  }
-  COMPRESSED short {
-    d =:= '0' [1];
-    sn =:= lsb(4, 1) [4];
-    c =:= crc(3, 0x06, 0x07, THIS.UVALUE, THIS.ULENGTH) [3];
-  }
-  COMPRESSED full {
-    d =:= '1' [1];
-    sn =:= irregular(8) [8];
-  }
-}
-"""
+PLAIN = b"plain\n{\n  UNCOMPRESSED { a [4]; b [12]; }\n  COMPRESSED {\n    d =:= '10' [2];\n    a =:= irregular(4) [4];\n    b =:= irregular(12) [12];\n  }\n}\n"
 
 NO_TOP = b"profile:1:1: E27 no such top method without parameters\n"
 
