@@ -49,4 +49,5 @@ def main():
     report("growth", all([grows(command, cases(command), 64) for command in ("pack", "unpack")]))
 
 
-main()
+if __name__ == "__main__":
+    main()

@@ -1,0 +1,5 @@
+pub mod Pairs
+pub mod Steps
+pub mod Nodes
+pub mod Making
+pub mod Ordering
