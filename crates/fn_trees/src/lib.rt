@@ -2,9 +2,11 @@
 #![tactic(auto)]
 
 pub use counts::count_candidates;
+pub use equations::Equation;
 pub use fault::TreeFault;
-pub use judging::tree_fault;
+pub use judging::{is_in_range, tree_fault};
 pub use ordering::callees_first;
+pub use told::{Test, Told, all_told};
 
 mod choices;
 pub mod counts;
