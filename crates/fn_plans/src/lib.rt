@@ -11,7 +11,7 @@ pub mod choosing;
 mod constraints;
 mod facts;
 pub mod fault;
-mod fields;
+pub mod fields;
 mod forms;
 pub mod judging;
 pub mod knowledge;
