@@ -1,7 +1,7 @@
 //! Whether a certificate's decision trees part the formats of their methods.
 #![tactic(auto)]
 
-pub use counts::count_candidates;
+pub use counts::{count_candidates, format_count};
 pub use equations::Equation;
 pub use fault::TreeFault;
 pub use judging::{is_in_range, tree_fault};

@@ -1,0 +1,11 @@
+pub mod Bounds
+pub mod Compares
+pub mod Fitting
+pub mod Kept
+pub mod Levels
+pub mod Listing
+pub mod Order
+pub mod Packing
+pub mod Reading
+pub mod Splitting
+pub mod Sums
