@@ -27,3 +27,7 @@ pub mod NamedMethods
 pub mod KeptNames
 pub mod Refusing
 pub mod Tokens
+pub mod TreeValues
+pub mod AskedNames
+pub mod AskedLengths
+pub mod AskedFields
