@@ -10,7 +10,7 @@ use Rattle.fn_rules.specs.Counts.{ways, plan_ways, AreCounts}
 use Rattle.fn_best.specs.declared.digits.Digits.{Digits}
 use Rattle.fn_best.specs.Codes.{number}
 use Rattle.fn_best.specs.Digits.{InSpan}
-use Rattle.fn_best.specs.Reading.{IsNext, IsReading, ReadsOn, CarriesOn, ShareDigits, ShareUpTo}
+use Rattle.fn_best.specs.Reading.{Divides, IsNext, IsReading, ReadsOn, CarriesOn, ShareDigits, ShareUpTo}
 use Rattle.fn_best.proofs.Reading.{digit_under, wider, known, skip}
 
 -- ---- numbers
@@ -34,15 +34,16 @@ others_are radix others span e above =
     ap (λ z. z / radix) (sym e) ∙ a
 
 -- what `next` makes of a place
-pub next_is : (radix others : ℕ) (old : Digits) → radix * others ≡ old.span → old.rest < old.span →
+pub next_is : (radix : ℕ) (old : Digits) → Divides radix old.span → old.rest < old.span →
     IsNext radix old (old.rest / (old.span / radix)) (record { rest = old.rest % (old.span / radix); span = old.span / radix })
-next_is radix others old e l =
-    let above = ways_above radix others old.span old.rest e l in
-    let span_is = others_are radix others old.span e above.0 in
-    subst (λ z. IsNext radix old (old.rest / z) (record { rest = old.rest % z; span = z })) (sym span_is) (split above.1)
+next_is radix old divides l =
+    let e = divides.1 in
+    let above = ways_above radix divides.0 old.span old.rest e l in
+    let span_is = others_are radix divides.0 old.span e above.0 in
+    subst (λ z. IsNext radix old (old.rest / z) (record { rest = old.rest % z; span = z })) (sym span_is) (split divides.0 e above.1)
   where
-    split : 0 < others → IsNext radix old (old.rest / others) (record { rest = old.rest % others; span = others })
-    split above =
+    split : (others : ℕ) → radix * others ≡ old.span → 0 < others → IsNext radix old (old.rest / others) (record { rest = old.rest % others; span = others })
+    split others e above =
         let whole = div-add-mod' old.rest others in
         let under : old.rest / others * others + old.rest % others < radix * others = omega (arith, whole, e, l) in
         record {
@@ -95,8 +96,11 @@ module _ (radix : ℕ) (old : Digits) (digit : ℕ) (new : Digits) (next : IsNex
       theirs = (known methods cert counts are k n format before.base step steps before.all digit digit_below).1;
     }
 
-  pub carries : CarriesOn radix old digit new
+  carries : CarriesOn radix old digit new
   carries = carried
+
+pub next_carries : (radix : ℕ) (old : Digits) → Divides radix old.span → old.rest < old.span → CarriesOn radix old (old.rest / (old.span / radix)) (record { rest = old.rest % (old.span / radix); span = old.span / radix })
+next_carries radix old divides l = carries radix old _ _ (next_is radix old divides l)
 
 -- ---- what is skipped
 
@@ -107,11 +111,11 @@ shares place skipped e methods cert counts k n format steps c reading f tried fr
     let i : InSpan methods cert counts k format reading.base steps f = record { from = omega (arith, number_is, from); to = omega (arith, number_is, span_is, e, to) } in
     record { within = i; read = reading.all f tried i }
 
-pub skipped_are : (m span rest : ℕ) → rest < span → 0 < m → (m * span - rest) + rest ≡ m * span
+skipped_are : (m span rest : ℕ) → rest < span → 0 < m → (m * span - rest) + rest ≡ m * span
 skipped_are m span rest l above = let least : 1 * span ≤ m * span = mul-le-mul_right span (omega (arith, above)) in omega (arith, least, l)
 
-pub shares_up_to : (m : ℕ) (place : Digits) (skipped : ℕ) → skipped + place.rest ≡ m * place.span → ShareUpTo m place skipped
-shares_up_to m place skipped e methods cert counts are k n format step steps c old before digit on within f tried from to =
+up_to : (m : ℕ) (place : Digits) (skipped : ℕ) → skipped + place.rest ≡ m * place.span → ShareUpTo m place skipped
+up_to m place skipped e methods cert counts are k n format step steps c old before digit on within f tried from to =
     let w = plan_ways counts format steps in
     let number_is = on.after.number_is in
     let span_is = on.after.span_is in
@@ -123,3 +127,6 @@ shares_up_to m place skipped e methods cert counts are k n format step steps c o
     let most : (digit + m) * w ≤ ways counts format step * w = mul-le-mul_right w within in
     let h = skip methods cert counts are k n format before.base step steps before.all digit m within f tried above under in
     (record { within = record { from = omega (arith, above); to = omega (arith, under, most) }; read = h.0 }, h.1, h.2)
+
+pub shares_up_to : (m : ℕ) (place : Digits) → place.rest < place.span → 0 < m → ShareUpTo m place (m * place.span - place.rest)
+shares_up_to m place l above = up_to m place (m * place.span - place.rest) (skipped_are m place.span place.rest l above)
