@@ -8,7 +8,7 @@ pub use knowledge::{FieldKnowledge, Knowledge};
 pub use rules::rule_of;
 
 pub mod choosing;
-mod constraints;
+pub mod constraints;
 mod facts;
 pub mod fault;
 mod fields;
@@ -16,7 +16,7 @@ mod forms;
 pub mod judging;
 pub mod knowledge;
 pub mod laws;
-mod library;
+pub mod library;
 mod reading;
 pub mod rules;
 mod writing;
