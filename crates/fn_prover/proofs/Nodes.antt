@@ -32,6 +32,7 @@ use Rattle.fn_trees.specs.declared.equations.Equation.{Equation}
 use Rattle.fn_trees.specs.Equations.{parameter_of, paired, equality, compared, condition_equation, equation_of}
 use Rattle.fn_parting.specs.Parting.{Numbered, numbered, all_of, TreeRule, NodeRule, least_offset, first_equation, parts_by, equations}
 use Rattle.fn_parting.specs.Growing.{those, OrderedTree}
+use Rattle.fn_parting.proofs.Whole.{counted}
 use Rattle.fn_prover.proofs.Pairs as pairs
 
 -- ---- lists
@@ -153,17 +154,11 @@ module _ (methods : List Method) (m : Method) (sound : (n : ℕ) (f : Format) �
   node_of ranges (z ∷ w ∷ set) x all is = test_of ranges (z ∷ w ∷ set) (Some x) x all is refl
 
   -- each node of whole trees is reached
-  onward_long : (reach : Reach) (x : Node) (more : List Reach) → length (onward reach x ++ more) ≡ trees_after x (length more)
-  onward_long reach (node.Bit o) more = refl
-  onward_long reach (node.Parameter i c) more = refl
-  onward_long reach (node.Leaf n) more = refl
-  onward_long reach node.Nowhere more = refl
-
   reached : (reaches : List Reach) (nodes : List Node) (n : ℕ) (x : Node) → are_trees (length reaches) nodes ≡ true → slice_get nodes n ≡ Some x → (reach : Reach) × (reach_at reaches nodes n ≡ Some reach)
   reached reaches [] n x whole at = absurd cc
   reached [] (y ∷ nodes) n x whole at = absurd cc
   reached (reach ∷ more) (y ∷ nodes) zero x whole at = (reach, refl)
-  reached (reach ∷ more) (y ∷ nodes) (suc n) x whole at = reached (onward reach y ++ more) nodes n x (ap (λ k. are_trees k nodes) (onward_long reach y more) ∙ whole) at
+  reached (reach ∷ more) (y ∷ nodes) (suc n) x whole at = reached (onward reach y ++ more) nodes n x (ap (λ k. are_trees k nodes) (counted reach y more) ∙ whole) at
 
   pub tree_of : (s : MethodSizes) (nodes : List Node) → OrderedTree m.formats s nodes → AllByRecursion (IsNodeOf m) nodes
   tree_of s nodes tree = pairs.all_of (IsNodeOf m) nodes (λ n x at.

@@ -18,6 +18,9 @@ use Rattle.fn_rules.specs.Trees.{PartsFormats}
 use Rattle.fn_rules.proofs.Refusals.{IsTopFault, many, long, of_the_top}
 use Rattle.fn_order.specs.Order.{order_of}
 use Rattle.fn_order.specs.Refusals.{NeverLearns}
+use Rattle.fn_order.proofs.Refused.{lacking_has_no_plan, ordered_is_plan}
+use Rattle.fn_parting.proofs.Ruling.{ordered_parts}
+use Rattle.fn_parting.proofs.Whole.{stuck_has_no_tree}
 use Rattle.fn_prover.specs.Laws.{UnplannedHasNoPlan, UnpartedHasNoTree, OrderedIsRight, OrderedIsRefused}
 
 pub unplanned_has_no_plan : UnplannedHasNoPlan

@@ -5,8 +5,8 @@ use Rattle.fn_cert.specs.declared.certificate.Direction.{Direction}
 use Rattle.fn_cert.specs.Kept.{Entries}
 use Rattle.fn_cert.specs.Text.{certificate_text, side_word}
 use Rattle.fn_profile.specs.Resolved.{Resolved}
+use Rattle.fn_order.specs.declared.fault.FieldSide.{FieldSide}
 use Rattle.fn_prover.specs.Proved.{IsProved, IsUnproved}
-use Rattle.fn_prover.specs.declared.unproved.Slot.{Slot}
 use Rattle.fn_prover.specs.declared.unproved.Unproved.{Unproved}
 use Rattle.fn_prover.specs.declared.unproved.Unproved.TheVariants.{NoPlan, NoTree, Limit, OutOfMemory}
 use Rattle.rohcfn_tool.specs.declared.status.Answer.{Answer}
@@ -15,12 +15,12 @@ use Rattle.rohcfn_tool.specs.declared.status.Status.TheVariants as status
 use Rattle.rohcfn_tool.specs.Verdicts.{JudgedBy, names, method_name, format_name, field_name, direction_word}
 
 -- a side of a field of a format, after a blank
-abbrev pub slot_words : List Method → ℕ → ℕ → Slot → List ℕ
-slot_words methods k n slot = codes " " ++ field_name methods k n slot.field ++ codes " " ++ side_word slot.side
+abbrev pub side_words : List Method → ℕ → ℕ → FieldSide → List ℕ
+side_words methods k n side = codes " " ++ field_name methods k n side.field ++ codes " " ++ side_word side.side
 
 -- those that no plan of a format learns
-abbrev pub plan_line : List Method → ℕ → ℕ → Direction → List Slot → List ℕ
-plan_line methods k n direction slots = codes "prove: P1 NoPlan " ++ names methods k n ++ codes " " ++ direction_word direction ++ flat_map (slot_words methods k n) slots
+abbrev pub plan_line : List Method → ℕ → ℕ → Direction → List FieldSide → List ℕ
+plan_line methods k n direction sides = codes "prove: P1 NoPlan " ++ names methods k n ++ codes " " ++ direction_word direction ++ flat_map (side_words methods k n) sides
 
 -- two formats that no tree parts
 abbrev pub tree_line : List Method → ℕ → ℕ → ℕ → List ℕ
@@ -28,7 +28,7 @@ tree_line methods k first second = codes "prove: P2 NoTree " ++ method_name meth
 
 -- the line of why there is no certificate
 abbrev pub IsUnprovedLine : List Method → Unproved → List ℕ → Type 0
-IsUnprovedLine methods (NoPlan k n direction slots) text = text ≡ plan_line methods k n direction slots
+IsUnprovedLine methods (NoPlan k n direction sides) text = text ≡ plan_line methods k n direction sides
 IsUnprovedLine methods (NoTree k first second) text = text ≡ tree_line methods k first second
 IsUnprovedLine methods Limit text = text ≡ codes "prove: P3 Limit"
 IsUnprovedLine methods OutOfMemory text = ⊥

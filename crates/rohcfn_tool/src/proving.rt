@@ -12,8 +12,9 @@ use crate::verdicts::{direction_word, field_name, format_name, method_name, name
 use fn_cert::{Direction, print};
 use fn_names::read;
 use fn_normal::Method;
+use fn_order::FieldSide;
 use fn_profile::Profile;
-use fn_prover::{Slot, Unproved, prove};
+use fn_prover::{Unproved, prove};
 use std::alloc::{AllocError, Global};
 
 /// The answer to `prove`: the text of the certificate that is made, or the line of the profile's fault or of what is missing.
@@ -65,8 +66,8 @@ pub(crate) fn unproved_line(
             method,
             format,
             direction,
-            slots,
-        } => plan_line(alloc, methods, method, format, direction, slots.as_slice()),
+            sides,
+        } => plan_line(alloc, methods, method, format, direction, sides.as_slice()),
         Unproved::NoTree {
             method,
             first,
@@ -84,47 +85,47 @@ fn plan_line(
     method: usize,
     format: usize,
     direction: Direction,
-    slots: &[Slot],
+    sides: &[FieldSide],
 ) -> Result<String, AllocError>
-    ensures { IfOk result (λ text. string_bytes text ≡ spec.plan_line methods.now method format direction slots.now) }
+    ensures { IfOk result (λ text. string_bytes text ≡ spec.plan_line methods.now method format direction sides.now) }
 {
     let names = names(alloc, methods, method, format)?;
     let names = names.as_str();
     let direction = direction_word(direction);
-    let slots = slots_text(alloc, methods, method, format, slots)?;
-    let slots = slots.as_str();
-    format!(in alloc; "prove: P1 NoPlan {names} {direction}{slots}")
+    let sides = sides_text(alloc, methods, method, format, sides)?;
+    let sides = sides.as_str();
+    format!(in alloc; "prove: P1 NoPlan {names} {direction}{sides}")
 }
 
 /// Sides of fields, a blank before each.
-fn slots_text(
+fn sides_text(
     alloc: Global,
     methods: &[Method],
     method: usize,
     format: usize,
-    slots: &[Slot],
+    sides: &[FieldSide],
 ) -> Result<String, AllocError>
-    ensures { IfOk result (λ text. string_bytes text ≡ flat_map (spec.slot_words methods.now method format) slots.now) }
+    ensures { IfOk result (λ text. string_bytes text ≡ flat_map (spec.side_words methods.now method format) sides.now) }
 {
     let mut output = String::new(alloc);
-    for slot in slots {
-        let words = slot_text(alloc, methods, method, format, *slot)?;
+    for side in sides {
+        let words = side_text(alloc, methods, method, format, *side)?;
         output.push_str(words.as_str())?;
     }
     Ok(output)
 }
 
-fn slot_text(
+fn side_text(
     alloc: Global,
     methods: &[Method],
     method: usize,
     format: usize,
-    slot: Slot,
+    side: FieldSide,
 ) -> Result<String, AllocError>
-    ensures { IfOk result (λ text. string_bytes text ≡ spec.slot_words methods.now method format slot) }
+    ensures { IfOk result (λ text. string_bytes text ≡ spec.side_words methods.now method format side) }
 {
-    let field = field_name(methods, method, format, slot.field);
-    let side = side_word(slot.side);
+    let field = field_name(methods, method, format, side.field);
+    let side = side_word(side.side);
     format!(in alloc; " {field} {side}")
 }
 
