@@ -1,0 +1,11 @@
+pub mod Sets
+pub mod Elements
+pub mod Closing
+pub mod Shapes
+pub mod Covering
+pub mod Searched
+pub mod Linked
+pub mod Planned
+pub mod Wanted
+pub mod Refused
+pub mod Example
