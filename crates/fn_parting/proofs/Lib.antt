@@ -1,0 +1,9 @@
+pub mod Elements
+pub mod Testing
+pub mod Ruling
+pub mod Whole
+pub mod Growth
+pub mod Telling
+pub mod Finding
+pub mod Deep
+pub mod Outcome

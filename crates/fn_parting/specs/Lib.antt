@@ -1,0 +1,4 @@
+pub mod Parting
+pub mod Growing
+pub mod Known
+pub mod Laws
