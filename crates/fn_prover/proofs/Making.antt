@@ -5,6 +5,7 @@ use Rattle.std.specs.List.{AllByRecursion}
 use Rattle.fn_normal.specs.declared.profile.Format.{Format}
 use Rattle.fn_normal.specs.declared.profile.Method.{Method}
 use Rattle.fn_normal.specs.declared.profile.MethodSizes.{MethodSizes}
+use Rattle.fn_profile.specs.Resolved.{Resolved, IsSound}
 use Rattle.fn_profile.specs.WellFormed.{AreWellFormed, FormatIsSound}
 use Rattle.fn_filling.proofs.Unique.{also_at}
 use Rattle.fn_cert.specs.declared.certificate.Direction.TheVariants.{Read, Write}
@@ -82,7 +83,7 @@ module _ (table : List MethodSizes) where
     entry_of sound k m s (Some entry) at is = made_method_of methods m s entry (λ n f here. sound.formats k n m f at here) is
 
     has_formats : (k : ℕ) (m : Method) (s : MethodSizes) (first : Format) (o : Option MethodPlans) → slice_get m.formats 0 ≡ Some first → slice_get cert k ≡ Some o → IsEntryMade table m s o → HasOrderedEntry table m s cert k
-    has_formats k m s first None has at is = absurd (let e : slice_get {A = Format} [] 0 ≡ Some first = ap (λ fs. slice_get fs 0) (sym is) ∙ has in cc)
+    has_formats k m s first None has at is = absurd (let e : None ≡ Some first = ap (λ fs. slice_get fs 0) (sym is) ∙ has in cc)
     has_formats k m s first (Some entry) has at is = has_entry m s cert k entry (ap (λ o. option_and_then (λ x. x) o) at) is
 
     pub made_ordered : AreWellFormed methods → IsOrdered methods table cert
@@ -90,3 +91,17 @@ module _ (table : List MethodSizes) where
       entries = λ k m s first at sized has. let o = at_method k m s at sized in has_formats k m s first o.0 has o.1 o.2;
       of = zip_of IsEntryOf methods cert made.each (λ k m o at there. let s = also_at methods table k m (sym each) at in entry_of sound k m s.0 o at (made.made k m s.0 o at s.1 there));
     }
+
+-- ---- of a profile
+
+module _ (p : Resolved) (methods : List Method) (table : List MethodSizes) (cert : Entries) (sound : IsSound p) (same_methods : methods ≡ p.methods) (same_table : table ≡ p.sizes) (made : AreMade methods table cert) where
+  as_long : length table ≡ length methods
+  as_long = ap length same_table ∙ sound.sized.each ∙ sym (ap length same_methods)
+
+  pub sound_kept : AreKept cert
+  sound_kept = made_kept table methods cert as_long made
+
+  pub sound_ordered : (whole : Entries) → whole ≡ cert → IsOrdered p.methods p.sizes whole
+  sound_ordered whole is =
+      let here : IsOrdered methods table cert = made_ordered table methods cert as_long made (subst AreWellFormed (sym same_methods) sound.well_formed) in
+      subst (λ ms. IsOrdered ms p.sizes whole) same_methods (subst (λ t. IsOrdered methods t whole) same_table (subst (λ (c : Entries). IsOrdered methods table c) (sym is) here))

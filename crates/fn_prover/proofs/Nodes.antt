@@ -30,7 +30,7 @@ use Rattle.fn_rules.specs.Rules.{first_or}
 use Rattle.fn_rules.specs.Trees.{Reach, reach_at, onward, everything}
 use Rattle.fn_trees.specs.declared.equations.Equation.{Equation}
 use Rattle.fn_trees.specs.Equations.{parameter_of, paired, equality, compared, condition_equation, equation_of}
-use Rattle.fn_parting.specs.Parting.{Numbered, numbered, all_of, TreeRule, NodeRule, least_offset, first_equation, parts_by, equations}
+use Rattle.fn_parting.specs.Parting.{Numbered, numbered, all_of, TreeRule, NodeRule, least_offset, first_equation, no_test, parts_by, equations}
 use Rattle.fn_parting.specs.Growing.{those, OrderedTree}
 use Rattle.fn_parting.proofs.Whole.{counted}
 use Rattle.fn_prover.proofs.Pairs as pairs
@@ -40,10 +40,10 @@ use Rattle.fn_prover.proofs.Pairs as pairs
 -- what is found has what all have
 all_find : {A : Type 0} (P : A → Type 0) (p : A → Bool) (xs : List A) (x : A) → AllByRecursion P xs → find p xs ≡ Some x → P x
 all_find P p [] x all e = absurd cc
-all_find P p (y ∷ ys) x all e = by (p y) e where
-  by : (b : Bool) → cond b (Some y) (find p ys) ≡ Some x → P x
-  by true h = let same : y ≡ x = cc in subst P same all.0
-  by false h = all_find P p ys x all.1 h
+all_find P p (y ∷ ys) x all e = by (p y) (all_find P p ys x all.1) e where
+  by : (b : Bool) → (find p ys ≡ Some x → P x) → cond b (Some y) (find p ys) ≡ Some x → P x
+  by true later h = let same : y ≡ x = cc in subst P same all.0
+  by false later h = later h
 
 all_joined : {A : Type 0} (P : A → Type 0) (xs ys : List A) → AllByRecursion P xs → AllByRecursion P ys → AllByRecursion P (xs ++ ys)
 all_joined P [] ys all more = more
@@ -55,17 +55,17 @@ all_flat P Q f (x ∷ xs) each all = all_joined P (f x) (flat_map f xs) (each x 
 
 all_kept : {A : Type 0} (P : A → Type 0) (p : A → Bool) (xs : List A) → AllByRecursion P xs → AllByRecursion P (filter p xs)
 all_kept P p [] all = tt
-all_kept P p (x ∷ xs) all = by (p x) where
-  by : (b : Bool) → AllByRecursion P (cond b (x ∷ filter p xs) (filter p xs))
-  by true = (all.0, all_kept P p xs all.1)
-  by false = all_kept P p xs all.1
+all_kept P p (x ∷ xs) all = by (p x) (all_kept P p xs all.1) where
+  by : (b : Bool) → AllByRecursion P (filter p xs) → AllByRecursion P (cond b (x ∷ filter p xs) (filter p xs))
+  by true rest = (all.0, rest)
+  by false rest = rest
 
 all_mapped : {A B : Type 0} (P : B → Type 0) (Q : A → Type 0) (f : A → Option B) (xs : List A) → ((x : A) (y : B) → Q x → f x ≡ Some y → P y) → AllByRecursion Q xs → AllByRecursion P (filter_map f xs)
 all_mapped P Q f [] each all = tt
-all_mapped {A} {B} P Q f (x ∷ xs) each all = by (f x) refl where
-  by : (o : Option B) → f x ≡ o → AllByRecursion P (cons_option o (filter_map f xs))
-  by None is = all_mapped P Q f xs each all.1
-  by (Some y) is = (each x y all.0 is, all_mapped P Q f xs each all.1)
+all_mapped {A} {B} P Q f (x ∷ xs) each all = by (f x) refl (all_mapped P Q f xs each all.1) where
+  by : (o : Option B) → f x ≡ o → AllByRecursion P (filter_map f xs) → AllByRecursion P (cons_option o (filter_map f xs))
+  by None is rest = rest
+  by (Some y) is rest = (each x y all.0 is, rest)
 
 -- ---- parameters
 
@@ -106,7 +106,7 @@ has_parameter (Compare s comparison x y) e is = by (equality comparison) is wher
 has_parameter _ e is = absurd cc
 
 -- the conditions of a constraint name parameters below so many
-IsBelow : ℕ → Constraint → Type 0
+abbrev IsBelow : ℕ → Constraint → Type 0
 IsBelow parameters (Enforce c place) = (k i : ℕ) → slice_get (condition_inputs_of c) k ≡ Some (input.Parameter i) → i < parameters
 IsBelow parameters (Bracket i side lengths place) = Unit {0}
 
@@ -124,7 +124,7 @@ sound_below methods parameters f sound = pairs.all_of (IsBelow parameters) f.con
 
 module _ (methods : List Method) (m : Method) (sound : (n : ℕ) (f : Format) → slice_get m.formats n ≡ Some f → FormatIsSound methods (length m.parameters) f) where
   -- a format of the method, by its number
-  IsOne : Numbered → Type 0
+  abbrev IsOne : Numbered → Type 0
   IsOne z = slice_get m.formats z.number ≡ Some z.format
 
   all_numbered : (n : ℕ) (fs : List Format) (zs : List FormatSizes) → ((i : ℕ) (f : Format) → slice_get fs i ≡ Some f → slice_get m.formats (n + i) ≡ Some f) → AllByRecursion IsOne (numbered n fs zs)
@@ -135,7 +135,7 @@ module _ (methods : List Method) (m : Method) (sound : (n : ℕ) (f : Format) �
       (here, all_numbered (n + 1) fs zs (λ i g at. ap (slice_get m.formats) (let e : n + 1 + i ≡ n + suc i = omega arith in e) ∙ is (suc i) g at))
 
   all_members : (s : MethodSizes) (reach : Reach) → AllByRecursion IsOne (those reach (all_of m.formats s))
-  all_members s reach = all_kept IsOne (λ z. reach z.format z.sizes) (all_of m.formats s) (all_numbered 0 m.formats s.formats (λ i f at. at))
+  all_members s reach = all_kept IsOne (λ z. reach z.format z.sizes) (all_of m.formats s) (all_numbered 0 m.formats s.formats (λ i f at. let none : 0 + i ≡ i = omega arith in ap (slice_get m.formats) none ∙ at))
 
   all_equations : (set : List Numbered) → AllByRecursion IsOne set → AllByRecursion (λ e. e.parameter < length m.parameters) (equations set)
   all_equations set all = all_flat (λ e. e.parameter < length m.parameters) IsOne (λ z. filter_map equation_of z.format.constraints) set
@@ -143,8 +143,8 @@ module _ (methods : List Method) (m : Method) (sound : (n : ℕ) (f : Format) �
       (sound_below methods (length m.parameters) z.format (sound z.number z.format one))) all
 
   test_of : (ranges : List Interval) (set : List Numbered) (o : Option Node) (x : Node) → AllByRecursion IsOne set → TreeRule ranges set o → o ≡ Some x → IsNodeOf m x
-  test_of ranges set o x all (least_offset {q} parts least) is = subst (IsNodeOf m) (let e : node.Bit q ≡ x = cc in e) tt
-  test_of ranges set o x all (first_equation {e} none found) is =
+  test_of ranges set o x all (least_offset {o = q} parts least) is = subst (IsNodeOf m) (let e : node.Bit q ≡ x = cc in e) tt
+  test_of ranges set o x all (first_equation {e = e} none found) is =
       subst (IsNodeOf m) (let same : node.Parameter e.parameter e.constant ≡ x = cc in same) (all_find (λ z. z.parameter < length m.parameters) (parts_by ranges set) (equations set) e (all_equations set all) found)
   test_of ranges set o x all (no_test none h) is = absurd cc
 

@@ -43,7 +43,7 @@ pub zip_of : {A B : Type 0} (R : A → B → Type 0) (xs : List A) (ys : List B)
 zip_of R [] [] long each = tt
 zip_of R [] (y ∷ ys) long each = absurd cc
 zip_of R (x ∷ xs) [] long each = absurd cc
-zip_of R (x ∷ xs) (y ∷ ys) long each = (each 0 x y refl refl, zip_of R xs ys cc (λ i. each (suc i)))
+zip_of R (x ∷ xs) (y ∷ ys) long each = let rest : length ys ≡ length xs = cc in (each 0 x y refl refl, zip_of R xs ys rest (λ i. each (suc i)))
 
 -- all elements, from those at the indices
 pub all_of : {A : Type 0} (P : A → Type 0) (xs : List A) → ((i : ℕ) (x : A) → slice_get xs i ≡ Some x → P x) → AllByRecursion P xs

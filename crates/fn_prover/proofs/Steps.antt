@@ -1,5 +1,5 @@
 -- A plan of the order names fields and constraints of its format.
-use Rattle.std.proofs.Common.{◌≡◌, ◌∙◌, sym, ap, subst, refl, ℕ, Bool, true, false, List, [], ◌∷◌, ◌++◌, length}
+use Rattle.std.proofs.Common.{◌≡◌, ◌∙◌, sym, ap, subst, refl, cond, ℕ, ◌<◌, Bool, true, false, List, [], ◌∷◌, ◌++◌, length}
 use Rattle.std.specs.Prelude.{Option, Some, None, slice_get, option_and_then, option_map}
 use Rattle.std.specs.List.{AllByRecursion, find}
 use Rattle.std.proofs.lemmas.Option.{slice_get_within}
@@ -72,10 +72,10 @@ ruled_of Write table format (Ask i) r e = record { field = below _ format.fields
 -- what is found passes the test
 pub found_passes : {A : Type 0} (p : A → Bool) (xs : List A) (x : A) → find p xs ≡ Some x → p x ≡ true
 found_passes p [] x e = absurd cc
-found_passes p (y ∷ ys) x e = by (p y) refl e where
-  by : (b : Bool) → p y ≡ b → cond b (Some y) (find p ys) ≡ Some x → p x ≡ true
-  by true is h = let same : y ≡ x = cc in ap p (sym same) ∙ is
-  by false is h = found_passes p ys x h
+found_passes p (y ∷ ys) x e = by (p y) refl (found_passes p ys x) e where
+  by : (b : Bool) → p y ≡ b → (find p ys ≡ Some x → p x ≡ true) → cond b (Some y) (find p ys) ≡ Some x → p x ≡ true
+  by true is later h = let same : y ≡ x = cc in ap p (sym same) ∙ is
+  by false is later h = later h
 
 has_rule : (known : List Fact) (o : Option Rule) → is_next known o ≡ true → (r : Rule) × (o ≡ Some r)
 has_rule known None e = absurd cc
