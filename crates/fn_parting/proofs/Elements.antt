@@ -1,6 +1,6 @@
 -- Tests of the elements of lists.
-use Rattle.std.proofs.Common.{◌≡◌, ◌∙◌, refl, sym, ap, subst, ℕ, zero, suc, ◌+◌, ◌<◌, Bool, true, false, cond, nat_eq, nat_lt, List, [], ◌∷◌, ◌++◌, map, length, drop, get_or, reverse, arith}
-use Rattle.std.specs.Prelude.{◌&&◌, ◌||◌, not, Option, Some, None, slice_get}
+use Rattle.std.proofs.Common.{◌≡◌, ◌∙◌, refl, sym, ap, ℕ, zero, suc, ◌+◌, ◌<◌, Bool, true, false, cond, nat_eq, nat_lt, List, [], ◌∷◌, ◌++◌, map, length, drop, get_or, reverse, arith}
+use Rattle.std.specs.Prelude.{◌&&◌, ◌||◌, not, Some, None}
 use Rattle.std.specs.List.{find, filter, flat_map, items_where_true, list_any, list_all, AllByRecursion}
 use Rattle.std.specs.Option.{option_or}
 use Rattle.std.proofs.lemmas.Bool.{eqb-true, ltb-true, ltb-false, and_parts, and_from}
@@ -18,9 +18,11 @@ any_weaker p q on (x ∷ xs) h = by (p x) refl h (any_weaker p q on xs)
   where
     or_first : (a b : Bool) → a ≡ true → (a || b) ≡ true
     or_first a b e = ap (λ a. a || b) e
+
     or_second : (a b : Bool) → b ≡ true → (a || b) ≡ true
     or_second true b e = refl
     or_second false b e = e
+
     by : (a : Bool) → p x ≡ a → (a || list_any p xs) ≡ true → (list_any p xs ≡ true → list_any q xs ≡ true) → (q x || list_any q xs) ≡ true
     by true e h rest = or_first (q x) (list_any q xs) (on x e)
     by false e h rest = or_second (q x) (list_any q xs) (rest h)

@@ -7,3 +7,4 @@ pub mod Telling
 pub mod Finding
 pub mod Deep
 pub mod Outcome
+pub mod Worked

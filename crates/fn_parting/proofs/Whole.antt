@@ -1,7 +1,7 @@
 -- A stuck set of formats stays whole in one subtree of each test.
-use Rattle.std.proofs.Common.{◌≡◌, ◌∙◌, refl, sym, ap, subst, ℕ, zero, suc, ◌+◌, ◌<◌, Bool, true, false, nat_lt, List, [], ◌∷◌, ◌++◌, length, arith}
-use Rattle.std.specs.Prelude.{◌&&◌, not, Option, Some, None, slice_get, ℤ}
-use Rattle.std.specs.List.{find, list_any, list_all, AllByRecursion}
+use Rattle.std.proofs.Common.{◌≡◌, ◌∙◌, refl, sym, ap, subst, ℕ, zero, suc, ◌<◌, Bool, true, false, List, [], ◌∷◌, ◌++◌, length, arith}
+use Rattle.std.specs.Prelude.{◌&&◌, not, Some, None, slice_get, ℤ}
+use Rattle.std.specs.List.{list_any, list_all, AllByRecursion}
 use Rattle.std.proofs.lemmas.Bool.{lt-ltb, and_parts, and_from}
 use Rattle.fn_normal.specs.declared.profile.Format.{Format}
 use Rattle.fn_normal.specs.declared.profile.MethodSizes.{MethodSizes}
@@ -10,10 +10,10 @@ use Rattle.fn_cert.specs.declared.certificate.Node.TheVariants.{Bit, Parameter, 
 use Rattle.fn_cert.specs.Kept.{are_trees, trees_after}
 use Rattle.fn_rules.specs.Trees.{Reach, Reaches, IsRight, onward, reach_at, everything, lacks_bit, never_at, only_at}
 use Rattle.fn_trees.specs.Equations.{fixes}
-use Rattle.fn_parting.specs.Parting.{Numbered, all_of, is_longer, knows, parts_at, parts_by, lies_in, equations}
+use Rattle.fn_parting.specs.Parting.{Numbered, all_of, is_longer, knows, parts_by, lies_in, equations}
 use Rattle.fn_parting.specs.Growing.{Stuck}
 use Rattle.fn_parting.specs.Laws.{StuckHasNoTree}
-use Rattle.fn_parting.proofs.Elements.{any_weaker, none_passes, none_found, both_pass, each_marked, all_pass, all_pass_by}
+use Rattle.fn_parting.proofs.Elements.{any_weaker, none_passes, none_found, both_pass, each_marked, all_pass_by}
 use Rattle.fn_parting.proofs.Testing.{lies_of, equation_there, parts_where_fixed, StandsAt, all_stand, some_rise}
 use Rattle.fn_parting.proofs.Ruling.{nothing_parts}
 
@@ -95,7 +95,7 @@ module _ (formats : List Format) (s : MethodSizes) (set : List Numbered) (st : S
   at_node reach Nowhere w right on = right st.first.number (first_arrives reach w)
   at_node reach (Bit o) w right on =
       let longer : (z : Numbered) → StandsAt formats s z → reach z.format z.sizes ≡ true → o < z.sizes.whole.compressed.least = λ z at r.
-          right z.number (record { format = z.format; sizes = z.sizes; format_at = at.format_at; sizes_at = at.sizes_at; reaches = r }) in
+      right z.number (record { format = z.format; sizes = z.sizes; format_at = at.format_at; sizes_at = at.sizes_at; reaches = r }) in
       let below = all_pass_by (StandsAt formats s) (λ z. reach z.format z.sizes) (is_longer o) (λ z at r. lt-ltb o z.sizes.whole.compressed.least (longer z at r)) set stands w in
       at_bit o below (list_any (knows true o) set) (list_any (knows false o) set) refl refl
       (λ h. on 0 (λ f z. reach f z && lacks_bit true o f z) refl (both reach (lacks_bit true o) w h))

@@ -1,5 +1,6 @@
 //! Laws of the tree of the prover's order.
 
+ghost use Rattle.fn_parting.specs.Example as example;
 ghost use Rattle.fn_parting.specs.Laws as laws;
 
 /// The rule gives a set of formats one test, or none.
@@ -21,4 +22,11 @@ pub fn ordered_is_faultless()
 /// Where a set of formats of a method is stuck, no tree of any certificate parts the formats: it has V4, V5 or V7.
 pub fn stuck_has_no_tree()
     ensures { laws.StuckHasNoTree }
+{}
+
+/// The ordered trees of three small methods.
+pub fn worked_trees()
+    ensures tick { example.TickIsOrdered }
+    ensures opt { example.OptIsOrdered }
+    ensures kind { example.KindIsOrdered }
 {}
