@@ -10,7 +10,7 @@ use Rattle.fn_normal.specs.declared.profile.Format.{Format}
 use Rattle.fn_normal.specs.declared.profile.FormatSizes.{FormatSizes}
 use Rattle.fn_normal.specs.declared.profile.MethodSizes.{MethodSizes}
 use Rattle.fn_cert.specs.declared.certificate.Node.{Node}
-use Rattle.fn_cert.specs.declared.certificate.Node.TheVariants.{Bit, Parameter, Leaf, Nowhere}
+use Rattle.fn_cert.specs.declared.certificate.Node.TheVariants.{Bit, Parameter}
 use Rattle.fn_cert.specs.Kept.{IsWide, offset_limit}
 use Rattle.fn_rules.specs.Trees.{Reach}
 use Rattle.fn_trees.specs.declared.equations.Equation.{Equation}
@@ -29,15 +29,6 @@ pub first_two : (set : List Numbered) (first second : ℕ) → slice_get (number
 first_two [] first second a b = absurd (cc)
 first_two (z ∷ []) first second a b = absurd (cc)
 first_two (z ∷ w ∷ set) first second a b = record { format = z; other = w; rest = set; is = refl; first_is = cc; second_is = cc }
-
-pub no_first : (ranges : List Interval) (set : List Numbered) → slice_get (numbers set) 0 ≡ None → NodeRule ranges set Nowhere
-no_first ranges [] e = refl
-no_first ranges (z ∷ set) e = absurd (cc)
-
-pub first_alone : (ranges : List Interval) (set : List Numbered) (first : ℕ) → slice_get (numbers set) 0 ≡ Some first → slice_get (numbers set) 1 ≡ None → NodeRule ranges set (Leaf first)
-first_alone ranges [] first a b = absurd (cc)
-first_alone ranges (z ∷ []) first a b = let same : z.number ≡ first = cc in ap Leaf (sym same)
-first_alone ranges (z ∷ w ∷ set) first a b = absurd (cc)
 
 by_rule : (ranges : List Interval) (set : List Numbered) (first second : ℕ) (x : Node) → AreFirst set first second → TreeRule ranges set (Some x) → NodeRule ranges set x
 by_rule ranges [] first second x two rule = let wrong = two.is in absurd (cc)

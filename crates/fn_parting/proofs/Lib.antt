@@ -8,3 +8,4 @@ pub mod Finding
 pub mod Deep
 pub mod Outcome
 pub mod Worked
+pub mod Faultless

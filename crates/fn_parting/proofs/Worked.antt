@@ -1,12 +1,12 @@
 -- The worked trees grow.
-use Rattle.std.proofs.Common.{◌≡◌, refl, ℕ, zero, suc, ◌<◌, drop, Bool, true, false, List, [], ◌∷◌, ◌&&◌, arith}
+use Rattle.std.proofs.Common.{◌≡◌, refl, ℕ, zero, suc, ◌<◌, drop, true, false, [], ◌∷◌, arith}
 use Rattle.std.specs.Prelude.{pos}
-use Rattle.std.specs.List.{list_any, list_all}
+use Rattle.std.specs.List.{list_all}
 use Rattle.std.proofs.lemmas.Bool.{and_right}
 use Rattle.fn_bits.specs.Number.{enc}
 use Rattle.fn_cert.specs.declared.certificate.Node.TheVariants.{Bit, Parameter, Leaf}
-use Rattle.fn_parting.specs.Parting.{Numbered, all_of, is_longer, parts_at, least_offset, first_equation}
-use Rattle.fn_parting.specs.Growing.{subsets, stops, goes_on}
+use Rattle.fn_parting.specs.Parting.{all_of, is_longer, parts_at, least_offset, first_equation}
+use Rattle.fn_parting.specs.Growing.{stops, goes_on}
 use Rattle.fn_parting.specs.Example.{short, full, tick_sizes, irreg_enc, static_enc, opt_sizes, kinds, kind_sizes, TickIsOrdered, OptIsOrdered, KindIsOrdered}
 use Rattle.fn_parting.proofs.Growth.{grown_is_ordered}
 

@@ -1,7 +1,6 @@
 -- Worked trees, by hand from the rule: of the method tick, of static_or_irreg, which opt calls, and of kind, which wrap calls (examples/samples.py).
 use Rattle.std.specs.Prelude.{ℕ, false, [], ◌∷◌, List, None, Some, ℤ, pos, codes}
 use Rattle.fn_source.specs.declared.span.Span.{Span}
-use Rattle.fn_expr.specs.declared.interval.Interval.{Interval}
 use Rattle.fn_expr.specs.declared.expr.Comparison.TheVariants.{Equal}
 use Rattle.fn_expr.specs.declared.expr.Side.TheVariants.{Uncompressed, Compressed}
 use Rattle.fn_expr.specs.declared.expr.Measure.TheVariants as measure

@@ -21,7 +21,8 @@ pub fn ordered_is_faultless()
 
 /// Where a set of formats of a method is stuck, no tree of any certificate parts the formats: it has V4, V5 or V7.
 pub fn stuck_has_no_tree()
-    ensures { laws.StuckHasNoTree }
+    ensures parts { laws.StuckHasNoTree }
+    ensures faulty { laws.StuckHasFault }
 {}
 
 /// The ordered trees of three small methods.
