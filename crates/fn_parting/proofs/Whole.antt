@@ -9,6 +9,7 @@ use Rattle.fn_cert.specs.declared.certificate.Node.{Node}
 use Rattle.fn_cert.specs.declared.certificate.Node.TheVariants.{Bit, Parameter, Leaf, Nowhere}
 use Rattle.fn_cert.specs.Kept.{are_trees, trees_after}
 use Rattle.fn_rules.specs.Trees.{Reach, Reaches, IsRight, onward, reach_at, everything, lacks_bit, never_at, only_at}
+use Rattle.fn_rules.proofs.Numbers.{in_left}
 use Rattle.fn_trees.specs.Equations.{fixes}
 use Rattle.fn_parting.specs.Parting.{Numbered, all_of, is_longer, knows, parts_by, lies_in, equations}
 use Rattle.fn_parting.specs.Growing.{Stuck}
@@ -105,11 +106,6 @@ module _ (formats : List Format) (s : MethodSizes) (set : List Numbered) (st : S
       (λ h. on 0 (λ f z. reach f z && not (never_at p c f)) refl (both reach (λ f z. not (never_at p c f)) w h))
       (λ h. on 1 (λ f z. reach f z && not (only_at p c f)) refl (both reach (λ f z. not (only_at p c f)) w h))
 
-  in_front : (xs ys : List Reach) (j : ℕ) (r : Reach) → slice_get xs j ≡ Some r → slice_get (xs ++ ys) j ≡ Some r
-  in_front [] ys j r e = absurd (cc)
-  in_front (x ∷ xs) ys zero r e = e
-  in_front (x ∷ xs) ys (suc j) r e = in_front xs ys j r e
-
   falls : (nodes : List Node) (rs : List Reach) (j : ℕ) (reach : Reach) → slice_get rs j ≡ Some reach → Whole reach → are_trees (length rs) nodes ≡ true →
       ((n : ℕ) (x : Node) (r : Reach) → slice_get nodes n ≡ Some x → reach_at rs nodes n ≡ Some r → IsRight formats s r x) → ⊥
   falls nodes [] j reach at w whole right = absurd (cc)
@@ -119,7 +115,7 @@ module _ (formats : List Format) (s : MethodSizes) (set : List Numbered) (st : S
   falls (x ∷ nodes) (r ∷ rs) zero reach at w whole right =
       let same : r ≡ reach = cc in
       at_node r x (subst Whole (sym same) w) (right zero x r refl refl)
-      (λ j on e h. falls nodes (onward r x ++ rs) j on (in_front (onward r x) rs j on e) h (ap (λ n. are_trees n nodes) (counted r x rs) ∙ whole) (λ n. right (suc n)))
+      (λ j on e h. falls nodes (onward r x ++ rs) j on (in_left (onward r x) rs j on e) h (ap (λ n. are_trees n nodes) (counted r x rs) ∙ whole) (λ n. right (suc n)))
 
   everywhere : (xs : List Numbered) → list_all (λ z. everything z.format z.sizes) xs ≡ true
   everywhere [] = refl

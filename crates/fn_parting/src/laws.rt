@@ -25,6 +25,11 @@ pub fn stuck_has_no_tree()
     ensures faulty { laws.StuckHasFault }
 {}
 
+/// Where the methods of a profile are well formed, an ordered tree names formats and parameters of its method.
+pub fn ordered_names()
+    ensures { laws.OrderedNames }
+{}
+
 /// The ordered trees of three small methods.
 pub fn worked_trees()
     ensures tick { example.TickIsOrdered }
