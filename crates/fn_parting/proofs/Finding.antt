@@ -1,8 +1,8 @@
 -- What the search for a test finds is what the rule has.
 use mir.Syntax.{w128}
 use mir.Val.{to_z, sel}
-use Rattle.std.proofs.Common.{◌≡◌, ◌∙◌, refl, sym, ap, subst, ℕ, zero, suc, ◌+◌, ◌-◌, ◌^◌, ◌<◌, ◌≤◌, min, Bool, true, false, nat_eq, nat_lt, List, [], ◌∷◌, ◌++◌, map, length, arith}
-use Rattle.std.specs.Prelude.{◌&&◌, not, Option, Some, None, slice_get, ℤ, pos, negsuc}
+use Rattle.std.proofs.Common.{◌≡◌, ◌∙◌, refl, sym, ap, subst, ℕ, suc, ◌-◌, ◌^◌, ◌<◌, ◌≤◌, min, Bool, true, false, nat_lt, List, [], ◌∷◌, arith}
+use Rattle.std.specs.Prelude.{◌&&◌, Some, None, slice_get, ℤ, pos, negsuc}
 use Rattle.std.specs.List.{find, flat_map, list_any, list_all, AllByRecursion}
 use Rattle.std.proofs.lemmas.Bool.{ltb-true, ltb-false, and_parts}
 use Rattle.fn_expr.specs.declared.interval.Interval.{Interval}
@@ -10,8 +10,8 @@ use Rattle.fn_normal.specs.declared.profile.Format.{Format}
 use Rattle.fn_normal.specs.declared.profile.FormatSizes.{FormatSizes}
 use Rattle.fn_normal.specs.declared.profile.MethodSizes.{MethodSizes}
 use Rattle.fn_cert.specs.declared.certificate.Node.{Node}
-use Rattle.fn_cert.specs.declared.certificate.Node.TheVariants.{Bit, Parameter, Leaf, Nowhere}
-use Rattle.fn_cert.specs.Kept.{IsNodeKept, IsWide, offset_limit}
+use Rattle.fn_cert.specs.declared.certificate.Node.TheVariants.{Bit, Parameter}
+use Rattle.fn_cert.specs.Kept.{IsWide, offset_limit}
 use Rattle.fn_rules.specs.Trees.{Reach}
 use Rattle.fn_trees.specs.declared.equations.Equation.{Equation}
 use Rattle.fn_trees.specs.declared.told.Told.{Told}
@@ -29,15 +29,6 @@ pub first_two : (set : List Numbered) (first second : ℕ) → slice_get (number
 first_two [] first second a b = absurd (cc)
 first_two (z ∷ []) first second a b = absurd (cc)
 first_two (z ∷ w ∷ set) first second a b = record { format = z; other = w; rest = set; is = refl; first_is = cc; second_is = cc }
-
-pub no_first : (ranges : List Interval) (set : List Numbered) → slice_get (numbers set) 0 ≡ None → NodeRule ranges set Nowhere
-no_first ranges [] e = refl
-no_first ranges (z ∷ set) e = absurd (cc)
-
-pub first_alone : (ranges : List Interval) (set : List Numbered) (first : ℕ) → slice_get (numbers set) 0 ≡ Some first → slice_get (numbers set) 1 ≡ None → NodeRule ranges set (Leaf first)
-first_alone ranges [] first a b = absurd (cc)
-first_alone ranges (z ∷ []) first a b = let same : z.number ≡ first = cc in ap Leaf (sym same)
-first_alone ranges (z ∷ w ∷ set) first a b = absurd (cc)
 
 by_rule : (ranges : List Interval) (set : List Numbered) (first second : ℕ) (x : Node) → AreFirst set first second → TreeRule ranges set (Some x) → NodeRule ranges set x
 by_rule ranges [] first second x two rule = let wrong = two.is in absurd (cc)
@@ -98,7 +89,7 @@ module _ (formats : List Format) (s : MethodSizes) (tolds : List Told) (far : Li
   pub near_found : (o : ℕ) → o < count → bit_parts tolds bounds set o ≡ true → ((q : ℕ) → q < o → bit_parts tolds bounds set q ≡ false) → IsNext s.parameters zs (Bit o)
   near_found o lt parts before =
       let rule : TreeRule s.parameters zs (Some (Bit o)) =
-          least_offset (sym (bit_is o (omega (arith, lt, count_is))) ∙ parts) (λ q less. sym (bit_is q (omega (arith, lt, less, count_is))) ∙ before q less) in
+      least_offset (sym (bit_is o (omega (arith, lt, count_is))) ∙ parts) (λ q less. sym (bit_is q (omega (arith, lt, less, count_is))) ∙ before q less) in
       record { rule = by_rule s.parameters zs first second (Bit o) two rule; kept = omega (arith, lt, count_is) }
 
   module _ (none_near : (o : ℕ) → o < count → bit_parts tolds bounds set o ≡ false) where

@@ -1,7 +1,7 @@
 -- What has grown to the end is an ordered tree; how far a tree has grown.
-use Rattle.std.proofs.Common.{◌≡◌, ◌∙◌, refl, sym, ap, subst, ℕ, zero, suc, ◌+◌, ◌<◌, Bool, true, false, List, [], ◌∷◌, ◌++◌, map, length, append_assoc, arith}
-use Rattle.std.specs.Prelude.{◌&&◌, not, Option, Some, None, slice_get}
-use Rattle.std.specs.List.{filter, AllByRecursion}
+use Rattle.std.proofs.Common.{◌≡◌, ◌∙◌, refl, sym, ap, subst, ℕ, zero, suc, true, false, List, [], ◌∷◌, ◌++◌, map, length, append_assoc}
+use Rattle.std.specs.Prelude.{not, Some, slice_get}
+use Rattle.std.specs.List.{AllByRecursion}
 use Rattle.std.proofs.lemmas.List.{append-nil}
 use Rattle.fn_expr.specs.declared.interval.Interval.{Interval}
 use Rattle.fn_normal.specs.declared.profile.Format.{Format}
@@ -11,7 +11,7 @@ use Rattle.fn_cert.specs.declared.certificate.Node.TheVariants.{Bit, Parameter, 
 use Rattle.fn_cert.specs.Kept.{are_trees, IsNodeKept}
 use Rattle.fn_rules.specs.Trees.{Reach, onward, reach_at, everything, lacks_bit, never_at, only_at}
 use Rattle.fn_parting.specs.Parting.{Numbered, all_of, NodeRule}
-use Rattle.fn_parting.specs.Growing.{those, subsets, OrderedTree, Grows, stops, goes_on, GrowsFromAll}
+use Rattle.fn_parting.specs.Growing.{those, subsets, Grows, stops, goes_on, GrowsFromAll}
 use Rattle.fn_parting.specs.Known.{numbers}
 use Rattle.fn_parting.specs.Laws.{GrownIsOrdered}
 use Rattle.fn_parting.proofs.Elements.{filter_twice, filter_all, each_pushed}

@@ -1,23 +1,22 @@
 -- What each end of the growth says of the method.
-use Rattle.std.proofs.Common.{◌≡◌, ◌∙◌, refl, sym, ap, subst, ℕ, ◌+◌, ◌≤◌, Bool, true, false, List, [], ◌∷◌, ◌++◌, map, length, arith}
-use Rattle.std.specs.Prelude.{Option, Some, None}
-use Rattle.std.specs.List.{filter, flat_map, range_with_len, AllByRecursion}
+use Rattle.std.proofs.Common.{◌≡◌, ◌∙◌, refl, sym, ap, subst, ℕ, ◌≤◌, List, [], ◌∷◌, ◌++◌, map, length}
+use Rattle.std.specs.List.{filter, flat_map, range_with_len}
 use Rattle.std.specs.HashMap.{keys}
 use Rattle.fn_normal.specs.declared.profile.Format.{Format}
 use Rattle.fn_normal.specs.declared.profile.FormatSizes.{FormatSizes}
 use Rattle.fn_normal.specs.declared.profile.MethodSizes.{MethodSizes}
 use Rattle.fn_cert.specs.declared.certificate.Node.{Node}
-use Rattle.fn_cert.specs.Kept.{IsNodeKept, IsTreeKept, node_limit}
-use Rattle.fn_rules.specs.Trees.{Reach, onward}
+use Rattle.fn_cert.specs.Kept.{IsTreeKept, node_limit}
+use Rattle.fn_rules.specs.Trees.{Reach}
 use Rattle.fn_trees.specs.declared.told.Told.{Told}
 use Rattle.fn_trees.specs.Told.{AreTold}
 use Rattle.fn_parting.specs.declared.parting.Unparted.{Unparted}
 use Rattle.fn_parting.specs.declared.parting.Unparted.TheVariants.{Stuck, Limit, OutOfMemory}
-use Rattle.fn_parting.specs.Parting.{Numbered, all_of, NodeRule}
+use Rattle.fn_parting.specs.Parting.{Numbered, all_of}
 use Rattle.fn_parting.specs.Growing.{those, OrderedTree, GrowsFromAll, IsShallow, PassesLimit, too_many, too_far, too_deep, IsUnparted}
 use Rattle.fn_parting.specs.Known.{numbers, subsets_by, is_far, AreFar, AreKnown, IsNext, HasNoNode, IsGrown}
 use Rattle.fn_parting.proofs.Elements.{where_marked}
-use Rattle.fn_parting.proofs.Growth.{waiting, GrownTo, Next, nothing_grown, all_grown, next_set, comes_to, one_more, grown_is_ordered}
+use Rattle.fn_parting.proofs.Growth.{GrownTo, Next, nothing_grown, all_grown, next_set, comes_to, one_more, grown_is_ordered}
 use Rattle.fn_parting.proofs.Telling.{all_numbered, subsets_wait, far_found}
 
 module _ (formats : List Format) (s : MethodSizes) where

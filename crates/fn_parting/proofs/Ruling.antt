@@ -1,19 +1,19 @@
 -- The rule gives one test, and an ordered tree is right at each node.
-use Rattle.std.proofs.Common.{◌≡◌, ◌∙◌, refl, sym, ap, subst, ℕ, zero, suc, ◌+◌, ◌<◌, Bool, true, false, nat_lt, List, [], ◌∷◌, ◌++◌, map, length, le_antisymm, arith}
-use Rattle.std.specs.Prelude.{◌&&◌, not, Option, Some, None, slice_get}
-use Rattle.std.specs.List.{find, filter, list_any, list_all, AllByRecursion}
+use Rattle.std.proofs.Common.{◌≡◌, ◌∙◌, refl, sym, ap, subst, ℕ, ◌<◌, Bool, true, false, nat_lt, List, [], ◌∷◌, le_antisymm, arith}
+use Rattle.std.specs.Prelude.{◌&&◌, Option, Some, None, slice_get}
+use Rattle.std.specs.List.{find, list_any, list_all, AllByRecursion}
 use Rattle.std.proofs.lemmas.Bool.{ltb-true, ltb-false, and_parts}
 use Rattle.fn_expr.specs.declared.interval.Interval.{Interval}
 use Rattle.fn_normal.specs.declared.profile.Format.{Format}
 use Rattle.fn_normal.specs.declared.profile.MethodSizes.{MethodSizes}
 use Rattle.fn_cert.specs.declared.certificate.Node.{Node}
 use Rattle.fn_cert.specs.declared.certificate.Node.TheVariants.{Bit, Parameter, Leaf, Nowhere}
-use Rattle.fn_rules.specs.Trees.{Reach, Reaches, IsRight, PartsFormats, everything, never_at}
+use Rattle.fn_rules.specs.Trees.{Reach, Reaches, IsRight, PartsFormats, never_at}
 use Rattle.fn_trees.specs.declared.fault.TreeFault.{TreeFault}
 use Rattle.fn_trees.specs.Faults.{IsTreeFault, leaf_reached, nowhere_reached, bit_past, constant_outside}
 use Rattle.fn_trees.specs.declared.equations.Equation.{Equation}
 use Rattle.fn_parting.specs.Parting.{Numbered, all_of, is_longer, knows, parts_at, parts_by, lies_in, equations, TreeRule, least_offset, first_equation, no_test, NodeRule}
-use Rattle.fn_parting.specs.Growing.{those, OrderedTree}
+use Rattle.fn_parting.specs.Growing.{those}
 use Rattle.fn_parting.specs.Laws.{RuleIsOne, OrderedParts, OrderedIsFaultless}
 use Rattle.fn_parting.proofs.Elements.{found_passes, each_passes}
 use Rattle.fn_parting.proofs.Testing.{lies_to, one_of_those}
@@ -70,7 +70,7 @@ module _ (formats : List Format) (s : MethodSizes) (reach : Reach) where
       let node : Parameter q.parameter q.constant ≡ x = cc in
       let passes = found_passes (parts_by s.parameters set) q (equations set) found in
       let lies = (and_parts (lies_in (slice_get s.parameters q.parameter) q.constant) (list_any (λ z. never_at q.parameter q.constant z.format) set)
-          (and_parts q.equal (lies_in (slice_get s.parameters q.parameter) q.constant && list_any (λ z. never_at q.parameter q.constant z.format) set) passes).1).0 in
+      (and_parts q.equal (lies_in (slice_get s.parameters q.parameter) q.constant && list_any (λ z. never_at q.parameter q.constant z.format) set) passes).1).0 in
       subst (IsRight formats s reach) node (λ range at. lies_to (slice_get s.parameters q.parameter) q.constant lies range at)
   test_right set is _ x e (no_test none found) = absurd (cc)
 

@@ -1,7 +1,7 @@
 -- What is told of the formats by their numbers, against the sets of formats.
-use Rattle.std.proofs.Common.{◌≡◌, ◌∙◌, refl, sym, ap, subst, ℕ, zero, suc, ◌+◌, ◌^◌, ◌<◌, ◌≤◌, min, Bool, true, false, nat_eq, nat_le, nat_lt, cond, List, [], ◌∷◌, ◌++◌, map, length, arith}
-use Rattle.std.specs.Prelude.{◌&&◌, ◌||◌, not, Option, Some, None, slice_get, ℤ}
-use Rattle.std.specs.List.{filter, filter_map, flat_map, list_any, list_all, range_with_len, AllByRecursion}
+use Rattle.std.proofs.Common.{◌≡◌, ◌∙◌, refl, sym, ap, ℕ, zero, suc, ◌+◌, ◌^◌, ◌<◌, ◌≤◌, min, Bool, true, false, nat_eq, nat_lt, cond, List, [], ◌∷◌, ◌++◌, length, arith}
+use Rattle.std.specs.Prelude.{◌&&◌, ◌||◌, not, Option, Some, None, slice_get}
+use Rattle.std.specs.List.{filter, flat_map, list_any, list_all, range_with_len, AllByRecursion}
 use Rattle.std.specs.HashMap.{get, keys}
 use Rattle.std.specs.Option.{is_some}
 use Rattle.std.proofs.lemmas.Bool.{eqb-true, le-leb}
@@ -14,12 +14,11 @@ use Rattle.fn_normal.specs.declared.profile.MethodSizes.{MethodSizes}
 use Rattle.fn_cert.specs.declared.certificate.Node.{Node}
 use Rattle.fn_cert.specs.declared.certificate.Node.TheVariants.{Bit, Parameter, Leaf, Nowhere}
 use Rattle.fn_cert.specs.Kept.{IsNodeKept, offset_limit}
-use Rattle.fn_rules.specs.Trees.{Reach, onward, everything, is_bit, known_bit, never_at}
+use Rattle.fn_rules.specs.Trees.{Reach, onward, is_bit, known_bit, never_at}
 use Rattle.fn_trees.specs.declared.equations.Equation.{Equation}
 use Rattle.fn_trees.specs.declared.told.Told.{Told}
 use Rattle.fn_trees.specs.declared.told.Test.{Test}
 use Rattle.fn_trees.specs.declared.told.Test.TheVariants.{Lacks, MayBe, MayDiffer}
-use Rattle.fn_trees.specs.Equations.{equation_of}
 use Rattle.fn_trees.specs.Told.{IsTold, AreTold, IsTest, survives}
 use Rattle.fn_trees.proofs.Passing.{passes_is}
 use Rattle.fn_parting.specs.Parting.{Numbered, numbered, all_of, is_longer, knows, parts_at, parts_by, lies_in, equations}
@@ -136,6 +135,7 @@ module _ (s : MethodSizes) (tolds : List Told) (far : List ℕ) where
       told : (x : Option Bool) → known_bit z.format.fields z.sizes.fields z.format.listing o ≡ x → is_bit b x ≡ true → list_any (nat_eq o) far ≡ true
       told None at is = absurd (cc)
       told (Some x) at is = h.0.far_are z.number o h.0.told x h.0.told_at (h.0.is_told.bits o small ∙ at) past
+
       by : (c : Bool) → knows b o z ≡ c → (c || list_any (knows b o) set) ≡ true → (list_any (knows b o) set ≡ true → list_any (nat_eq o) far ≡ true) → list_any (nat_eq o) far ≡ true
       by true at e rest = told (known_bit z.format.fields z.sizes.fields z.format.listing o) refl at
       by false at e rest = rest e

@@ -1,7 +1,7 @@
 -- The formats of a method by their numbers, and what their equations and ranges tell.
-use Rattle.std.proofs.Common.{◌≡◌, ◌∙◌, refl, sym, ap, subst, ℕ, zero, suc, ◌+◌, ◌<◌, ◌≤◌, Bool, true, false, cond, nat_eq, List, [], ◌∷◌, ◌++◌, arith}
-use Rattle.std.specs.Prelude.{◌&&◌, not, Option, Some, None, slice_get, ℤ, int_le}
-use Rattle.std.specs.List.{find, filter, filter_map, items_where_true, list_any, AllByRecursion}
+use Rattle.std.proofs.Common.{◌≡◌, ◌∙◌, refl, sym, ap, subst, ℕ, zero, suc, ◌+◌, ◌<◌, ◌≤◌, Bool, true, false, cond, nat_eq, List, [], ◌∷◌, arith}
+use Rattle.std.specs.Prelude.{◌&&◌, Option, Some, None, slice_get, ℤ, int_le}
+use Rattle.std.specs.List.{filter_map, items_where_true, list_any, AllByRecursion}
 use Rattle.std.specs.Ordering.{int_eq}
 use Rattle.std.proofs.lemmas.Bool.{eqb-true, and_parts, and_from}
 use Rattle.fn_expr.specs.declared.interval.Interval.{Interval}
@@ -17,7 +17,7 @@ use Rattle.fn_trees.specs.Equations.{equation_of, fixes}
 use Rattle.fn_trees.proofs.Comparing.{all_fixed}
 use Rattle.fn_parting.specs.Parting.{Numbered, numbered, all_of, lies_in, parts_by, equations}
 use Rattle.fn_parting.specs.Growing.{those}
-use Rattle.fn_parting.proofs.Elements.{any_agree, any_flat, any_weaker, each_kept, each_marked, each_weaker}
+use Rattle.fn_parting.proofs.Elements.{any_agree, any_flat, each_marked}
 
 -- ---- ranges
 
@@ -67,11 +67,10 @@ each_from : (P : Numbered → Type 0) (n : ℕ) (formats : List Format) (sizes :
 each_from P n [] sizes h = tt
 each_from P n (f ∷ formats) [] h = tt
 each_from P n (f ∷ formats) (z ∷ sizes) h =
-    let here : n + 0 ≡ n = omega arith in
-    (
+    let here : n + 0 ≡ n = omega arith in (
       subst (λ m. P record { number = m; format = f; sizes = z }) here (h zero f z refl refl),
       each_from P (n + 1) formats sizes
-      (λ j g y at sized. let same : n + suc j ≡ (n + 1) + j = omega arith in subst (λ m. P record { number = m; format = g; sizes = y }) same (h (suc j) g y at sized)),
+          (λ j g y at sized. let same : n + suc j ≡ (n + 1) + j = omega arith in subst (λ m. P record { number = m; format = g; sizes = y }) same (h (suc j) g y at sized)),
     )
 
 -- what holds of each format at its number holds of all

@@ -1,7 +1,7 @@
 -- A stuck set of formats stays whole in one subtree of each test.
-use Rattle.std.proofs.Common.{◌≡◌, ◌∙◌, refl, sym, ap, subst, ℕ, zero, suc, ◌+◌, ◌<◌, Bool, true, false, nat_lt, List, [], ◌∷◌, ◌++◌, length, arith}
-use Rattle.std.specs.Prelude.{◌&&◌, not, Option, Some, None, slice_get, ℤ}
-use Rattle.std.specs.List.{find, list_any, list_all, AllByRecursion}
+use Rattle.std.proofs.Common.{◌≡◌, ◌∙◌, refl, sym, ap, subst, ℕ, zero, suc, ◌<◌, Bool, true, false, List, [], ◌∷◌, ◌++◌, length, arith}
+use Rattle.std.specs.Prelude.{◌&&◌, not, Some, None, slice_get, ℤ}
+use Rattle.std.specs.List.{list_any, list_all, AllByRecursion}
 use Rattle.std.proofs.lemmas.Bool.{lt-ltb, and_parts, and_from}
 use Rattle.fn_normal.specs.declared.profile.Format.{Format}
 use Rattle.fn_normal.specs.declared.profile.MethodSizes.{MethodSizes}
@@ -9,11 +9,12 @@ use Rattle.fn_cert.specs.declared.certificate.Node.{Node}
 use Rattle.fn_cert.specs.declared.certificate.Node.TheVariants.{Bit, Parameter, Leaf, Nowhere}
 use Rattle.fn_cert.specs.Kept.{are_trees, trees_after}
 use Rattle.fn_rules.specs.Trees.{Reach, Reaches, IsRight, onward, reach_at, everything, lacks_bit, never_at, only_at}
+use Rattle.fn_rules.proofs.Numbers.{in_left}
 use Rattle.fn_trees.specs.Equations.{fixes}
-use Rattle.fn_parting.specs.Parting.{Numbered, all_of, is_longer, knows, parts_at, parts_by, lies_in, equations}
+use Rattle.fn_parting.specs.Parting.{Numbered, all_of, is_longer, knows, parts_by, lies_in, equations}
 use Rattle.fn_parting.specs.Growing.{Stuck}
 use Rattle.fn_parting.specs.Laws.{StuckHasNoTree}
-use Rattle.fn_parting.proofs.Elements.{any_weaker, none_passes, none_found, both_pass, each_marked, all_pass, all_pass_by}
+use Rattle.fn_parting.proofs.Elements.{any_weaker, none_passes, none_found, both_pass, each_marked, all_pass_by}
 use Rattle.fn_parting.proofs.Testing.{lies_of, equation_there, parts_where_fixed, StandsAt, all_stand, some_rise}
 use Rattle.fn_parting.proofs.Ruling.{nothing_parts}
 
@@ -95,7 +96,7 @@ module _ (formats : List Format) (s : MethodSizes) (set : List Numbered) (st : S
   at_node reach Nowhere w right on = right st.first.number (first_arrives reach w)
   at_node reach (Bit o) w right on =
       let longer : (z : Numbered) → StandsAt formats s z → reach z.format z.sizes ≡ true → o < z.sizes.whole.compressed.least = λ z at r.
-          right z.number (record { format = z.format; sizes = z.sizes; format_at = at.format_at; sizes_at = at.sizes_at; reaches = r }) in
+      right z.number (record { format = z.format; sizes = z.sizes; format_at = at.format_at; sizes_at = at.sizes_at; reaches = r }) in
       let below = all_pass_by (StandsAt formats s) (λ z. reach z.format z.sizes) (is_longer o) (λ z at r. lt-ltb o z.sizes.whole.compressed.least (longer z at r)) set stands w in
       at_bit o below (list_any (knows true o) set) (list_any (knows false o) set) refl refl
       (λ h. on 0 (λ f z. reach f z && lacks_bit true o f z) refl (both reach (lacks_bit true o) w h))
@@ -104,11 +105,6 @@ module _ (formats : List Format) (s : MethodSizes) (set : List Numbered) (st : S
       at_parameter p c (lies_of (slice_get s.parameters p) c right) (list_any (λ z. never_at p c z.format) set) (list_any (λ z. only_at p c z.format) set) refl refl
       (λ h. on 0 (λ f z. reach f z && not (never_at p c f)) refl (both reach (λ f z. not (never_at p c f)) w h))
       (λ h. on 1 (λ f z. reach f z && not (only_at p c f)) refl (both reach (λ f z. not (only_at p c f)) w h))
-
-  in_front : (xs ys : List Reach) (j : ℕ) (r : Reach) → slice_get xs j ≡ Some r → slice_get (xs ++ ys) j ≡ Some r
-  in_front [] ys j r e = absurd (cc)
-  in_front (x ∷ xs) ys zero r e = e
-  in_front (x ∷ xs) ys (suc j) r e = in_front xs ys j r e
 
   falls : (nodes : List Node) (rs : List Reach) (j : ℕ) (reach : Reach) → slice_get rs j ≡ Some reach → Whole reach → are_trees (length rs) nodes ≡ true →
       ((n : ℕ) (x : Node) (r : Reach) → slice_get nodes n ≡ Some x → reach_at rs nodes n ≡ Some r → IsRight formats s r x) → ⊥
@@ -119,7 +115,7 @@ module _ (formats : List Format) (s : MethodSizes) (set : List Numbered) (st : S
   falls (x ∷ nodes) (r ∷ rs) zero reach at w whole right =
       let same : r ≡ reach = cc in
       at_node r x (subst Whole (sym same) w) (right zero x r refl refl)
-      (λ j on e h. falls nodes (onward r x ++ rs) j on (in_front (onward r x) rs j on e) h (ap (λ n. are_trees n nodes) (counted r x rs) ∙ whole) (λ n. right (suc n)))
+      (λ j on e h. falls nodes (onward r x ++ rs) j on (in_left (onward r x) rs j on e) h (ap (λ n. are_trees n nodes) (counted r x rs) ∙ whole) (λ n. right (suc n)))
 
   everywhere : (xs : List Numbered) → list_all (λ z. everything z.format z.sizes) xs ≡ true
   everywhere [] = refl

@@ -1,4 +1,4 @@
--- The tree of the prover's order, and why a method has none (docs/FORMATS.md, The prover's order).
+-- The tree of the prover's order, and why a method has none (docs/DEFINITIONS.md, Trees of the prover's order).
 use Rattle.std.specs.Prelude.{◌≡◌, ℕ, ◌≤◌, Bool, true, false, not, List, [], ◌∷◌, ◌++◌, length, Some, None, slice_get}
 use Rattle.std.specs.List.{filter, items_where_true, AllByRecursion}
 use Rattle.fn_expr.specs.declared.interval.Interval.{Interval}

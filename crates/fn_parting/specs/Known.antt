@@ -1,5 +1,5 @@
 -- What the code knows of the formats by their numbers, and what that says of sets.
-use Rattle.std.specs.Prelude.{◌≡◌, ℕ, ◌+◌, ◌<◌, ◌≤◌, Bool, true, false, nat_eq, nat_le, nat_lt, not, ◌&&◌, List, [], ◌∷◌, ◌++◌, map, length, Option, Some, None, slice_get}
+use Rattle.std.specs.Prelude.{◌≡◌, ℕ, ◌≤◌, Bool, true, false, nat_eq, nat_le, nat_lt, not, ◌&&◌, List, [], ◌∷◌, map, length, Option, Some, None, slice_get}
 use Rattle.std.specs.List.{filter, list_any, list_all, AllByRecursion}
 use Rattle.std.specs.HashMap.{get}
 use Rattle.fn_expr.specs.declared.interval.Interval.{Interval}
@@ -18,7 +18,7 @@ use Rattle.fn_trees.specs.Told.{AreTold, passes}
 use Rattle.fn_parting.specs.declared.parting.Unparted.{Unparted}
 use Rattle.fn_parting.specs.declared.parting.Unparted.TheVariants as unparted
 use Rattle.fn_parting.specs.Parting.{Numbered, all_of, lies_in, TreeRule, NodeRule}
-use Rattle.fn_parting.specs.Growing.{those, GrowsFromAll, IsUnparted}
+use Rattle.fn_parting.specs.Growing.{those, GrowsFromAll}
 
 -- ---- by numbers
 

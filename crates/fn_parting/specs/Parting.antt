@@ -1,4 +1,4 @@
--- The test that the prover's order has for a set of formats (docs/FORMATS.md, The prover's order).
+-- The test that the prover's order has for a set of formats (docs/DEFINITIONS.md, Trees of the prover's order).
 use Rattle.std.specs.Prelude.{◌≡◌, ℕ, ◌+◌, ◌<◌, Bool, true, false, nat_lt, ◌&&◌, List, [], ◌∷◌, Option, Some, None, slice_get, ℤ, int_le}
 use Rattle.std.specs.List.{find, filter_map, flat_map, list_any, list_all}
 use Rattle.fn_expr.specs.declared.interval.Interval.{Interval}

@@ -36,8 +36,9 @@ impl From<AllocError> for Unparted {
     }
 }
 
-/// The nodes of the tree that the prover's order has for a method (docs/FORMATS.md), in preorder and within the limits of certificates. The bounds are those
-/// of the method. Of two refusals that are due the one of the earlier node comes, and a tree that is too deep last.
+/// The nodes of the tree that the prover's order has for a method (docs/DEFINITIONS.md, Trees of the prover's order), in preorder and within the limits of
+/// certificates. The bounds are those of the method, lengths and offsets are in bits. Of several reasons for a refusal the one at the earliest node comes,
+/// before a tree that is too deep.
 pub fn part_formats(
     alloc: Global,
     formats: &[Format],
@@ -56,11 +57,7 @@ pub fn part_formats(
 }
 
 /// The nodes of the whole tree, however deep. The sets that are still to be parted wait on a stack.
-fn grown(
-    alloc: Global,
-    formats: &[Format],
-    sizes: &MethodSizes,
-) -> Result<Items<Node>, Unparted>
+fn grown(alloc: Global, formats: &[Format], sizes: &MethodSizes) -> Result<Items<Node>, Unparted>
     ensures grown { IfOk result (IsGrown formats.now sizes.now) }
     ensures unparted { IfErr result (IsUnparted formats.now sizes.now) }
 {

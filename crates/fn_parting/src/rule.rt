@@ -1,6 +1,6 @@
 //! The test that the prover's order has for a set of formats.
 
-ghost use Rattle.std.specs.Prelude.{◌≡◌, ℕ, ◌<◌, ◌^◌, min, List, true, false, Some, slice_get, MatchOption, MatchResult};
+ghost use Rattle.std.specs.Prelude.{◌≡◌, ℕ, ◌<◌, min, List, true, false, Some, slice_get, MatchOption, MatchResult};
 ghost use Rattle.std.specs.List.{find, flat_map, list_any};
 ghost use Rattle.fn_normal.specs.declared.profile.Format.{Format};
 ghost use Rattle.fn_cert.specs.Kept.{offset_limit};
@@ -133,15 +133,14 @@ fn equation_of(
 }
 
 /// Whether a test of the equation's parameter and constant parts the set.
-fn equation_parts(
-    tolds: &[Told],
-    ranges: &[Interval],
-    set: &[usize],
-    equation: Equation,
-) -> bool
+fn equation_parts(tolds: &[Told], ranges: &[Interval], set: &[usize], equation: Equation) -> bool
     ensures { result ≡ spec.equation_parts tolds.now ranges.now set.now equation }
 {
     equation.equal
         && is_in_range(ranges, equation.parameter, equation.constant)
-        && loses(tolds, set, Test::MayBe(equation.parameter, equation.constant))
+        && loses(
+            tolds,
+            set,
+            Test::MayBe(equation.parameter, equation.constant),
+        )
 }

@@ -1,10 +1,8 @@
 //! Sets of formats, by their numbers in file order.
 
-ghost use Rattle.std.specs.Prelude.{◌≡◌, ◌++◌, IfOk, slice_get, MatchOption};
+ghost use Rattle.std.specs.Prelude.{◌≡◌, ◌++◌, IfOk, slice_get};
 ghost use Rattle.std.specs.List.{filter, flat_map, range_with_len};
 ghost use Rattle.std.specs.HashMap.{keys};
-ghost use Rattle.fn_cert.specs.Kept.{IsNodeKept};
-ghost use Rattle.fn_trees.specs.declared.told.Test.TheVariants.{Lacks};
 ghost use Rattle.fn_parting.specs.Known as spec;
 
 use crate::stack::Stack;
@@ -73,12 +71,7 @@ fn are_longer(sizes: &[FormatSizes], set: &[usize], offset: u128) -> bool
 }
 
 /// Whether a test of the bit at the offset parts the set.
-pub(crate) fn bit_parts(
-    tolds: &[Told],
-    sizes: &[FormatSizes],
-    set: &[usize],
-    offset: u128,
-) -> bool
+pub(crate) fn bit_parts(tolds: &[Told], sizes: &[FormatSizes], set: &[usize], offset: u128) -> bool
     ensures { result ≡ spec.bit_parts tolds.now sizes.now set.now offset }
 {
     are_longer(sizes, set, offset)

@@ -1,4 +1,4 @@
-use Rattle.std.proofs.Common.{◌≡◌, ◌∙◌, refl, rules, sym, ap, subst, ◌+◌, ◌++◌, length, arith}
+use Rattle.std.proofs.Common.{◌≡◌, ◌∙◌, refl, rules, ap, ◌+◌, ◌++◌, length, arith}
 use Rattle.std.proofs.lemmas.Result.{err_from_is_err_and}
 use Rattle.std.proofs.lemmas.List.{length_push}
 use Rattle.fn_parting.specs.Known.{subsets_by}
@@ -36,7 +36,7 @@ loop-place-preserved c =
     let seen = known_as c.args.formats.now c.args.sizes.now c.in_ok-tolds.tolds.items _ c.in_ok-far.far _ known c.as_slice-in-loop-place.ensures.value c.as_slice-in-loop-place-2.ensures in
     let n = next c.args.formats.now c.args.sizes.now c.loop-place.nodes c.loop-place.sets c.pop.new.self c.in-Some.set _ c.in-Some.ensures c.as_slice-in-loop-place-3.ensures c.loop-place.invariant.so_far in
     let is = c.in_ok-node.ensures c.args.formats.now n.reach seen
-        (shown_is c.args.formats.now c.args.sizes.now c.loop-place.nodes c.loop-place.sets c.pop.new.self c.in-Some.set _ c.in-Some.ensures c.as_slice-in-loop-place-3.ensures c.loop-place.invariant.so_far) in
+    (shown_is c.args.formats.now c.args.sizes.now c.loop-place.nodes c.loop-place.sets c.pop.new.self c.in-Some.set _ c.in-Some.ensures c.as_slice-in-loop-place-3.ensures c.loop-place.invariant.so_far) in
     let after = c.in_ok-push_subsets.ensures ∙ (λ i. subsets_by (c.as_slice-in-loop-place-4.ensures.value i) (c.as_slice-in-loop-place-5.ensures i) c.in_ok-node.node ++ c.pop.new.self) in
     record {
       count = ap length c.in_ok-push-2.ensures.ok ∙ (length_push c.loop-place.nodes c.in_ok-node.node ∙ ap (λ n. n + 1) c.loop-place.invariant.count);

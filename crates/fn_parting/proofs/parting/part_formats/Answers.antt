@@ -1,4 +1,4 @@
-use Rattle.std.proofs.Common.{◌∙◌, refl, sym, subst}
+use Rattle.std.proofs.Common.{sym, subst}
 use Rattle.std.proofs.lemmas.Bool.{iff_false}
 use Rattle.fn_parting.specs.Growing.{IsShallow}
 use Rattle.fn_parting.proofs.Outcome.{ordered, kept, deep}

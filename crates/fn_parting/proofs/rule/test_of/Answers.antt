@@ -1,4 +1,4 @@
-use Rattle.std.proofs.Common.{◌≡◌, ◌∙◌, sym, rules, to_z, of_z}
+use Rattle.std.proofs.Common.{◌≡◌, sym, rules, to_z, of_z}
 use mir.Syntax.{w128}
 use Rattle.fn_parting.proofs.Finding.{is_wide, near_found, far_found, equation_found, nothing_found}
 use Rattle.fn_parting.proofs.rule.test_of.Goals as goal
