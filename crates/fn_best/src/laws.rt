@@ -47,10 +47,11 @@ pub fn digits()
     ensures call { laws.DigitOfCall }
 {}
 
-/// The numbers of candidates that are kept with an accepted profile are the true ones, for all that a candidate of the top comes to.
+/// The numbers of candidates that are kept with an accepted profile are the true ones, of methods and of formats.
 pub fn kept_counts()
-    ensures top { laws.TopIsKept }
+    ensures counts { laws.KeptAreCounts }
     ensures formats { laws.SpansAreKept }
+    ensures sums { laws.SpansAddUp }
 {}
 
 /// How a number is read by a write plan, from its format to its last digit.
@@ -58,7 +59,8 @@ pub fn reading()
     ensures starts { laws.ReadingStarts }
     ensures passes { laws.ReadingPasses }
     ensures parts { laws.ReadingParts }
-    ensures calls { laws.ReadingCalls }
+    ensures choice { laws.WaysOfChoice }
+    ensures call { laws.WaysOfCall }
     ensures reaches { laws.ReadingReaches }
     ensures ends { laws.ReadingEnds }
 {}
