@@ -1,5 +1,6 @@
 pub mod Bounds
 pub mod Compares
+pub mod Example
 pub mod Few
 pub mod Fitting
 pub mod Kept
