@@ -99,7 +99,7 @@ call_rule table format i h (encoding.Call k es) r e = (k, es, refl)
 call_rule table format i h encoding.Bare r e = absurd (cc)
 call_rule table format i h (encoding.Library l) r e = absurd (cc)
 
-callee_call : (c : Encoding) (k : ℕ) → callee c ≡ Some k → (es : List Expr) × (c ≡ encoding.Call k es)
+pub callee_call : (c : Encoding) (k : ℕ) → callee c ≡ Some k → (es : List Expr) × (c ≡ encoding.Call k es)
 callee_call (encoding.Call j es) k e = let same : j ≡ k = cc in (es, ap (λ z. encoding.Call z es) same)
 callee_call encoding.Bare k e = absurd (cc)
 callee_call (encoding.Library l) k e = absurd (cc)
@@ -170,8 +170,9 @@ module _ (methods : List Method) (table : List MethodSizes) (ctx : Context) wher
           filled = ap (option_and_then inner_of) g.1 ∙ p.is_inner;
         }
 
-module _ (methods : List Method) (table : List MethodSizes) (top : ℕ) (cert : Entries) (are : AreSizes methods table) (valid : Valid methods table top cert) (counts : List ℕ) (ctx : Context) where
-  write_is : (k n : ℕ) (format : Format) → format_at methods k n ≡ Some format → (plans : Plans) × (write_plan cert k n ≡ Some plans) × (IsPlan (way_of Write table format) plans.write)
+module _ (methods : List Method) (table : List MethodSizes) (top : ℕ) (cert : Entries) (are : AreSizes methods table) (valid : Valid methods table top cert) where
+  -- a format has a write plan
+  pub write_is : (k n : ℕ) (format : Format) → format_at methods k n ≡ Some format → (plans : Plans) × (write_plan cert k n ≡ Some plans) × (IsPlan (way_of Write table format) plans.write)
   write_is k n format is =
       let place = placed methods table are k n format is in
       let m = and_then_some (λ (m : Method). slice_get m.formats n) (slice_get methods k) format is in
@@ -180,10 +181,11 @@ module _ (methods : List Method) (table : List MethodSizes) (top : ℕ) (cert : 
       let h = v.formats n format m.2 in
       (h.plans, ap (option_and_then (λ entry. plans_at entry n)) v.entry_is ∙ h.plans_are, h.write)
 
+module _ (methods : List Method) (table : List MethodSizes) (top : ℕ) (cert : Entries) (are : AreSizes methods table) (valid : Valid methods table top cert) (counts : List ℕ) (ctx : Context) where
   mutual
     pub is_candidate : {k : ℕ} {args : List ℤ} {path : Path} {f : Filling} → Fits methods ctx k args path f → IsCandidate methods cert counts k f
     is_candidate {k} {args} {path} {f} (fit.fits format is fitting each) =
-        let w = write_is k (out-Filling f).format format is in
+        let w = write_is methods table top cert are valid k (out-Filling f).format format is in
         candidate format w.0 is w.1
         (λ j i e. let r = ruled (way_of Write table format).rule (way_of Write table format).start w.0.write w.2.enabled j (Choose i) e in chosen_below methods table ctx args path format f fitting each (number methods cert counts) counts i r.0 r.1)
         (λ j i e. let r = ruled (way_of Write table format).rule (way_of Write table format).start w.0.write w.2.enabled j (Call i) e in is_called methods table ctx args path format f fitting each i r.0 r.1)

@@ -1,30 +1,26 @@
 -- The numbers of candidates that are kept up to the cap, and where numbers begin to be read.
 use Rattle.std.proofs.Common.{◌≡◌, refl, sym, ◌∙◌, ap, ℕ, zero, suc, ◌+◌, ◌*◌, ◌^◌, ◌<◌, ◌≤◌, List, [], ◌∷◌, map, take, arith}
-use Rattle.std.specs.Prelude.{Option, Some, None, slice_get}
+use Rattle.std.specs.Prelude.{Option, Some, None, slice_get, unwrap_or, option_map}
 use Rattle.std.specs.List.{sum}
 use Rattle.std.proofs.lemmas.List.Sums.{sum_by-cons}
-use Rattle.std.proofs.lemmas.Option.{slice_get-map}
-use Rattle.std.proofs.Math.Nat.{le-mul_of_pos_right}
 use Rattle.fn_normal.specs.declared.profile.Format.{Format}
 use Rattle.fn_normal.specs.declared.profile.Method.{Method}
 use Rattle.fn_bounds.proofs.Places.{indexed-at}
+use Rattle.fn_filling.proofs.Unique.{also_at}
 use Rattle.fn_fits.proofs.Sized.{map_some}
-use Rattle.fn_cert.specs.declared.certificate.Step.TheVariants.{Call}
 use Rattle.fn_cert.specs.declared.certificate.Plans.{Plans}
 use Rattle.fn_cert.specs.declared.certificate.FormatPlans.{FormatPlans}
 use Rattle.fn_cert.specs.declared.certificate.MethodPlans.{MethodPlans}
 use Rattle.fn_cert.specs.Kept.{Entries}
 use Rattle.fn_rules.specs.Counts.{ways, plan_ways, format_ways, method_ways, entry_ways, entry_at, AreCounts}
-use Rattle.fn_rules.proofs.Counts.{one_count}
 use Rattle.fn_trees.specs.Capped.{capped}
 use Rattle.fn_best.specs.Codes.{ways_before}
 use Rattle.fn_best.specs.Digits.{InSpan}
 use Rattle.fn_best.specs.Spans.{spans_of, entry_spans, method_spans}
-use Rattle.fn_best.specs.Laws.{TopIsKept, SpansAreKept, ReadingStarts, ReadingPasses, ReadingParts, ReadingCalls, ReadingReaches, ReadingEnds}
+use Rattle.fn_best.specs.Laws.{SpansAreKept, SpansAddUp, ReadingStarts, ReadingPasses, ReadingParts, WaysOfChoice, WaysOfCall, ReadingReaches, ReadingEnds}
 use Rattle.fn_best.proofs.Bounds.{ways_are}
 use Rattle.fn_best.proofs.Reading as reading
-use Rattle.fn_best.proofs.Splitting.{ways_above}
-use Rattle.fn_best.proofs.Sums.{stands, before_is, before_whole}
+use Rattle.fn_best.proofs.Sums.{stands, before_is}
 
 -- ---- sums
 
@@ -60,7 +56,7 @@ span_here counts (f ∷ fs) (o ∷ os) zero format entry plans e e' is =
 span_here counts (f ∷ fs) (o ∷ os) (suc n) format entry plans e e' is = span_here counts fs os n format entry plans e e' is
 
 -- numbers whose sum is below the cap are kept as they are
-exact : (xs : List ℕ) → sum xs < 2 ^ 64 → map capped xs ≡ xs
+exact : (xs : List ℕ) → sum xs ≤ 4096 → map capped xs ≡ xs
 exact [] l = refl
 exact (x ∷ xs) l =
     let e = sum-cons x xs in
@@ -84,26 +80,28 @@ module _ (methods : List Method) (cert : Entries) (counts : List ℕ) where
       let found = line_at k line line_is in
       ap sum found.2 ∙ (sum_entry counts found.0.formats (entry_at cert k) ∙ sym (are.right k n found.0 found.1 at))
 
-pub spans_are_kept : SpansAreKept
-spans_are_kept methods cert counts are k n at small spans is =
-    let found = map_some (map capped) (slice_get (method_spans counts methods cert) k) spans (sym (slice_get-map (map capped) (method_spans counts methods cert) k) ∙ is) in
-    let total = line_sum methods cert counts are k n at found.0 found.1 in
-    let same : found.0 ≡ spans = sym (exact found.0 (omega (arith, total, small))) ∙ found.2 in
-    (found.1 ∙ ap Some same, ap sum (sym same) ∙ total)
+-- a map that changes no element
+unchanged : {X : Type 0} (f : X → X) (xs : List X) → ((k : ℕ) (x : X) → slice_get xs k ≡ Some x → f x ≡ x) → map f xs ≡ xs
+unchanged f [] same = refl
+unchanged f (x ∷ xs) same = λ i. same 0 x refl i ∷ unchanged f xs (λ k. same (suc k)) i
 
-pub top_is_kept : TopIsKept
-top_is_kept methods table top cert order ordered valid kept are n at =
-    let place = map_some capped (slice_get are.counts top) n (sym (slice_get-map capped are.counts top) ∙ (ap (λ z. slice_get z top) (sym are.each) ∙ at)) in
-    let same = one_count methods order cert valid.counts are.counts ordered valid.are_counts are.are_counts in
-    let few = valid.few place.0 (ap (λ z. slice_get z top) same ∙ place.1) in
-    let is : capped place.0 ≡ n = place.2 in
-    let one : place.0 ≡ n = omega (arith, few, is) in
-    (omega (arith, few, one), place.1 ∙ ap Some one)
+pub spans_add_up : SpansAddUp
+spans_add_up methods cert counts are k n at spans is = line_sum methods cert counts are k n at spans is
+
+pub spans_are_kept : SpansAreKept
+spans_are_kept methods cert counts are few table made =
+    made counts (sym (unchanged capped counts (λ k n at. let l = few k n at in omega (arith, l))))
+    ∙ unchanged (map capped) (method_spans counts methods cert) (λ k line at.
+    let m = line_at methods cert counts k line at in
+    let n = also_at methods counts k m.0 (sym are.each) m.1 in
+    let total = line_sum methods cert counts are k n.0 n.1 line at in
+    let l = few k n.0 n.1 in
+    exact line (omega (arith, total, l)))
 
 -- ---- readings
 
 pub reading_starts : ReadingStarts
-reading_starts methods cert counts are k n at small spans spans_is c start start_is format plans format_is plans_is =
+reading_starts methods cert counts are k spans spans_is c start start_is format plans format_is plans_is =
     let s = stands methods cert k start.format format plans format_is plans_is in
     let found = line_at methods cert counts k spans spans_is in
     let same_method : found.0 ≡ s.method = let a = found.1 in let b = s.method_is in cc in
@@ -114,13 +112,11 @@ reading_starts methods cert counts are k n at small spans spans_is c start start
     let span_is : start.digits.span ≡ plan_ways counts format plans.write = cc in
     let first : sum (take start.format spans) ≡ ways_before methods cert counts k start.format =
     ap (λ z. sum (take start.format z)) line_is ∙ (sum_before counts start.format s.method.formats s.entry.formats ∙ sym (before_is methods cert counts k start.format start.format format plans s)) in
-    let whole = before_whole methods cert counts are k start.format format plans format_is plans_is n at in
     let number_is = start_is.number_is in (
       record {
         base = ways_before methods cert counts k start.format;
         all = λ f tried i. reading.start methods cert counts are k start.format format plans f tried format_is plans_is i.from i.to;
         span_is = span_is;
-        narrow = omega (arith, span_is, whole, small);
         below = start_is.below;
         number_is = omega (arith, number_is, first);
       },
@@ -140,7 +136,6 @@ reading_passes methods cert counts are k n format step steps c place alone befor
         base = before.base + 0 * w;
         all = on.0;
         span_is = omega (arith, span_is, product);
-        narrow = before.narrow;
         below = before.below;
         number_is = omega (arith, number_is);
       };
@@ -152,18 +147,11 @@ reading_passes methods cert counts are k n format step steps c place alone befor
 pub reading_parts : ReadingParts
 reading_parts methods cert counts k n format step steps c place before radix is = (plan_ways counts format steps, ap (λ z. z * plan_ways counts format steps) is ∙ sym before.span_is)
 
-pub reading_calls : ReadingCalls
-reading_calls methods cert counts k n format i steps c place before called radix called_is kept =
-    let found = map_some capped (slice_get counts called) radix (sym (slice_get-map capped counts called) ∙ kept) in
-    let w = plan_ways counts format steps in
-    let above = ways_above (ways counts format (Call i)) w place.span place.rest (sym before.span_is) before.below in
-    let fewer : ways counts format (Call i) ≤ ways counts format (Call i) * w = le-mul_of_pos_right (ways counts format (Call i)) above.1 in
-    let ways_is = ways_are counts format i called found.0 called_is found.1 in
-    let span_is = before.span_is in
-    let narrow = before.narrow in
-    let is : capped found.0 ≡ radix = found.2 in
-    let one : found.0 ≡ radix = omega (arith, is, ways_is, fewer, span_is, narrow) in
-    (omega (arith, one, ways_is), found.1 ∙ ap Some one)
+pub ways_of_choice : WaysOfChoice
+ways_of_choice counts format i bits is = ap (λ o. unwrap_or (option_map (λ n. 2 ^ n) o) 1) is
+
+pub ways_of_call : WaysOfCall
+ways_of_call = ways_are
 
 pub reading_reaches : ReadingReaches
 reading_reaches methods cert counts k n format steps c place r f tried number_is =

@@ -1,5 +1,7 @@
 pub mod Bounds
 pub mod Compares
+pub mod Example
+pub mod Few
 pub mod Fitting
 pub mod Kept
 pub mod Levels

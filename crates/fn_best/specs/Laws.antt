@@ -1,13 +1,13 @@
 -- What is so of codes and numbers.
-use Rattle.std.specs.Prelude.{◌≡◌, ◌↔◌, ℕ, ◌+◌, ◌*◌, ◌^◌, ◌≤◌, ◌<◌, List, [], ◌∷◌, map, Some, slice_get, ℤ}
+use Rattle.std.specs.Prelude.{◌≡◌, ◌↔◌, ℕ, ◌+◌, ◌*◌, ◌^◌, ◌≤◌, ◌<◌, List, [], ◌∷◌, Some, slice_get, option_and_then, ℤ}
 use Rattle.std.specs.List.{sum}
 use Rattle.fn_bits.specs.Number.{num}
 use Rattle.fn_expr.specs.declared.expr.Side.TheVariants.{Uncompressed}
 use Rattle.fn_normal.specs.declared.profile.Format.{Format}
 use Rattle.fn_normal.specs.declared.profile.Method.{Method}
 use Rattle.fn_normal.specs.declared.profile.MethodSizes.{MethodSizes}
-use Rattle.fn_bounds.specs.Methods.{IsOrder}
 use Rattle.fn_bounds.specs.Outcome.{AreSizes}
+use Rattle.fn_profile.specs.Resolved.{Resolved, IsSound}
 use Rattle.fn_filling.specs.declared.filling.Filling.{Filling, out-Filling}
 use Rattle.fn_filling.specs.declared.filling.Item.{Item}
 use Rattle.fn_filling.specs.Entries.{Path}
@@ -19,14 +19,15 @@ use Rattle.fn_cert.specs.declared.certificate.Step.TheVariants.{Call, Choose}
 use Rattle.fn_cert.specs.declared.certificate.Plans.{Plans}
 use Rattle.fn_cert.specs.Kept.{Entries}
 use Rattle.fn_rules.specs.Counts.{ways, plan_ways, AreCounts}
+use Rattle.fn_rules.specs.Rules.{choice}
 use Rattle.fn_rules.specs.Valid.{Valid}
-use Rattle.fn_trees.specs.Capped.{capped, AreCapped}
+use Rattle.fn_trees.specs.Capped.{AreCapped}
 use Rattle.fn_best.specs.declared.digits.Digits.{Digits}
 use Rattle.fn_best.specs.declared.digits.Start.{Start}
 use Rattle.fn_best.specs.Codes.{code, number, codes_in, numbers_in, plan_code, plan_number, write_plan, ways_before, step_digit, called_at, IsCandidate}
 use Rattle.fn_best.specs.Best.{IsUpTo, Best}
 use Rattle.fn_best.specs.Digits.{HasRead, InSpan, AllRead}
-use Rattle.fn_best.specs.Spans.{method_spans, IsStart}
+use Rattle.fn_best.specs.Spans.{AreFew, method_spans, AreSpans, IsStart}
 use Rattle.fn_best.specs.Reading.{Divides, IsReading, ReadsOn, Shares}
 use Rattle.fn_best.specs.Packing.{NoneBelow, NoneAmong}
 
@@ -123,22 +124,24 @@ DigitsBegun = (methods : List Method) (cert : Entries) (counts : List ℕ) (k n 
 
 -- ---- the numbers that are kept
 
--- With a valid certificate the number of candidates that is kept for the top is the number itself, and at most 4,096.
-abbrev pub TopIsKept : Type 0
-TopIsKept = (methods : List Method) (table : List MethodSizes) (top : ℕ) (cert : Entries) (order : List ℕ) → IsOrder methods order → Valid methods table top cert → (kept : List ℕ) (are : AreCapped methods cert kept) →
-    (n : ℕ) → slice_get kept top ≡ Some n → (n ≤ 4096) × (slice_get are.counts top ≡ Some n)
+-- With a valid certificate of a profile the numbers that are kept are the true ones, and none is above 4,096.
+abbrev pub KeptAreCounts : Type 0
+KeptAreCounts = (p : Resolved) (cert : Entries) (kept : List ℕ) → IsSound p → Valid p.methods p.sizes p.top cert → AreCapped p.methods cert kept → AreCounts p.methods cert kept × AreFew kept
 
--- The numbers that are kept for the formats of a method are the numbers themselves, where that of the method has 64 bits: it is their sum.
+-- Then so are those of the formats.
 abbrev pub SpansAreKept : Type 0
-SpansAreKept = (methods : List Method) (cert : Entries) (counts : List ℕ) → AreCounts methods cert counts → (k n : ℕ) → slice_get counts k ≡ Some n → n < 2 ^ 64 →
-    (spans : List ℕ) → slice_get (map (map capped) (method_spans counts methods cert)) k ≡ Some spans → (slice_get (method_spans counts methods cert) k ≡ Some spans) × (sum spans ≡ n)
+SpansAreKept = (methods : List Method) (cert : Entries) (counts : List ℕ) → AreCounts methods cert counts → AreFew counts → (table : List (List ℕ)) → AreSpans methods cert counts table → table ≡ method_spans counts methods cert
+
+-- The number of a method is the sum over its formats.
+abbrev pub SpansAddUp : Type 0
+SpansAddUp = (methods : List Method) (cert : Entries) (counts : List ℕ) → AreCounts methods cert counts → (k n : ℕ) → slice_get counts k ≡ Some n →
+    (spans : List ℕ) → slice_get (method_spans counts methods cert) k ≡ Some spans → sum spans ≡ n
 
 -- ---- reading a number
 
 -- Where a number falls into a format, its digits are to be read by the whole write plan.
 abbrev pub ReadingStarts : Type 0
-ReadingStarts = (methods : List Method) (cert : Entries) (counts : List ℕ) → AreCounts methods cert counts → (k n : ℕ) → slice_get counts k ≡ Some n → n < 2 ^ 64 →
-    (spans : List ℕ) → slice_get (method_spans counts methods cert) k ≡ Some spans → (c : ℕ) (start : Start) → IsStart spans c start →
+ReadingStarts = (methods : List Method) (cert : Entries) (counts : List ℕ) → AreCounts methods cert counts → (k : ℕ) (spans : List ℕ) → slice_get (method_spans counts methods cert) k ≡ Some spans → (c : ℕ) (start : Start) → IsStart spans c start →
     (format : Format) (plans : Plans) → format_at methods k start.format ≡ Some format → write_plan cert k start.format ≡ Some plans →
     (reading : IsReading methods cert counts k start.format format plans.write c start.digits) × (reading.base ≡ ways_before methods cert counts k start.format)
 
@@ -152,10 +155,12 @@ abbrev pub ReadingParts : Type 0
 ReadingParts = (methods : List Method) (cert : Entries) (counts : List ℕ) (k n : ℕ) (format : Format) (step : Step) (steps : List Step) (c : ℕ) (place : Digits) →
     IsReading methods cert counts k n format (step ∷ steps) c place → (radix : ℕ) → radix ≡ ways counts format step → Divides radix place.span
 
--- A call that a number comes to has as many ways as are kept for the called method, and that is its number of candidates.
-abbrev pub ReadingCalls : Type 0
-ReadingCalls = (methods : List Method) (cert : Entries) (counts : List ℕ) (k n : ℕ) (format : Format) (i : ℕ) (steps : List Step) (c : ℕ) (place : Digits) → IsReading methods cert counts k n format (Call i ∷ steps) c place →
-    (called radix : ℕ) → called_at format i ≡ Some called → slice_get (map capped counts) called ≡ Some radix → (radix ≡ ways counts format (Call i)) × (slice_get counts called ≡ Some radix)
+-- A choice has as many ways as its bits have values, a call as many as the called method has candidates.
+abbrev pub WaysOfChoice : Type 0
+WaysOfChoice = (counts : List ℕ) (format : Format) (i bits : ℕ) → option_and_then (choice format i) (slice_get format.fields i) ≡ Some bits → ways counts format (Choose i) ≡ 2 ^ bits
+
+abbrev pub WaysOfCall : Type 0
+WaysOfCall = (counts : List ℕ) (format : Format) (i called n : ℕ) → called_at format i ≡ Some called → slice_get counts called ≡ Some n → ways counts format (Call i) ≡ n
 
 -- A candidate with the number has read its digits so far.
 abbrev pub ReadingReaches : Type 0
