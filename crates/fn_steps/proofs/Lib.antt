@@ -1,0 +1,4 @@
+pub mod Shown
+pub mod Gaining
+pub mod Ruled
+pub mod Measures
