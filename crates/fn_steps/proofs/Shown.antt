@@ -9,7 +9,9 @@ use Rattle.fn_expr.specs.Values.{Assignment}
 use Rattle.fn_lib.specs.Methods.{Lib}
 use Rattle.fn_lib.specs.Methods as lib
 use Rattle.fn_normal.specs.declared.profile.Encoding.{Encoding}
+use Rattle.fn_normal.specs.declared.profile.Encoding.TheVariants as encoding
 use Rattle.fn_normal.specs.declared.profile.Field.{Field}
+use Rattle.fn_normal.specs.declared.profile.Library.{Library}
 use Rattle.fn_normal.specs.declared.profile.Method.{Method}
 use Rattle.fn_normal.specs.declared.profile.MethodSizes.{MethodSizes}
 use Rattle.fn_normal.specs.declared.profile.Sizes.{Sizes}
@@ -28,7 +30,7 @@ use Rattle.fn_fits.specs.Fits as fit
 use Rattle.fn_fits.specs.Bounded.{LiesBetween, SidesLie, sizes_at}
 use Rattle.fn_fits.proofs.Bounding.{lie-in-bounds}
 use Rattle.fn_fits.proofs.Fronts.{short_sides}
-use Rattle.fn_fits.proofs.Inverted.{length-level, length-fields}
+use Rattle.fn_fits.proofs.Inverted.{length-level, length-fields, coded_parts}
 use Rattle.fn_holds.proofs.Judged.{Fitting, fitting, sized}
 use Rattle.fn_rules.specs.Views.{view, side_at}
 use Rattle.fn_rules.proofs.Agree.{side_is}
@@ -61,6 +63,10 @@ field_short methods table are ctx s a path d e g (fit.called {k = k} args inner 
     let short = (short_sides methods table are ctx k args _ inner fitted).0 in let same = ap length u in omega (arith, short, same)
 field_short methods table are ctx s a path d e g (fit.called {k = k} args inner is_args is_inner fitted u c) Compressed =
     let short = (short_sides methods table are ctx k args _ inner fitted).1 in let same = ap length c in omega (arith, short, same)
+
+either : (side : Side) (s : fillings.Sides) → (length s.uncompressed ≤ 64) × (length s.compressed ≤ 64) → length (field_side (Some s) side) ≤ 64
+either Uncompressed s h = h.0
+either Compressed s h = h.1
 
 -- ---- a filling that shows what is known
 
@@ -98,3 +104,10 @@ module _ (scene : Scene) (l : Reached) (sound : IsSound scene.profile.now) (kept
       let g = there (fields_of f) i (omega (arith, within, kept.count, length-fields l.format f shown.level_fits.shaped)) in
       let short = field_short p.methods p.sizes sound.sized (bits_at scene.context.now) _ _ scene.path.now d.0 d.0.encoding g.0 (shown.each i d.0 g.0 d.1 g.1) side in
       subst (λ z. length z ≤ 2 ^ 18) (sym (side_is f i g.0 side g.1)) short
+
+  -- of a library method, at most 64 bits
+  pub coded_short : (d : Field) (m : Library) → slice_get l.format.fields i ≡ Some d → d.encoding ≡ encoding.Library m → (side : Side) → length (side_at (view f) i side) ≤ 64
+  coded_short d m at_d is side =
+      let g = there (fields_of f) i (omega (arith, within, kept.count, length-fields l.format f shown.level_fits.shaped)) in
+      let c = coded_parts scene.profile.now.methods (bits_at scene.context.now) (shown.each i d g.0 at_d g.1) m is in
+      subst (λ z. length z ≤ 64) (sym (side_is f i g.0 side g.1)) (either side (sides_of g.0) (lib_short c.method _ _ _ c.holds))

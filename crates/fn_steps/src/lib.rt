@@ -7,5 +7,8 @@ pub use scene::Scene;
 pub mod fault;
 mod learning;
 pub mod length;
+pub mod library;
+mod methods;
 mod reference;
 pub mod scene;
+pub mod solving;
