@@ -140,19 +140,23 @@ module _ (methods : List Method) (table : List MethodSizes) (ctx : Context) wher
     long i d g n (encoding.Library (library.Lsb k offset)) is e e' h = bracket_tells (side_of format.listing (level f)) (assigned format.listing (level f) args) i format.constraints n refl fitting.constraints h
     long i d g n (encoding.Library (library.Crc crc)) is e e' h = bracket_tells (side_of format.listing (level f)) (assigned format.listing (level f) args) i format.constraints n refl fitting.constraints h
 
+    -- so many bits are chosen
+    pub chosen_long : (i n : ℕ) → option_and_then (choice format i) (slice_get format.fields i) ≡ Some n → length (field_side (slice_get (level f) i) Uncompressed) ≡ n
+    chosen_long i n e =
+        let d = and_then_some (choice format i) (slice_get format.fields i) n e in
+        let c = and_then_some _ (choosable (chosen_size i format.constraints d.0.encoding)) n d.2 in
+        let w = when_some _ c.0 n c.2 in
+        let size = choosable_is (chosen_size i format.constraints d.0.encoding) c.0 c.1 ∙ ap (λ z. Some (pos z)) w.1 in
+        let g = field_of i d.0 d.1 in
+        long i d.0 g.0 n d.0.encoding refl d.1 g.1 size
+
     -- the chosen bits are as many as the step tries
     pub chosen_below : (make : Filling → ℕ → ℕ) (counts : List ℕ) (i : ℕ) (r : Rule) → write_rule table format (Choose i) ≡ Some r →
         num (shown_bits (slice_get (map (show make) (fields_of f)) i)) < ways counts format (Choose i)
     chosen_below make counts i r e =
         let m = map_some _ (option_and_then (choice format i) (slice_get format.fields i)) r e in
-        let d = and_then_some (choice format i) (slice_get format.fields i) m.0 m.1 in
-        let c = and_then_some _ (choosable (chosen_size i format.constraints d.0.encoding)) m.0 d.2 in
-        let w = when_some _ c.0 m.0 c.2 in
-        let size = choosable_is (chosen_size i format.constraints d.0.encoding) c.0 c.1 ∙ ap (λ z. Some (pos z)) w.1 in
-        let g = field_of i d.0 d.1 in
-        let n = long i d.0 g.0 m.0 d.0.encoding refl d.1 g.1 size in
         let b = num-below (field_side (slice_get (level f) i) Uncompressed) in
-        let small : num (field_side (slice_get (level f) i) Uncompressed) < 2 ^ m.0 = subst (λ z. num (field_side (slice_get (level f) i) Uncompressed) < 2 ^ z) n b in
+        let small : num (field_side (slice_get (level f) i) Uncompressed) < 2 ^ m.0 = subst (λ z. num (field_side (slice_get (level f) i) Uncompressed) < 2 ^ z) (chosen_long i m.0 m.1) b in
         let ways_are : ways counts format (Choose i) ≡ 2 ^ m.0 = ap (λ z. unwrap_or (option_map (λ n. 2 ^ n) z) 1) m.1 in
         let shown : num (shown_bits (slice_get (map (show make) (fields_of f)) i)) ≡ num (field_side (slice_get (level f) i) Uncompressed) = ap num (bits_are make (fields_of f) i) in
         omega (arith, small, ways_are, shown)
