@@ -31,3 +31,6 @@ pub mod TreeValues
 pub mod AskedNames
 pub mod AskedLengths
 pub mod AskedFields
+pub mod PlainTrees
+pub mod PlainFormats
+pub mod PlainForms
