@@ -5,6 +5,7 @@ pub mod Shapes
 pub mod Covering
 pub mod Searched
 pub mod Linked
+pub mod Noted
 pub mod Planned
 pub mod Wanted
 pub mod Refused

@@ -9,6 +9,8 @@ use Rattle.fn_expr.specs.declared.expr.Side.TheVariants.{Uncompressed}
 use Rattle.fn_expr.specs.declared.expr.Measure.{Measure}
 use Rattle.fn_expr.specs.declared.expr.Measure.TheVariants as measure
 use Rattle.fn_expr.specs.declared.expr.Comparison.TheVariants.{Equal}
+use Rattle.fn_expr.specs.declared.expr.Subject.{Subject}
+use Rattle.fn_expr.specs.declared.expr.Subject.TheVariants as subject
 use Rattle.fn_expr.specs.declared.expr.Expr.{Expr}
 use Rattle.fn_expr.specs.declared.expr.Expr.TheVariants as expr
 use Rattle.fn_expr.specs.declared.expr.Expr.TheVariants.{Number, Parameter, Binary'}
@@ -24,19 +26,23 @@ use Rattle.fn_cert.specs.declared.certificate.Step.TheVariants.{MethodLength, Co
 use Rattle.fn_cert.specs.declared.rule.Fact.TheVariants.{LengthOf, BitsOf}
 use Rattle.fn_cert.specs.declared.rule.Rule.{Rule}
 use Rattle.fn_rules.specs.Facts.{same_side, inputs}
-use Rattle.fn_rules.specs.Rules.{rule, same_measure, when, first_or, is_attribute, equated, sole, bracketed, attribute_of, length_given, value_given, by_length, by_value}
+use Rattle.fn_rules.specs.Rules.{rule, same_subject, same_measure, when, first_or, is_attribute, equated, sole, bracketed, attribute_of, length_given, value_given, by_length, by_value}
 use Rattle.fn_rules.specs.Plans.{rule_of}
 use Rattle.fn_order.specs.declared.kinds.Kind.{Kind}
 use Rattle.fn_order.specs.declared.kinds.Kind.TheVariants as kind
 use Rattle.fn_order.specs.declared.possible.Possible.{Possible}
-use Rattle.fn_order.specs.Linking.{is_of, tells_of, number_if, telling, AreRows, by_rows, candidates_of}
+use Rattle.fn_order.specs.Linking.{field_named, is_this, is_of, tells_of, number_if, telling, AreRows, by_rows, candidates_of}
 use Rattle.fn_order.specs.Order.{kinds_of, steps_of, in_order, order_of}
 use Rattle.fn_order.specs.Searching.{with_rule, possible_of}
 
 -- ---- a constraint that tells nothing of a field
 
+subject_same : (i : ℕ) (s : Subject) → same_subject s (subject.Field i) ≡ is_this i (field_named s)
+subject_same i (subject.Field j) = refl
+subject_same i subject.This = refl
+
 not_attribute : (i : ℕ) (side : Side) (m : Measure) (e : Expr) → is_of i e ≡ false → is_attribute (attribute_of i side m) e ≡ false
-not_attribute i side m (expr.Attribute s t) h = ap (λ b. b && (same_side t.side side && same_measure t.measure m)) h
+not_attribute i side m (expr.Attribute s t) h = ap (λ b. b && (same_side t.side side && same_measure t.measure m)) (subject_same i t.subject ∙ h)
 not_attribute i side m (Number s n) h = refl
 not_attribute i side m (Parameter s p) h = refl
 not_attribute i side m (Binary' s op p x q y) h = refl

@@ -1,5 +1,5 @@
 -- Which constraints may tell something of a field.
-use Rattle.std.specs.Prelude.{◌≡◌, ℕ, ◌+◌, ◌<◌, Bool, true, false, List, [], ◌∷◌, ◌++◌, nat_eq, ◌||◌, length, get_or}
+use Rattle.std.specs.Prelude.{◌≡◌, ℕ, ◌+◌, ◌<◌, Bool, true, false, List, [], ◌∷◌, ◌++◌, nat_eq, ◌||◌, length, get_or, Option, Some, None}
 use Rattle.std.specs.List.{flat_map}
 use Rattle.fn_expr.specs.declared.expr.Comparison.TheVariants.{Equal}
 use Rattle.fn_expr.specs.declared.expr.Cond.{Cond}
@@ -7,21 +7,35 @@ use Rattle.fn_expr.specs.declared.expr.Cond.TheVariants.{Compare}
 use Rattle.fn_expr.specs.declared.expr.Expr.{Expr}
 use Rattle.fn_expr.specs.declared.expr.Expr.TheVariants as expr
 use Rattle.fn_expr.specs.declared.expr.Expr.TheVariants.{Number, Parameter, Binary'}
+use Rattle.fn_expr.specs.declared.expr.Subject.{Subject}
 use Rattle.fn_expr.specs.declared.expr.Subject.TheVariants as subject
 use Rattle.fn_normal.specs.declared.profile.Constraint.{Constraint}
 use Rattle.fn_normal.specs.declared.profile.Constraint.TheVariants.{Bracket, Enforce}
 use Rattle.fn_normal.specs.declared.profile.Format.{Format}
-use Rattle.fn_rules.specs.Rules.{same_subject}
 use Rattle.fn_cert.specs.declared.certificate.Step.{Step}
 use Rattle.fn_order.specs.declared.kinds.Kind.{Kind}
 use Rattle.fn_order.specs.Order.{steps_of}
 
+-- the field of a subject
+abbrev pub field_named : Subject → Option ℕ
+field_named (subject.Field i) = Some i
+field_named subject.This = None
+
+-- the field of which the expression is an attribute alone
+abbrev pub named : Expr → Option ℕ
+named (expr.Attribute s t) = field_named t.subject
+named (Number s n) = None
+named (Parameter s p) = None
+named (Binary' s op p x q y) = None
+
+-- it is this one
+abbrev pub is_this : ℕ → Option ℕ → Bool
+is_this i None = false
+is_this i (Some j) = nat_eq j i
+
 -- the expression is an attribute of the field alone
 abbrev pub is_of : ℕ → Expr → Bool
-is_of i (expr.Attribute s t) = same_subject t.subject (subject.Field i)
-is_of i (Number s n) = false
-is_of i (Parameter s p) = false
-is_of i (Binary' s op p x q y) = false
+is_of i e = is_this i (named e)
 
 -- the condition is an equation of such an attribute
 abbrev pub is_told : ℕ → Cond → Bool
@@ -37,6 +51,11 @@ tells_of i (Enforce condition place) = is_told i condition
 abbrev pub number_if : Bool → ℕ → List ℕ
 number_if true n = n ∷ []
 number_if false n = []
+
+-- the number is noted in the rows of the fields that pass the test
+pub record IsNoted (tells : ℕ → Bool) (n : ℕ) (old new : List (List ℕ)) : Type 0 where
+  pub each : length new ≡ length old
+  pub right : (i : ℕ) → i < length old → get_or new i [] ≡ get_or old i [] ++ number_if (tells i) n
 
 -- the numbers of the constraints that do, the first being n
 abbrev pub telling : ℕ → ℕ → List Constraint → List ℕ

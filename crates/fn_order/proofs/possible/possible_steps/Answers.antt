@@ -10,7 +10,7 @@ use Rattle.fn_order.proofs.possible.possible_steps.Goals as goal
 pub returns-clause-steps : goal.returns-clause-steps
 returns-clause-steps c =
     let rules = rule_of c.args.direction c.args.table.now c.args.format.now in
-    let rows = c.in_ok-rows.rows in
-    let steps = c.as_slice-2.ensures ∙ (c.in_ok-steps.ensures ∙ ap (candidates_of (kinds_of c.args.direction)) c.as_slice.ensures) in
+    let rows = c.in_ok-rows.rows.items in
+    let steps = c.as_slice-2.ensures ∙ (c.in_ok-steps.ensures ∙ ap (candidates_of (kinds_of c.args.direction)) c.as_slice.ensures.value) in
     let all = rows_have_all c.args.direction c.args.table.now c.args.format.now rows c.in_ok-rows.ensures.rows in
     IfOk-weaker c.with_rules.result (λ possible. possible ≡ possible_of rules c.as_slice-2.result.now) _ (λ possible is. is ∙ (ap (possible_of rules) steps ∙ all)) c.with_rules.ensures
