@@ -6,7 +6,7 @@ use Rattle.fn_normal.specs.declared.profile.Format.{Format}
 use Rattle.fn_normal.specs.declared.profile.Method.{Method}
 use Rattle.fn_normal.specs.declared.profile.MethodSizes.{MethodSizes}
 use Rattle.fn_profile.specs.Resolved.{Resolved, IsSound}
-use Rattle.fn_profile.specs.WellFormed.{AreWellFormed, FormatIsSound}
+use Rattle.fn_profile.specs.WellFormed.{AreWellFormed}
 use Rattle.fn_filling.proofs.Unique.{also_at}
 use Rattle.fn_cert.specs.declared.certificate.Direction.TheVariants.{Read, Write}
 use Rattle.fn_cert.specs.declared.certificate.Plans.{Plans}
@@ -18,7 +18,7 @@ use Rattle.fn_rules.specs.Counts.{entry_at}
 use Rattle.fn_rules.specs.Valid.{plans_at}
 use Rattle.fn_prover.specs.Made.{IsFormatMade, AreFormatsMade, IsMethodMade, IsEntryMade, AreMade}
 use Rattle.fn_prover.specs.Ordered.{AreOrdered, HasOrderedPlans, HasOrderedEntry, IsOrdered}
-use Rattle.fn_prover.proofs.Nodes.{tree_of}
+use Rattle.fn_parting.proofs.Naming.{ordered_names}
 use Rattle.fn_prover.proofs.Pairs.{zip_of}
 use Rattle.fn_prover.proofs.Steps.{plan_of}
 
@@ -49,13 +49,13 @@ module _ (table : List MethodSizes) where
 
   -- ---- methods
 
-  made_method_of : (methods : List Method) (m : Method) (s : MethodSizes) (entry : MethodPlans) → ((n : ℕ) (f : Format) → slice_get m.formats n ≡ Some f → FormatIsSound methods (length m.parameters) f) → IsMethodMade table m s entry → IsMethodOf m entry
-  made_method_of methods m s entry sound made = subst (IsMethodOf m) (sym made.is) record {
+  made_method_of : (methods : List Method) (k : ℕ) (m : Method) (s : MethodSizes) (entry : MethodPlans) → AreWellFormed methods → slice_get methods k ≡ Some m → IsMethodMade table m s entry → IsMethodOf m entry
+  made_method_of methods k m s entry sound at made = subst (IsMethodOf m) (sym made.is) record {
     used = made.used;
     name = refl;
     parameters = refl;
-    tree = tree_of methods m sound s made.tree made.ordered;
-    formats = zip_of IsFormatOf m.formats made.formats made.made.each (λ i f e at there. made_format_of f e (made.made.made i f e at there));
+    tree = ordered_names methods k m s made.tree sound at made.ordered;
+    formats = zip_of IsFormatOf m.formats made.formats made.made.each (λ i f e here there. made_format_of f e (made.made.made i f e here there));
   }
 
   made_method_kept : (m : Method) (s : MethodSizes) (entry : MethodPlans) → IsMethodMade table m s entry → IsMethodKept entry
@@ -80,7 +80,7 @@ module _ (table : List MethodSizes) where
 
     entry_of : AreWellFormed methods → (k : ℕ) (m : Method) (s : MethodSizes) (o : Option MethodPlans) → slice_get methods k ≡ Some m → IsEntryMade table m s o → IsEntryOf m o
     entry_of sound k m s None at is = tt
-    entry_of sound k m s (Some entry) at is = made_method_of methods m s entry (λ n f here. sound.formats k n m f at here) is
+    entry_of sound k m s (Some entry) at is = made_method_of methods k m s entry sound at is
 
     has_formats : (k : ℕ) (m : Method) (s : MethodSizes) (first : Format) (o : Option MethodPlans) → slice_get m.formats 0 ≡ Some first → slice_get cert k ≡ Some o → IsEntryMade table m s o → HasOrderedEntry table m s cert k
     has_formats k m s first None has at is = absurd (let e : None ≡ Some first = ap (λ fs. slice_get fs 0) (sym is) ∙ has in cc)
