@@ -38,14 +38,14 @@ abbrev pub is_of : ℕ → Expr → Bool
 is_of i e = is_this i (named e)
 
 -- the condition is an equation of such an attribute
-abbrev pub is_told : ℕ → Cond → Bool
-is_told i (Compare s Equal x y) = is_of i x || is_of i y
-is_told i _ = false
+abbrev pub equates : ℕ → Cond → Bool
+equates i (Compare s Equal x y) = is_of i x || is_of i y
+equates i _ = false
 
 -- a bracket on the field, or such an equation
 abbrev pub tells_of : ℕ → Constraint → Bool
 tells_of i (Bracket j side lengths place) = nat_eq j i
-tells_of i (Enforce condition place) = is_told i condition
+tells_of i (Enforce condition place) = equates i condition
 
 -- the number where the test holds
 abbrev pub number_if : Bool → ℕ → List ℕ

@@ -51,7 +51,7 @@ fn note_condition(
     number: usize,
     rows: &mut Vec<Items<usize>>,
 ) -> Result<(), AllocError>
-    ensures { OnOk result (spec.IsNoted (λ i. spec.is_told i condition.now) number rows.old.items rows.new.items) }
+    ensures { OnOk result (spec.IsNoted (λ i. spec.equates i condition.now) number rows.old.items rows.new.items) }
 {
     match condition {
         Cond::Compare(_, Comparison::Equal, left, right) => note_both(left, right, number, rows),
