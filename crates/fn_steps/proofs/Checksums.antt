@@ -43,16 +43,21 @@ pub crc_only : (side : Subject → Side → List Bool) (a : Assignment) (crc : C
     IsOnly (SummedBy (val a crc.bits) (val a crc.polynomial) (val a crc.initial) (val a crc.length) covered) o → IsOnly (DownIs side a u (library.Crc crc)) o
 crc_only side a crc u covered o is only =
     only_same (SummedBy (val a crc.bits) (val a crc.polynomial) (val a crc.initial) (val a crc.length) covered) (DownIs side a u (library.Crc crc)) o
-    (λ c h. (h.0, h.1, h.2, h.3,
-        next_value a crc.bits (crc.polynomial ∷ crc.initial ∷ crc.length ∷ []) h.0 (h.1 ∷ h.2 ∷ h.3 ∷ []) h.4
-        (next_value a crc.polynomial (crc.initial ∷ crc.length ∷ []) h.1 (h.2 ∷ h.3 ∷ []) h.5 (next_value a crc.initial (crc.length ∷ []) h.2 (h.3 ∷ []) h.6 (next_value a crc.length [] h.3 [] h.7 refl))),
-        subst (λ z. CrcHolds h.0 h.1 h.2 z h.3 c) is h.8))
+    (λ c h. (
+      h.0,
+      h.1,
+      h.2,
+      h.3,
+      next_value a crc.bits (crc.polynomial ∷ crc.initial ∷ crc.length ∷ []) h.0 (h.1 ∷ h.2 ∷ h.3 ∷ []) h.4
+          (next_value a crc.polynomial (crc.initial ∷ crc.length ∷ []) h.1 (h.2 ∷ h.3 ∷ []) h.5 (next_value a crc.initial (crc.length ∷ []) h.2 (h.3 ∷ []) h.6 (next_value a crc.length [] h.3 [] h.7 refl))),
+      subst (λ z. CrcHolds h.0 h.1 h.2 z h.3 c) is h.8,
+    ))
     (λ c h.
-        let one = first_parts a crc.bits (crc.polynomial ∷ crc.initial ∷ crc.length ∷ []) h.0 (h.1 ∷ h.2 ∷ h.3 ∷ []) h.4 in
-        let two = first_parts a crc.polynomial (crc.initial ∷ crc.length ∷ []) h.1 (h.2 ∷ h.3 ∷ []) one.1 in
-        let three = first_parts a crc.initial (crc.length ∷ []) h.2 (h.3 ∷ []) two.1 in
-        let four = first_parts a crc.length [] h.3 [] three.1 in
-        (h.0, h.1, h.2, h.3, one.0, two.0, three.0, four.0, subst (λ z. CrcHolds h.0 h.1 h.2 z h.3 c) (sym is) h.5))
+    let one = first_parts a crc.bits (crc.polynomial ∷ crc.initial ∷ crc.length ∷ []) h.0 (h.1 ∷ h.2 ∷ h.3 ∷ []) h.4 in
+    let two = first_parts a crc.polynomial (crc.initial ∷ crc.length ∷ []) h.1 (h.2 ∷ h.3 ∷ []) one.1 in
+    let three = first_parts a crc.initial (crc.length ∷ []) h.2 (h.3 ∷ []) two.1 in
+    let four = first_parts a crc.length [] h.3 [] three.1 in
+    (h.0, h.1, h.2, h.3, one.0, two.0, three.0, four.0, subst (λ z. CrcHolds h.0 h.1 h.2 z h.3 c) (sym is) h.5))
     only
 
 pub values_summed : {E : Type 0} (r : Result (Option (List Bool)) E) (n polynomial initial len n' polynomial' initial' len' : Option ℤ) (covered : List Bool) → n ≡ n' → polynomial ≡ polynomial' → initial ≡ initial' → len ≡ len' →

@@ -41,6 +41,9 @@ pub only_summed : (n polynomial initial len : Option ℤ) (p q r s : ℤ) (cover
 only_summed n polynomial initial len p q r s covered o ep eq er es only =
     only_same (λ c. Lib (crc p q r covered s) None [] c) (SummedBy n polynomial initial len covered) o
     (λ c h. (p, q, r, s, ep, eq, er, es, h.1))
-    (λ c h. (refl, subst (λ z. CrcHolds z q r covered s c) (one ep h.4) (subst (λ z. CrcHolds h.0 z r covered s c) (one eq h.5)
-    (subst (λ z. CrcHolds h.0 h.1 z covered s c) (one er h.6) (subst (λ z. CrcHolds h.0 h.1 h.2 covered z c) (one es h.7) h.8)))))
+    (λ c h. (
+      refl,
+      subst (λ z. CrcHolds z q r covered s c) (one ep h.4) (subst (λ z. CrcHolds h.0 z r covered s c) (one eq h.5)
+          (subst (λ z. CrcHolds h.0 h.1 z covered s c) (one er h.6) (subst (λ z. CrcHolds h.0 h.1 h.2 covered z c) (one es h.7) h.8))),
+    ))
     (only None)

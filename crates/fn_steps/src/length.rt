@@ -106,12 +106,7 @@ pub fn constraint_length(
 }
 
 /// The value of the expression that the constraint gives for the length.
-fn constraint_count(
-    level: &Level<'_>,
-    field: usize,
-    side: Side,
-    constraint: usize,
-) -> Option<i128>
+fn constraint_count(level: &Level<'_>, field: usize, side: Side, constraint: usize) -> Option<i128>
     ensures { IfSome (option_and_then (rules.length_given field side) (slice_get level.now.format.constraints constraint)) (λ e.
         knows_all level.now.format level.now.slots (inputs level.now.format e) ≡ true → result ≡ val (spec.shown_numbers level.now) e) }
 {

@@ -135,11 +135,7 @@ fn downward(
 }
 
 /// The checksum of the bits that a crc covers, those of its side.
-fn summed(
-    alloc: Global,
-    level: &Level<'_>,
-    crc: &CrcArguments,
-) -> Result<Option<Bits>, AllocError>
+fn summed(alloc: Global, level: &Level<'_>, crc: &CrcArguments) -> Result<Option<Bits>, AllocError>
     requires asked { spec.AllAsked level.now (library_exprs (Library.Crc crc.now)) }
     requires known { knows_all level.now.format level.now.slots (rules.down_needs level.now.format 0 (Library.Crc crc.now)) ≡ true }
     ensures { IfOk result (IsOnly (DownIs (known_sides level.now.format level.now.slots) (spec.shown_numbers level.now) [] (Library.Crc crc.now))) }
