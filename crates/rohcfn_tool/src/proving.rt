@@ -1,6 +1,6 @@
 //! What is answered to `prove`.
 
-ghost use Rattle.std.specs.Prelude.{◌≡◌, flat_map, IfOk, string_bytes};
+ghost use Rattle.std.specs.Prelude.{◌≡◌, ◌++◌, codes, flat_map, IfOk, string_bytes};
 ghost use Rattle.rohcfn_tool.specs.Printed.{ProvesOctets};
 ghost use Rattle.rohcfn_tool.specs.Provings as spec;
 ghost use Rattle.rohcfn_tool.specs.Provings.{Proves};
@@ -90,10 +90,23 @@ fn plan_line(
     ensures { IfOk result (λ text. string_bytes text ≡ spec.plan_line methods.now method format direction sides.now) }
 {
     let names = names(alloc, methods, method, format)?;
-    let names = names.as_str();
-    let direction = direction_word(direction);
     let sides = sides_text(alloc, methods, method, format, sides)?;
-    let sides = sides.as_str();
+    plan_words(
+        alloc,
+        names.as_str(),
+        direction_word(direction),
+        sides.as_str(),
+    )
+}
+
+fn plan_words(
+    alloc: Global,
+    names: &str,
+    direction: &str,
+    sides: &str,
+) -> Result<String, AllocError>
+    ensures { IfOk result (λ text. string_bytes text ≡ codes "prove: P1 NoPlan " ++ names.now ++ codes " " ++ direction.now ++ sides.now) }
+{
     format!(in alloc; "prove: P1 NoPlan {names} {direction}{sides}")
 }
 
@@ -125,7 +138,12 @@ fn side_text(
     ensures { IfOk result (λ text. string_bytes text ≡ spec.side_words methods.now method format side) }
 {
     let field = field_name(methods, method, format, side.field);
-    let side = side_word(side.side);
+    side_words(alloc, field, side_word(side.side))
+}
+
+fn side_words(alloc: Global, field: &str, side: &str) -> Result<String, AllocError>
+    ensures { IfOk result (λ text. string_bytes text ≡ codes " " ++ field.now ++ codes " " ++ side.now) }
+{
     format!(in alloc; " {field} {side}")
 }
 
@@ -142,5 +160,11 @@ fn tree_line(
     let name = method_name(methods, method);
     let first = format_name(methods, method, first);
     let second = format_name(methods, method, second);
+    tree_words(alloc, name, first, second)
+}
+
+fn tree_words(alloc: Global, name: &str, first: &str, second: &str) -> Result<String, AllocError>
+    ensures { IfOk result (λ text. string_bytes text ≡ codes "prove: P2 NoTree " ++ name.now ++ codes " " ++ first.now ++ codes " " ++ second.now) }
+{
     format!(in alloc; "prove: P2 NoTree {name} {first} {second}")
 }

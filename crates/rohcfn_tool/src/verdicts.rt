@@ -1,6 +1,6 @@
 //! What is answered to `check`.
 
-ghost use Rattle.std.specs.Prelude.{◌≡◌, ℕ, List, ◌++◌, codes, IfOk, string_bytes};
+ghost use Rattle.std.specs.Prelude.{◌≡◌, ℕ, List, ◌++◌, codes, decimal, IfOk, string_bytes};
 ghost use Rattle.std.specs.Option.{option_copied};
 ghost use Rattle.std.specs.Str.{IsUtf8};
 ghost use Rattle.fn_cert.specs.Faults.{Blames};
@@ -239,10 +239,25 @@ fn side_line(
     ensures { IfOk result (λ text. string_bytes text ≡ spec.verdict_line methods.now (CheckFault.NeverLearnt method format direction field side)) }
 {
     let names = names(alloc, methods, method, format)?;
-    let names = names.as_str();
-    let direction = direction_word(direction);
     let field = field_name(methods, method, format, field);
-    let side = side_word(side);
+    side_words(
+        alloc,
+        names.as_str(),
+        direction_word(direction),
+        field,
+        side_word(side),
+    )
+}
+
+fn side_words(
+    alloc: Global,
+    names: &str,
+    direction: &str,
+    field: &str,
+    side: &str,
+) -> Result<String, AllocError>
+    ensures { IfOk result (λ text. string_bytes text ≡ codes "check: V3 " ++ names.now ++ codes " " ++ direction.now ++ codes " " ++ field.now ++ codes " " ++ side.now) }
+{
     format!(in alloc; "check: V3 {names} {direction} {field} {side}")
 }
 
@@ -258,7 +273,7 @@ fn leaf_line(
 {
     let name = method_name(methods, method);
     let format = format_name(methods, method, format);
-    format!(in alloc; "check: V4 {name} node {node} {format}")
+    node_words(alloc, "check: V4 ", name, node, format)
 }
 
 /// A bit past the end of a format.
@@ -273,7 +288,19 @@ fn bit_line(
 {
     let name = method_name(methods, method);
     let format = format_name(methods, method, format);
-    format!(in alloc; "check: V5 {name} node {node} {format}")
+    node_words(alloc, "check: V5 ", name, node, format)
+}
+
+fn node_words(
+    alloc: Global,
+    code: &str,
+    name: &str,
+    node: usize,
+    format: &str,
+) -> Result<String, AllocError>
+    ensures { IfOk result (λ text. string_bytes text ≡ code.now ++ (name.now ++ codes " node " ++ decimal node) ++ codes " " ++ format.now) }
+{
+    format!(in alloc; "{code}{name} node {node} {format}")
 }
 
 /// A constant outside its range.
@@ -285,7 +312,12 @@ fn range_line(
 ) -> Result<String, AllocError>
     ensures { IfOk result (λ text. string_bytes text ≡ spec.verdict_line methods.now (CheckFault.OutOfRange method node)) }
 {
-    let name = method_name(methods, method);
+    range_words(alloc, method_name(methods, method), node)
+}
+
+fn range_words(alloc: Global, name: &str, node: usize) -> Result<String, AllocError>
+    ensures { IfOk result (λ text. string_bytes text ≡ codes "check: V7 " ++ name.now ++ codes " node " ++ decimal node) }
+{
     format!(in alloc; "check: V7 {name} node {node}")
 }
 
