@@ -73,10 +73,12 @@ module _ (table : List MethodSizes) where
     at_method k m s at sized = let o = also_at methods cert k m (sym made.each) at in (o.0, o.1, made.made k m s o.0 at sized o.1)
 
     pub made_kept : AreKept cert
-    made_kept = record { each = λ k entry at.
-      let m = also_at cert methods k (Some entry) made.each at in
-      let s = also_at methods table k m.0 (sym each) m.1 in
-      made_method_kept m.0 s.0 entry (made.made k m.0 s.0 (Some entry) m.1 s.1 at) }
+    made_kept = record {
+      each = λ k entry at.
+          let m = also_at cert methods k (Some entry) made.each at in
+          let s = also_at methods table k m.0 (sym each) m.1 in
+          made_method_kept m.0 s.0 entry (made.made k m.0 s.0 (Some entry) m.1 s.1 at);
+    }
 
     entry_of : AreWellFormed methods → (k : ℕ) (m : Method) (s : MethodSizes) (o : Option MethodPlans) → slice_get methods k ≡ Some m → IsEntryMade table m s o → IsEntryOf m o
     entry_of sound k m s None at is = tt

@@ -36,7 +36,6 @@ both_below g f h xs ys i n r is e =
     let m = mapped_some g (option_and_then f (slice_get ys n)) r (sym (is x.0) ∙ x.2) in
     below f ys n m.0 m.1
 
-
 common_of : (format : Format) (step : Step) (r : Rule) → common_rule format step ≡ Some r → IsStepOf format step
 common_of format (LibraryUp i) r e = record { field = below _ format.fields i r e; constraint = tt }
 common_of format (LibraryDown i) r e = record { field = below _ format.fields i r e; constraint = tt }

@@ -18,11 +18,7 @@ use fn_prover::{Unproved, prove};
 use std::alloc::{AllocError, Global};
 
 /// The answer to `prove`: the text of the certificate that is made, or the line of the profile's fault or of what is missing.
-pub(crate) fn answer_prove(
-    alloc: Global,
-    top: &str,
-    profile: &[u8],
-) -> Result<Answer, AllocError>
+pub(crate) fn answer_prove(alloc: Global, top: &str, profile: &[u8]) -> Result<Answer, AllocError>
     ensures { IfOk result (ProvesOctets top.now profile.now) }
 {
     match read(alloc, profile, top.as_bytes()) {

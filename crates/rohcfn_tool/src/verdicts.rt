@@ -12,9 +12,9 @@ ghost use Rattle.rohcfn_tool.specs.Verdicts.{Checks, Judges};
 ghost use Rattle.rohcfn_tool.specs.Provings.{Makes};
 
 use crate::bundle::Parts;
+use crate::proving::unproved_line;
 use crate::replies::refusal;
 use crate::showing::error_line;
-use crate::proving::unproved_line;
 use crate::status::{Answer, Status};
 use fn_bits::LinesError;
 use fn_bits::lines::lines;

@@ -102,11 +102,7 @@ fn program<'a>(alloc: Global) -> Result<clap::Command<'a>, AllocError>
         "check",
         "Checks the part certificate against the part profile",
     )?;
-    let prove = with_top(
-        alloc,
-        "prove",
-        "Makes a certificate for the part profile",
-    )?;
+    let prove = with_top(alloc, "prove", "Makes a certificate for the part profile")?;
     clap::Command::new(alloc, "rohcfn")
         .about("Packs and unpacks headers by a profile in the ROHC formal notation")
         .bin_name("rohcfn")?
