@@ -1,6 +1,7 @@
 """Cases that are built by repetition: the limits, at and above them, and the fronts of a profile.
 
 The places are counted here from the parts that the text is built of, by docs/FORMATS.md; none is taken from the program."""
+import itertools
 import re
 
 from samples import TICK
@@ -136,7 +137,19 @@ def checked():
         yield name, bundle(b"check --top tick", TICK.encode(), b"=== certificate\n" + text.encode()), 1, answer.encode() + b"\n"
 
 
+def crowded():
+    """Sixteen formats of 120 fields of one bit, of which each two are parted by one field of their own and no other: a tree of tests would have 2^15 leaves."""
+    pairs = list(itertools.combinations(range(16), 2))
+    formats = []
+    for number in range(16):
+        encodings = ["'%d'" % pair.index(number) if number in pair else "irregular(1)" for pair in pairs]
+        fields = "".join("p%d =:= %s [1]; " % (place, encoding) for place, encoding in enumerate(encodings))
+        formats.append("  COMPRESSED f%d { %sx =:= irregular(1) [1]; }\n" % (number, fields))
+    profile = "many {\n  UNCOMPRESSED { x [1]; }\n%s}\n" % "".join(formats)
+    yield "a tree above the limit", bundle(b"prove --top many", profile.encode()), 1, b"prove: P3 Limit\n"
+
+
 def cases():
     """Name, bundle, status and output of each."""
-    for part in (counts, nestings, packed, long_inputs, fronts, checked):
+    for part in (counts, nestings, packed, long_inputs, fronts, checked, crowded):
         yield from part()

@@ -1,12 +1,15 @@
 #!/usr/bin/env python3
-"""Checks certificates of sample profiles with each line left out, doubled, exchanged with the next one, and cut after it, through the built program, and
-compares what it prints with what a second reading of the rules (reading.py) gives."""
+"""Through the built program: certificates of sample profiles with each line left out, doubled, exchanged with the next one, and cut after it; then the certificates
+that `prove` makes for the samples and for small profiles, and what `check` says of these without one. What is printed is compared with what a second reading of
+the rules (reading.py) and a second prover (proving.py) give."""
 import pathlib
 import subprocess
 import sys
 
+import proving
 import reading
 import samples
+import small
 
 PROGRAM = pathlib.Path(__file__).parent.parent / "bin" / "rohcfn"
 SAMPLES = ["tick", "opt", "seq", "wrap", "vast"]
@@ -25,21 +28,37 @@ def changed(text):
     yield "without the last line feed", text[:-1]
 
 
-def bundle(name, text):
-    return "=== words\ncheck --top %s\n=== profile\n%s=== certificate\n%s" % (name, samples.TEXTS[name], text)
+def slips():
+    """Words, profile, certificate and answer of each changed certificate."""
+    for name in SAMPLES:
+        for what, text in changed(samples.CERTIFICATES[name]):
+            line, status = reading.answer(samples.NORMAL[name], samples.TOPS[name], text)
+            yield "certificate of %s %s" % (name, what), "check --top %s" % name, samples.TEXTS[name], text, (line + "\n", status)
+
+
+def proofs():
+    """The same of each profile without a certificate: what `prove` prints, and what `check` then says."""
+    named = [(name, name, samples.TEXTS[name], samples.NORMAL[name]) for name in samples.NORMAL]
+    for name, top, profile, methods in named + [("small profile %d" % i, "p", *it) for i, it in enumerate(small.profiles())]:
+        text, status = proving.answer(methods)
+        yield "proof of %s" % name, "prove --top %s" % top, profile, None, (text, status)
+        line, status = (text, status) if status else reading.answer(methods, len(methods) - 1, text)
+        yield "check of %s" % name, "check --top %s" % top, profile, None, (line.rstrip("\n") + "\n", status)
+
+
+def bundle(words, profile, text):
+    return "=== words\n%s\n=== profile\n%s" % (words, profile) + ("=== certificate\n%s" % text if text is not None else "")
 
 
 def main():
     passed = failed = 0
-    for name in SAMPLES:
-        for what, text in changed(samples.CERTIFICATES[name]):
-            line, status = reading.answer(samples.NORMAL[name], samples.TOPS[name], text)
-            run = subprocess.run([PROGRAM], input=bundle(name, text).encode(), stdout=subprocess.PIPE, check=False)
-            if (run.stdout.decode(), run.returncode) == (line + "\n", status):
-                passed += 1
-            else:
-                print("certificate of %s %s: %r, and not %r" % (name, what, run.stdout, line))
-                failed += 1
+    for what, words, profile, text, due in [*slips(), *proofs()]:
+        run = subprocess.run([PROGRAM], input=bundle(words, profile, text).encode(), stdout=subprocess.PIPE, check=False)
+        if (run.stdout.decode(), run.returncode) == due:
+            passed += 1
+        else:
+            print("%s: %r, and not %r" % (what, run.stdout, due[0]))
+            failed += 1
     print("certificates: %d passed, %d failed" % (passed, failed))
     sys.exit(1 if failed else 0)
 

@@ -18,7 +18,7 @@ use Rattle.fn_cert.specs.declared.draft.Stage.{Stage}
 use Rattle.fn_cert.specs.declared.draft.Stage.TheVariants as stage
 use Rattle.fn_cert.specs.Kept.{Entries, owed_after, node_limit, depth_limit, offset_limit, step_limit}
 use Rattle.fn_cert.specs.Text.{name_of}
-use Rattle.fn_cert.specs.Of.{field_names}
+use Rattle.fn_cert.specs.Of.{of_format, of_method}
 
 -- ---- words
 
@@ -131,7 +131,7 @@ at next d = record { stage = next; entries = d.entries; tree = d.tree; owed = d.
 
 -- formats without plans, from the place where so many were up to another place
 abbrev pub blank : Format → FormatPlans
-blank format = record { name = format.name; fields = field_names format; plans = None }
+blank format = of_format format None
 
 abbrev pub blanks : List Format → ℕ → ℕ → List FormatPlans
 blanks formats from to = map blank (drop from (take to formats))
@@ -149,7 +149,7 @@ with_format d format = record {
   entries = d.entries;
   tree = d.tree;
   owed = d.owed;
-  formats = d.formats ++ record { name = format.name; fields = field_names format; plans = Some record { read = d.read; write = d.write } } ∷ [];
+  formats = d.formats ++ of_format format (Some record { read = d.read; write = d.write }) ∷ [];
   read = [];
   write = [];
 }
@@ -165,7 +165,7 @@ close_format methods d = close_format_at d.stage d (open_format methods d)
 abbrev pub with_method : Draft → Method → Draft
 with_method d method = record {
   stage = stage.Between;
-  entries = d.entries ++ Some record { name = method.name; parameters = method.parameters; tree = d.tree; formats = d.formats ++ blanks method.formats (length d.formats) (length method.formats) } ∷ [];
+  entries = d.entries ++ Some (of_method method d.tree (d.formats ++ blanks method.formats (length d.formats) (length method.formats))) ∷ [];
   tree = [];
   owed = d.owed;
   formats = [];

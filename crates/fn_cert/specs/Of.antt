@@ -19,6 +19,14 @@ use Rattle.fn_cert.specs.Text.{field_of}
 abbrev pub field_names : Format → List (List ℕ)
 field_names format = map (λ d. d.declared.name) format.fields
 
+-- what is said of a format with these plans, if any
+abbrev pub of_format : Format → Option Plans → FormatPlans
+of_format format plans = record { name = format.name; fields = field_names format; plans = plans }
+
+-- of a method with this tree, where this is said of its formats
+abbrev pub of_method : Method → List Node → List FormatPlans → MethodPlans
+of_method method tree formats = record { name = method.name; parameters = method.parameters; tree = tree; formats = formats }
+
 -- the constraint of a step is one of so many
 abbrev pub IsConstraintBelow : ℕ → Step → Type 0
 IsConstraintBelow constraints (ConstraintLength i side n) = n < constraints

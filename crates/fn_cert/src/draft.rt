@@ -4,14 +4,13 @@ ghost use Rattle.std.specs.Prelude.{◌≡◌, ◌-◌, ◌≤◌, ◌∷◌, �
 ghost use Rattle.std.specs.Option.{option_copied};
 ghost use Rattle.fn_cert.specs.declared.draft.Stage.TheVariants as stage;
 ghost use Rattle.fn_cert.specs.Drafts as spec;
-ghost use Rattle.fn_cert.specs.Of.{field_names};
 ghost use Rattle.fn_cert.specs.Kept.{owed_after, depth_limit};
 
 use crate::certificate::{
     DEPTH_LIMIT, FormatPlans, MethodPlans, NODE_LIMIT, Node, Plans, STEP_LIMIT, Step,
 };
 use crate::words::{node_of, place_of_format, place_of_method, step_of};
-use fn_normal::{Field, Format, Method, Name};
+use fn_normal::{Format, Method};
 use sqlite_items::Items;
 use std::alloc::{AllocError, Global};
 use std::marker::Model;
@@ -304,12 +303,12 @@ impl Draft {
     fn push_format(&mut self, alloc: Global, format: &Format) -> Result<(), AllocError>
         ensures { OnOk result (self.new ≡ spec.with_format self.old format.now) }
     {
-        let mut plans = blank(alloc, format)?;
-        plans.plans = Some(Plans {
+        let plans = Plans {
             read: mem::replace(&mut self.read, Items::new(alloc)),
             write: mem::replace(&mut self.write, Items::new(alloc)),
-        });
-        self.formats.push(plans)?;
+        };
+        let entry = FormatPlans::of(alloc, format, Some(plans))?;
+        self.formats.push(entry)?;
         self.stage = Stage::Formats;
         Ok(())
     }
@@ -332,13 +331,10 @@ impl Draft {
     {
         let formats = method.formats.as_slice();
         push_blanks(alloc, &mut self.formats, formats, formats.len())?;
-        let plans = MethodPlans {
-            name: method.name.share()?,
-            parameters: shared(alloc, method.parameters.as_slice())?,
-            tree: mem::replace(&mut self.tree, Items::new(alloc)),
-            formats: mem::replace(&mut self.formats, Items::new(alloc)),
-        };
-        self.entries.push(Some(plans))?;
+        let tree = mem::replace(&mut self.tree, Items::new(alloc));
+        let formats = mem::replace(&mut self.formats, Items::new(alloc));
+        let entry = MethodPlans::of(alloc, method, tree, formats)?;
+        self.entries.push(Some(entry))?;
         self.stage = Stage::Between;
         Ok(())
     }
@@ -455,48 +451,8 @@ fn push_blanks(
 {
     for place in entries.len()..to {
         if let Some(format) = formats.get(place) {
-            entries.push(blank(alloc, format)?)?;
+            entries.push(FormatPlans::of(alloc, format, None)?)?;
         }
     }
     Ok(())
-}
-
-/// What is said of a format without plans.
-fn blank(alloc: Global, format: &Format) -> Result<FormatPlans, AllocError>
-    ensures { IfOk result (λ plans. plans ≡ spec.blank format.now) }
-{
-    Ok(FormatPlans {
-        name: shared_name(&format.name)?,
-        fields: field_names(alloc, format.fields.as_slice())?,
-        plans: None,
-    })
-}
-
-fn shared_name(name: &Option<Name>) -> Result<Option<Name>, AllocError>
-    ensures { IfOk result (λ other. other ≡ name.now) }
-{
-    match name {
-        Some(name) => Ok(Some(name.share()?)),
-        None => Ok(None),
-    }
-}
-
-fn shared(alloc: Global, names: &[Name]) -> Result<Items<Name>, AllocError>
-    ensures { IfOk result (λ others. others ≡ names.now) }
-{
-    let mut others = Items::new(alloc);
-    for name in names {
-        others.push(name.share()?)?;
-    }
-    Ok(others)
-}
-
-fn field_names(alloc: Global, fields: &[Field]) -> Result<Items<Name>, AllocError>
-    ensures { IfOk result (λ names. names ≡ map (λ d. d.declared.name) fields.now) }
-{
-    let mut names = Items::new(alloc);
-    for field in fields {
-        names.push(field.declared.name.share()?)?;
-    }
-    Ok(names)
 }

@@ -13,6 +13,7 @@ pub mod certificate;
 mod draft;
 mod faults;
 pub mod laws;
+mod naming;
 pub mod printing;
 pub mod reading;
 pub mod rule;

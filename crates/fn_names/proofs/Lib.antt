@@ -27,3 +27,10 @@ pub mod NamedMethods
 pub mod KeptNames
 pub mod Refusing
 pub mod Tokens
+pub mod TreeValues
+pub mod AskedNames
+pub mod AskedLengths
+pub mod AskedFields
+pub mod PlainTrees
+pub mod PlainFormats
+pub mod PlainForms

@@ -19,6 +19,8 @@ use Rattle.fn_profile.specs.Limits.{IsWithinLimits}
 use Rattle.fn_names.specs.Methods.{HaveForm}
 use Rattle.fn_profile.specs.Uses.{Uses, AreReached}
 use Rattle.fn_names.specs.Twice.{AreDistinct}
+use Rattle.fn_profile.specs.declared.asked.AskedField.{AskedField}
+use Rattle.fn_profile.specs.Asked.{asked_of, AreAsked}
 use Rattle.fn_profile.specs.Resolved.{Resolved, IsSound}
 use Rattle.fn_names.specs.Resolved.{top_of, OrderOfText, IsProfile, IsNormalForm, ProfileCause, no_bounds}
 use Rattle.fn_profile.specs.Named.{AreNamed, AreWords}
@@ -27,6 +29,7 @@ use Rattle.fn_profile.specs.WellFormed.{AreWellFormed}
 use Rattle.fn_names.proofs.SoundKept.{kept_well_formed}
 use Rattle.fn_names.proofs.KeptLimits.{kept_within_limits}
 use Rattle.fn_names.proofs.KeptNames.{kept_named, kept_rooted}
+use Rattle.fn_names.proofs.AskedFields.{kept_asked}
 use Rattle.fn_names.proofs.Bridging.{uses_of_text, as_many}
 use Rattle.fn_names.proofs.Using.{order_of_uses, order_of_kept}
 
@@ -61,9 +64,10 @@ forms_ordered text parts top all order form ordered =
     (subst (λ n. IsOrder (Calls (graph_of text (method_names text parts) parts)) n order) (sym (form_for_each text parts top all form)) ordered) (uses_of_text text parts top all form)
 
 -- the methods that the top reaches, with bounds
-pub sound : (all kept : List Method) (table : List MethodSizes) (top : ℕ) (order : List ℕ) → IsOrder (Uses all) (length all) order → top < length all → AreReached all top kept
-    → sizes.AreSizes kept table → AreWellFormed all → AreNamed all → AreWords kept → IsPlain all top → HaveFormats all → IsWithinLimits all top → IsSound (record { methods = kept; sizes = table; top = top })
-sound all kept table top order ordered within reached sized well_formed named words plain formats limits = record {
+pub sound : (all kept : List Method) (table : List MethodSizes) (top : ℕ) (asked : List AskedField) (order : List ℕ) → asked ≡ asked_of kept top → AreAsked all top (asked_of all top) → IsOrder (Uses all) (length all) order → top < length all → AreReached all top kept
+    → sizes.AreSizes kept table → AreWellFormed all → AreNamed all → AreWords kept → IsPlain all top → HaveFormats all → IsWithinLimits all top
+    → IsSound (record { methods = kept; sizes = table; top = top; asked = asked })
+sound all kept table top asked order asked_are asking ordered within reached sized well_formed named words plain formats limits = record {
   order = order;
   ordered = order_of_kept (length all) order all kept top refl ordered reached;
   sized = sized;
@@ -72,6 +76,7 @@ sound all kept table top order ordered within reached sized well_formed named wo
   named = kept_named all kept top named reached;
   words = words;
   rooted = kept_rooted all kept top plain formats reached;
+  asking = subst (AreAsked kept top) (sym asked_are) (kept_asked all kept top within asking reached);
   limits = kept_within_limits all kept top order ordered within reached limits;
 }
 

@@ -11,3 +11,4 @@ pub mod Methods
 pub mod Resolved
 pub mod WellFormed
 pub mod Readings
+pub mod Plain

@@ -14,6 +14,7 @@ use Rattle.fn_names.specs.Methods.{HaveForm, FormCause}
 use Rattle.fn_names.specs.Top.{is_top, no_top}
 use Rattle.fn_names.specs.Calls.{graph_of}
 use Rattle.fn_names.specs.Recursion.{IsRecursive}
+use Rattle.fn_profile.specs.Asked.{asked_of}
 use Rattle.fn_profile.specs.Limits.{IsWithinLimits}
 use Rattle.fn_names.specs.Large.{IsTooLarge}
 use Rattle.fn_profile.specs.Resolved.{Resolved}
@@ -34,6 +35,8 @@ pub record IsProfile (all : List Method) (top : ℕ) (p : Resolved) : Type 0 whe
   pub limits : IsWithinLimits all top
   pub reached : AreReached all top p.methods
   pub sized : sizes.AreSizes p.methods p.sizes
+  -- the asked fields of the top, with their lengths
+  pub asked_are : p.asked ≡ asked_of p.methods p.top
 
 -- why methods in their normal forms make no profile
 pub data ProfileCause (parts : List Part) (all : List Method) (top : ℕ) : ProfileFault → Type 0 where

@@ -6,6 +6,7 @@ ghost use Rattle.fn_normal.specs.Judging.{Blames};
 ghost use Rattle.fn_names.specs.Parts.{methods_of};
 ghost use Rattle.fn_formats.specs.Worded.{AreWorded};
 ghost use Rattle.fn_names.specs.Resolved as spec;
+ghost use Rattle.fn_profile.specs.Asked.{AreAsked, asked_of};
 ghost use Rattle.fn_profile.specs.Named.{AreNamed};
 ghost use Rattle.fn_profile.specs.Rooted.{IsPlain, HaveFormats};
 ghost use Rattle.fn_profile.specs.Uses.{Uses};
@@ -20,7 +21,7 @@ use crate::top::{no_top, top};
 use crate::uses::used_graph;
 use fn_bounds::sizes;
 use fn_normal::{Method, ResolveError};
-use fn_profile::{Profile, are_words};
+use fn_profile::{Profile, are_words, asked_fields};
 use fn_tree::Part;
 use sqlite_items::Items;
 use std::alloc::Global;
@@ -64,6 +65,7 @@ fn profile_of(
     requires names { AreNamed methods }
     requires plain { IsPlain methods top }
     requires formats { HaveFormats methods }
+    requires asking { AreAsked methods top (asked_of methods top) }
     ensures found { IfOk result (spec.IsProfile methods top) }
     ensures refused { IfErr result (Blames (spec.ProfileCause parts.now methods top)) }
 {
@@ -74,8 +76,9 @@ fn profile_of(
     }
     let methods = reached_methods(alloc, methods, graph, top)?;
     are_words(methods.as_slice());
+    let asked = asked_fields(alloc, methods.as_slice(), top)?;
     match sizes(alloc, methods.as_slice(), order) {
-        Ok(sizes) => Ok(Profile::of(methods, sizes, top)),
+        Ok(sizes) => Ok(Profile::of(methods, sizes, top, asked)),
         Err(error) => Err(error),
     }
 }

@@ -126,7 +126,7 @@ fn sole(exprs: &[Expr]) -> Option<&Expr>
 }
 
 /// The expression that the constraint says is the length of that side of the field.
-pub(crate) fn length_given(field: usize, side: Side, constraint: &Constraint) -> Option<&Expr>
+pub fn length_given(field: usize, side: Side, constraint: &Constraint) -> Option<&Expr>
     ensures { option_copied result ≡ spec.length_given field side constraint.now }
 {
     match bracketed(field, side, constraint) {
@@ -136,7 +136,7 @@ pub(crate) fn length_given(field: usize, side: Side, constraint: &Constraint) ->
 }
 
 /// The expression that the constraint says is the value of the field's uncompressed side.
-pub(crate) fn value_given(field: usize, constraint: &Constraint) -> Option<&Expr>
+pub fn value_given(field: usize, constraint: &Constraint) -> Option<&Expr>
     ensures { option_copied result ≡ spec.value_given field constraint.now }
 {
     equated(

@@ -70,8 +70,8 @@ fn never_learnt(
     Ok(first_missing(direction, format, listed.as_slice(), known))
 }
 
-/// The same, where these flags say which fields are listed.
-fn first_missing(
+/// The first side of a field that is not learnt, as a fault of the plan, where these flags say which fields are listed.
+pub fn first_missing(
     direction: Direction,
     format: &Format,
     listed: &[bool],
@@ -103,7 +103,7 @@ fn missing_side(direction: Direction, known: &Knowledge, field: usize, is_due: b
 }
 
 /// Whether a side of the field is learnt, where the field is due or not.
-fn is_learnt(
+pub fn is_learnt(
     direction: Direction,
     known: &Knowledge,
     field: usize,
@@ -126,8 +126,8 @@ fn is_told(direction: Direction, side: Side) -> bool
     }
 }
 
-/// Whether the field has to be taken or called, where it is listed or not.
-fn is_due(direction: Direction, is_listed: bool, field: &Field) -> bool
+/// Whether the field is due: it has to be taken or called, where it is listed or not.
+pub fn is_due(direction: Direction, is_listed: bool, field: &Field) -> bool
     ensures { result ≡ spec.is_due direction is_listed field.now }
 {
     match direction {

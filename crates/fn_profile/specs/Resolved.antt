@@ -4,16 +4,20 @@ use Rattle.fn_normal.specs.declared.profile.Method.{Method}
 use Rattle.fn_normal.specs.declared.profile.MethodSizes.{MethodSizes}
 use Rattle.fn_bounds.specs.Methods as bounds
 use Rattle.fn_bounds.specs.Outcome as sizes
+use Rattle.fn_profile.specs.declared.asked.AskedField.{AskedField}
+use Rattle.fn_profile.specs.Asked.{AreAsked}
 use Rattle.fn_profile.specs.Limits.{IsWithinLimits}
 use Rattle.fn_profile.specs.Named.{AreNamed, AreWords}
 use Rattle.fn_profile.specs.Rooted.{IsRooted}
 use Rattle.fn_profile.specs.WellFormed.{AreWellFormed}
 
--- what a resolved profile shows: its methods in the order of the text, where those that the top doesn't reach have no formats; the bounds of each; and the place of the top
+-- what a resolved profile shows: its methods in the order of the text, where those that the top doesn't reach have no formats; the bounds of each; the place of the top; and
+-- the top's asked fields in the order of CONTROL
 pub record Resolved : Type 0 where
   pub methods : List Method
   pub sizes : List MethodSizes
   pub top : ℕ
+  pub asked : List AskedField
 
 -- what every value of the type keeps: callees can come first, the bounds are those of the methods, the top is one of them, and they are within the limits
 pub record IsSound (p : Resolved) : Type 0 where
@@ -29,5 +33,7 @@ pub record IsSound (p : Resolved) : Type 0 where
   pub words : AreWords p.methods
   -- the top has no parameters, and the methods that it reaches are those with formats
   pub rooted : IsRooted p.methods p.top
+  -- the asked fields are those of each format of the top, and no other method has any
+  pub asking : AreAsked p.methods p.top p.asked
   -- no call chain, format or message is too large, by the methods as they are kept
   pub limits : IsWithinLimits p.methods p.top

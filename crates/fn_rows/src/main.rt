@@ -1,4 +1,4 @@
-//! Answers rows on bits, texts, expressions, library methods, contexts and fillings: line N of the output answers line N of the input, and is empty where
+//! Answers rows on bits, texts, expressions, library methods, contexts, fillings and plans: line N of the output answers line N of the input, and is empty where
 //! that is empty or a comment (`#`). In a row `%0a` stands for the octet 0a and so on, and so it does in an answer for what isn't visible ASCII.
 #![tactic(auto)]
 
@@ -9,6 +9,7 @@ mod fillings;
 mod library;
 mod lists;
 mod octets;
+mod plans;
 mod sources;
 mod words;
 
@@ -67,6 +68,7 @@ fn answer(
         "judged" => {
             fillings::judged_often(alloc, out, profile.as_ref().context("no profile")?, rest)
         }
+        "plan" => plans::ordered(alloc, out, profile.as_ref().context("no profile")?, rest),
         "sides" => fillings::sides(alloc, out, rest),
         "below" => fillings::path(alloc, out, rest),
         "path" => contexts::knows_path(out, rest),

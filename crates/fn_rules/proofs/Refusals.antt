@@ -1,5 +1,5 @@
 -- A fault is there only where the certificate is not valid.
-use Rattle.std.proofs.Common.{◌≡◌, sym, ◌∙◌, ap, subst, ℕ, Bool, true, false, List, [], ◌∷◌, ◌++◌, arith}
+use Rattle.std.proofs.Common.{◌≡◌, ◌<◌, sym, ◌∙◌, ap, subst, ℕ, Bool, true, false, List, [], ◌∷◌, ◌++◌, arith}
 use Rattle.std.specs.Prelude.{Option, Some, slice_get}
 use Rattle.fn_normal.specs.declared.profile.Format.{Format}
 use Rattle.fn_normal.specs.declared.profile.Method.{Method}
@@ -19,9 +19,10 @@ use Rattle.fn_cert.specs.declared.rule.Fact.{Fact}
 use Rattle.fn_cert.specs.declared.rule.Rule.{Rule}
 use Rattle.fn_rules.specs.Plans.{way_of, rule_of, enabled, learnt, known_after, all_enabled, known_at_start, IsPlan}
 use Rattle.fn_rules.specs.Trees.{PartsFormats}
-use Rattle.fn_rules.specs.Counts.{entry_at}
+use Rattle.fn_rules.specs.Counts.{entry_at, AreCounts}
 use Rattle.fn_rules.specs.Valid.{plans_at, HasPlans, HasEntry, Valid}
 use Rattle.fn_rules.specs.declared.fault.CheckFault.{CheckFault}
+use Rattle.fn_rules.specs.declared.fault.CheckFault.TheVariants.{TooMany, TooLong}
 use Rattle.fn_rules.specs.Refusals.{steps_of, At, IsRefused, lacks_method, lacks_format, step_refused, side_unknown, leaf_reached, nowhere_reached, bit_past, constant_outside, counts_above, bits_above, FaultsExclude}
 use Rattle.fn_rules.proofs.Agree.{and_true}
 use Rattle.fn_rules.proofs.Counts.{one_count}
@@ -37,11 +38,20 @@ each_enabled rules known [] after step e = (and_true (enabled known (rules step)
 each_enabled rules known (s ∷ before) after step e =
     each_enabled rules (learnt (rules s) ++ known) before after step (and_true (enabled known (rules s)) (all_enabled rules (learnt (rules s) ++ known) (before ++ step ∷ after)) e).1
 
-module _ (methods : List Method) (table : List MethodSizes) (top : ℕ) (cert : Entries) (order : List ℕ) (ordered : IsOrder methods order) (are : AreSizes methods table) (valid : Valid methods table top cert) where
+-- A fault of the top alone, with what shows it.
+pub data IsTopFault (methods : List Method) (table : List MethodSizes) (top : ℕ) (cert : Entries) : CheckFault → Type 0 where
+  many : (counts : List ℕ) (n : ℕ) → AreCounts methods cert counts → slice_get counts top ≡ Some n → 4096 < n → IsTopFault methods table top cert TooMany
+  long : (s : MethodSizes) → slice_get table top ≡ Some s → 8192 < s.whole.compressed.most → IsTopFault methods table top cert TooLong
+
+-- each method that has formats has an entry that is right
+abbrev pub AreRight : List Method → List MethodSizes → Entries → Type 0
+AreRight methods table cert = (k : ℕ) (m : Method) (s : MethodSizes) (first : Format) → slice_get methods k ≡ Some m → slice_get table k ≡ Some s → slice_get m.formats 0 ≡ Some first → HasEntry table m s cert k
+
+module _ (methods : List Method) (table : List MethodSizes) (cert : Entries) (are : AreSizes methods table) (right : AreRight methods table cert) where
   -- what the certificate has of a method
   found : (k : ℕ) (m : Method) (s : MethodSizes) (entry : MethodPlans) → At methods table cert k m s entry → (h : HasEntry table m s cert k) × (h.entry ≡ entry)
   found k m s entry at =
-      let h = valid.entries k m s at.first at.method_at at.sizes_at at.has_format in
+      let h = right k m s at.first at.method_at at.sizes_at at.has_format in
       (h, one_value (entry_at cert k) h.entry entry h.entry_is at.entry_is)
 
   tree_found : (k : ℕ) (m : Method) (s : MethodSizes) (entry : MethodPlans) → At methods table cert k m s entry → PartsFormats m.formats s entry.tree
@@ -58,36 +68,41 @@ module _ (methods : List Method) (table : List MethodSizes) (top : ℕ) (cert : 
         by Read p plans same = subst (λ (z : Plans). IsPlan (way_of Read table format) z.read) same p.read
         by Write p plans same = subst (λ (z : Plans). IsPlan (way_of Write table format) z.write) same p.write
 
-  excluded : (r : CheckFault) → IsRefused methods table top cert r → ⊥
-  excluded r (lacks_method {k} m first at is none) =
+  -- only a fault of the top can be left
+  pub of_the_top : (top : ℕ) (r : CheckFault) → IsRefused methods table top cert r → IsTopFault methods table top cert r
+  of_the_top top r (lacks_method {k} m first at is none) =
       let s = also_at methods table k m (sym are.each) at in
-      let h = valid.entries k m s.0 first at s.1 is in
+      let h = right k m s.0 first at s.1 is in
       absurd (let e = h.entry_is in cc)
-  excluded r (lacks_format {k} {n} {m} {s} {entry} format at is none) =
+  of_the_top top r (lacks_format {k} {n} {m} {s} {entry} format at is none) =
       let f = found k m s entry at in
       let p = f.0.formats n format is in
       absurd (let e : plans_at entry n ≡ Some p.plans = ap (λ z. plans_at z n) (sym f.1) ∙ p.plans_are in cc)
-  excluded r (step_refused {k} {n} {m} {s} {entry} format plans direction before after step at is is_plans cut so_far refused) =
+  of_the_top top r (step_refused {k} {n} {m} {s} {entry} format plans direction before after step at is is_plans cut so_far refused) =
       let p = plans_found k n m s entry format plans direction at is is_plans in
       let all = ap (all_enabled (rule_of direction table format) (known_at_start format)) (sym cut) ∙ p.enabled in
       absurd (not_both _ (each_enabled (rule_of direction table format) (known_at_start format) before after step all) refused)
-  excluded r (side_unknown {k} {n} {m} {s} {entry} format plans direction place goal at is is_plans enabled at_goal unknown) =
+  of_the_top top r (side_unknown {k} {n} {m} {s} {entry} format plans direction place goal at is is_plans enabled at_goal unknown) =
       let way = way_of direction table format in
       let known = known_after way.rule way.start (steps_of direction plans) in
       absurd (not_both _ (goal_reached way.goals known (plans_found k n m s entry format plans direction at is is_plans).complete place goal at_goal) unknown)
-  excluded r (leaf_reached {k} {place} {n} {m} {s} {entry} j reach at is_node is_reach reached other) =
+  of_the_top top r (leaf_reached {k} {place} {n} {m} {s} {entry} j reach at is_node is_reach reached other) =
       absurd (other ((tree_found k m s entry at).each place (node.Leaf j) reach is_node is_reach n reached))
-  excluded r (nowhere_reached {k} {place} {n} {m} {s} {entry} reach at is_node is_reach reached) =
+  of_the_top top r (nowhere_reached {k} {place} {n} {m} {s} {entry} reach at is_node is_reach reached) =
       absurd ((tree_found k m s entry at).each place node.Nowhere reach is_node is_reach n reached)
-  excluded r (bit_past {k} {place} {n} {m} {s} {entry} o reach at is_node is_reach reached past) =
+  of_the_top top r (bit_past {k} {place} {n} {m} {s} {entry} o reach at is_node is_reach reached past) =
       absurd (let low = (tree_found k m s entry at).each place (node.Bit o) reach is_node is_reach n reached in omega (arith, low, past))
-  excluded r (constant_outside {k} {place} {m} {s} {entry} i c range at is_node reach is_reach is_range outside) =
+  of_the_top top r (constant_outside {k} {place} {m} {s} {entry} i c range at is_node reach is_reach is_range outside) =
       absurd (outside ((tree_found k m s entry at).each place (node.Parameter i c) reach is_node is_reach range is_range))
-  excluded r (counts_above counts n are_counts is above) =
-      let one = one_count methods order cert counts valid.counts ordered are_counts valid.are_counts in
-      let few = valid.few n (ap (λ c. slice_get c top) (sym one) ∙ is) in
-      omega (arith, few, above)
-  excluded r (bits_above s is above) = absurd (let most = valid.short s is in omega (arith, most, above))
+  of_the_top top r (counts_above counts n are_counts is above) = many counts n are_counts is above
+  of_the_top top r (bits_above s is above) = long s is above
+
+top_excluded : (methods : List Method) (table : List MethodSizes) (top : ℕ) (cert : Entries) (order : List ℕ) → IsOrder methods order → Valid methods table top cert → (r : CheckFault) → IsTopFault methods table top cert r → ⊥
+top_excluded methods table top cert order ordered valid r (many counts n are_counts is above) =
+    let one = one_count methods order cert counts valid.counts ordered are_counts valid.are_counts in
+    let few = valid.few n (ap (λ c. slice_get c top) (sym one) ∙ is) in
+    omega (arith, few, above)
+top_excluded methods table top cert order ordered valid r (long s is above) = absurd (let most = valid.short s is in omega (arith, most, above))
 
 pub faults_exclude : FaultsExclude
-faults_exclude methods table top cert order ordered are valid r h = excluded methods table top cert order ordered are valid r h
+faults_exclude methods table top cert order ordered are valid r h = top_excluded methods table top cert order ordered valid r (of_the_top methods table cert are valid.entries top r h)

@@ -50,7 +50,7 @@ told_more tolds newer told formats sizes place f z so pushed f_at z_at is = reco
       subst (λ q. IsTold q g y) same (subst (λ q. IsTold told q y) f_is (subst (λ q. IsTold told f q) z_is is)));
 }
 
-passes_is : (told : Told) (format : Format) (z : FormatSizes) (test : Test) → IsTold told format z → IsTest test → passes test told ≡ survives test format z
+pub passes_is : (told : Told) (format : Format) (z : FormatSizes) (test : Test) → IsTold told format z → IsTest test → passes test told ≡ survives test format z
 passes_is told format z (Lacks o b) is small = ap (λ t. not (is_bit b t)) (is.bits o small)
 passes_is told format z (MayBe p c) is tt = ap not (ap (list_any (excludes p c)) is.equations ∙ all_excluded p c format.constraints)
 passes_is told format z (MayDiffer p c) is tt = ap not (ap (list_any (fixes p c)) is.equations ∙ all_fixed p c format.constraints)

@@ -1,5 +1,5 @@
 -- The sets on the stack are what reaches the trees still to be judged.
-use Rattle.std.proofs.Common.{◌≡◌, ◌≢◌, ◌∙◌, refl, sym, ap, subst, ℕ, zero, suc, ◌+◌, ◌<◌, ◌≤◌, Bool, true, false, not, nat_eq, nat_lt, List, [], ◌∷◌, ◌++◌, length, drop, replicate, append_assoc, arith}
+use Rattle.std.proofs.Common.{◌≡◌, ◌≢◌, ◌∙◌, refl, sym, ap, subst, ℕ, zero, suc, ◌+◌, ◌^◌, ◌<◌, ◌≤◌, Bool, true, false, not, nat_eq, nat_lt, List, [], ◌∷◌, ◌++◌, length, drop, replicate, append_assoc, arith}
 use Rattle.std.specs.Prelude.{slice_get, Option, Some, None, ℤ}
 use Rattle.std.proofs.lemmas.Bool.{eqb-true, eqb-false, leb-true, leb-false, ltb-true, ltb-false}
 use Rattle.std.proofs.lemmas.List.{drop_more, same_from_push}
@@ -210,7 +210,8 @@ module _ (formats : List Format) (s : MethodSizes) (nodes : List Node) where
   branches_are : (tolds : List Told) (reach : Reach) (more : List Reach) (x : Node) → AreTold tolds formats s.formats → IsNode x →
       stacked formats s.formats more ++ branches tolds (reaching reach formats s.formats) x ≡ stacked formats s.formats (onward reach x ++ more)
   branches_are tolds reach more (Bit o) told is =
-      (λ i. stacked formats s.formats more ++ (kept_is (Lacks o false) reach tolds formats s.formats is told i ∷ kept_is (Lacks o true) reach tolds formats s.formats is told i ∷ [])) ∙
+      let small : o < 2 ^ 128 = omega (arith, is) in
+      (λ i. stacked formats s.formats more ++ (kept_is (Lacks o false) reach tolds formats s.formats small told i ∷ kept_is (Lacks o true) reach tolds formats s.formats small told i ∷ [])) ∙
       two_more (stacked formats s.formats more) _ _
   branches_are tolds reach more (Parameter p c) told is =
       (λ i. stacked formats s.formats more ++ (kept_is (MayDiffer p c) reach tolds formats s.formats tt told i ∷ kept_is (MayBe p c) reach tolds formats s.formats tt told i ∷ [])) ∙

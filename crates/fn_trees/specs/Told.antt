@@ -14,7 +14,7 @@ use Rattle.fn_trees.specs.Equations.{equation_of, excludes, fixes}
 
 -- what is told of the format: its known bits, and its equations
 pub record IsTold (told : Told) (format : Format) (sizes : FormatSizes) : Type 0 where
-  pub bits : (o : ℕ) → o < 2 ^ 64 → get nat_eq told.bits o ≡ known_bit format.fields sizes.fields format.listing o
+  pub bits : (o : ℕ) → o < 2 ^ 128 → get nat_eq told.bits o ≡ known_bit format.fields sizes.fields format.listing o
   pub equations : told.equations ≡ filter_map equation_of format.constraints
 
 -- of each format that has bounds
@@ -24,7 +24,7 @@ pub record AreTold (tolds : List Told) (formats : List Format) (sizes : List For
 
 -- the offset is one that the code can name
 abbrev pub IsTest : Test → Type 0
-IsTest (Lacks o b) = o < 2 ^ 64
+IsTest (Lacks o b) = o < 2 ^ 128
 IsTest (MayBe p c) = Unit {0}
 IsTest (MayDiffer p c) = Unit {0}
 

@@ -80,7 +80,9 @@ fn formats_count(
     Ok(total)
 }
 
-fn format_count(
+/// The candidates of a format by its write plan, none where it has no plans, and up to the same cap; `counts` has those of methods. It fails only for
+/// want of memory.
+pub fn format_count(
     alloc: Global,
     counts: &[u64],
     format: &Format,

@@ -111,7 +111,7 @@ fn node_fault(sizes: &MethodSizes, set: &[bool], place: usize, node: Node) -> Op
 }
 
 /// Whether the constant is in the range of the parameter, if it has one.
-fn is_in_range(parameters: &[Interval], parameter: usize, constant: i128) -> bool
+pub fn is_in_range(parameters: &[Interval], parameter: usize, constant: i128) -> bool
     ensures { IsTrue result ↔ ((range : Interval) → slice_get parameters.now parameter ≡ Some range → IsIn range constant) }
 {
     match at(parameters, parameter) {

@@ -1,10 +1,12 @@
 //! Whether a certificate's decision trees part the formats of their methods.
 #![tactic(auto)]
 
-pub use counts::count_candidates;
+pub use counts::{count_candidates, format_count};
+pub use equations::Equation;
 pub use fault::TreeFault;
-pub use judging::tree_fault;
+pub use judging::{is_in_range, tree_fault};
 pub use ordering::callees_first;
+pub use told::{Test, Told, all_told};
 
 mod choices;
 pub mod counts;

@@ -44,7 +44,7 @@ fn lacks(offset: usize, bit: bool) -> Test
     ensures test { result ≡ Lacks offset bit }
     ensures offset { spec.IsTest result }
 {
-    Test::Lacks(offset, bit)
+    Test::Lacks(offset as u128, bit)
 }
 
 /// Puts the sets of a node's subtrees onto the stack, that of the first one last.

@@ -14,9 +14,6 @@ use sqlite_items::at;
 use std::alloc::{AllocError, Global};
 use std::collections::HashMap;
 
-/// Offsets of bits are below this.
-const OFFSETS: u128 = 0x1_0000_0000_0000_0000;
-
 /// The packed bits that the listing tells, by their offsets.
 pub(crate) fn known_bits(
     alloc: Global,
@@ -24,7 +21,7 @@ pub(crate) fn known_bits(
     sizes: &[Sizes],
     listing: &[usize],
 ) -> Result<HashMap<u128, bool>, AllocError>
-    ensures { IfOk result (λ known. (o : ℕ) → o < 2 ^ 64 → get nat_eq known o ≡ rules.known_bit fields.now sizes.now listing.now o) }
+    ensures { IfOk result (λ known. (o : ℕ) → o < 2 ^ 128 → get nat_eq known o ≡ rules.known_bit fields.now sizes.now listing.now o) }
 {
     let mut known = HashMap::new(alloc);
     let mut offset = 0;
@@ -47,7 +44,6 @@ fn note_field(
     sizes: &[Sizes],
     index: usize,
 ) -> Result<Option<u128>, AllocError>
-    requires { offset < 2 ^ 64 }
     ensures { IfOk result (λ end. (rest whole : spec.Table) →
         spec.TellsTo (get nat_eq known.old) offset (rules.after_field (option_and_then (λ d. rules.literal d.encoding) (slice_get fields.now index)) (option_and_then (λ b. rules.fixed b.compressed) (slice_get sizes.now index)) rest) whole →
         spec.TellsOn end (get nat_eq known.new) rest whole) }
@@ -65,24 +61,21 @@ fn note_field(
 
 /// The offset so many bits on, if it is one.
 fn moved(offset: u128, by: u128) -> Option<u128>
-    requires { offset < 2 ^ 64 }
-    ensures { SomeIff result (offset + by < 2 ^ 64) (offset + by) }
+    ensures { SomeIff result (offset + by < 2 ^ 128) (offset + by) }
 {
-    if by < OFFSETS && offset + by < OFFSETS {
-        Some(offset + by)
-    } else {
-        None
-    }
+    offset.checked_add(by)
 }
 
 /// Puts the bits into the table, from the offset on.
 fn note_bits(known: &mut HashMap<u128, bool>, offset: u128, bits: &Bits) -> Result<(), AllocError>
-    requires { offset < 2 ^ 64 }
     ensures { IfOk result (λ u. spec.HasBits (get nat_eq known.old) (get nat_eq known.new) offset bits.now (length bits.now)) }
 {
     for index in 0..bits.len() {
+        let Some(place) = moved(offset, index as u128) else {
+            return Ok(());
+        };
         if let Some(bit) = bits.get(index) {
-            known.insert(offset + index as u128, bit)?;
+            known.insert(place, bit)?;
         }
     }
     Ok(())

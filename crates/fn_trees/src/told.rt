@@ -24,7 +24,7 @@ pub struct Told {
 #[derive(Clone, Copy)]
 pub enum Test {
     /// The bit at the offset isn't known to be this one.
-    Lacks(usize, bool),
+    Lacks(u128, bool),
     /// The parameter may be the constant.
     MayBe(usize, i128),
     /// The parameter may be another number.
@@ -33,7 +33,7 @@ pub enum Test {
 
 impl Told {
     /// Whether the format passes the test.
-    pub(crate) fn passes(&self, test: Test) -> bool
+    pub fn passes(&self, test: Test) -> bool
         ensures { result ≡ spec.passes test self.now }
     {
         match test {
@@ -43,10 +43,10 @@ impl Told {
         }
     }
 
-    fn lacks(&self, offset: usize, bit: bool) -> bool
+    fn lacks(&self, offset: u128, bit: bool) -> bool
         ensures { result ≡ spec.passes (Lacks offset bit) self.now }
     {
-        match self.bits.get(&(offset as u128)) {
+        match self.bits.get(&offset) {
             Some(known) => *known != bit,
             None => true,
         }
@@ -89,8 +89,8 @@ fn told_of(alloc: Global, format: &Format, sizes: &FormatSizes) -> Result<Told, 
     })
 }
 
-/// What each format that has bounds tells.
-pub(crate) fn all_told(
+/// What each format that has bounds tells. It fails only for want of memory.
+pub fn all_told(
     alloc: Global,
     formats: &[Format],
     sizes: &[FormatSizes],

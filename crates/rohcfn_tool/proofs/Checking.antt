@@ -14,6 +14,7 @@ use Rattle.fn_names.specs.Readings.{Reads}
 use Rattle.fn_cert.specs.declared.reading.CertificateError.{CertificateError}
 use Rattle.fn_cert.specs.Kept.{Entries}
 use Rattle.fn_cert.specs.Faults.{IsReading, Blames}
+use Rattle.fn_cert.specs.Text.{certificate_text}
 use Rattle.fn_rules.specs.declared.fault.CheckFault.{CheckFault}
 use Rattle.fn_checker.specs.Accepted as check
 use Rattle.fn_checker.specs.Accepted.{Accepting, IsAccepted}
@@ -22,8 +23,11 @@ use Rattle.fn_checker.specs.declared.accepted.CheckError.TheVariants.{Fault}
 use Rattle.rohcfn_tool.specs.declared.status.Answer.{Answer}
 use Rattle.rohcfn_tool.specs.declared.status.Status.{Status}
 use Rattle.rohcfn_tool.specs.declared.status.Status.TheVariants as status
-use Rattle.rohcfn_tool.specs.Printed.{CheckedOctets, ChecksOctets, IsFaultLine, IsRefusal, profile_at_fault, unmade, checked_by}
-use Rattle.rohcfn_tool.specs.Verdicts.{CheckedBy, Checks, IsErrorLine, line_of_certificate, verdict_line, broken, unread, refused, accepted}
+use Rattle.fn_prover.specs.Proved.{IsProved, IsUnproved}
+use Rattle.fn_prover.specs.declared.unproved.Unproved.{Unproved}
+use Rattle.rohcfn_tool.specs.Printed.{CheckedOctets, ChecksOctets, ProvedOctets, ProvesOctets, IsFaultLine, IsRefusal, profile_at_fault, by_made, checked_by, none_proved, proved_by}
+use Rattle.rohcfn_tool.specs.Provings.{MadeBy, Makes, ProvedBy, Proves, IsUnprovedLine, unmade, made, unproved, printed}
+use Rattle.rohcfn_tool.specs.Verdicts.{CheckedBy, Checks, JudgedBy, Judges, IsErrorLine, line_of_certificate, verdict_line, broken, unread, judged, refused, accepted}
 
 -- one line that refuses
 refuses : (p : Resolved) (octets text written : List ℕ) (r : Result Answer AllocError) → CheckedBy p octets status.Refused (text ++ 10 ∷ []) → written ≡ text → IfOk r (IsRefusal written) → IfOk r (Checks p octets)
@@ -42,19 +46,58 @@ broken_refuses p octets written e n r is blames spelled g =
 pub unread_refuses : (p : Resolved) (octets text written : List ℕ) (e : CertificateError) (r : Result Answer AllocError) → IsUtf8 octets → Blames p.methods e octets → IsErrorLine e text → written ≡ text → IfOk r (IsRefusal written) → IfOk r (Checks p octets)
 unread_refuses p octets text written e r utf8 blames line is g = refuses p octets text written r (unread e text utf8 blames line) is g
 
-pub fault_refuses : (p q : Resolved) (octets written : List ℕ) (cert : Entries) (e : CheckError) (fault : CheckFault) (methods : List Method) (r : Result Answer AllocError) → IsUtf8 octets → IsReading p.methods (numbered_lines octets) cert →
-    check.Blames p cert e → e ≡ Fault fault → q ≡ p → methods ≡ q.methods → written ≡ verdict_line methods fault → IfOk r (IsRefusal written) → IfOk r (Checks p octets)
-fault_refuses p q octets written cert e fault methods r utf8 reads blames is same shown spelled g =
+-- ---- a certificate
+
+-- one line that refuses it
+fault_line_refuses : (p : Resolved) (cert : Entries) (text written : List ℕ) (r : Result Answer AllocError) → JudgedBy p cert status.Refused (text ++ 10 ∷ []) → written ≡ text → IfOk r (IsRefusal written) → IfOk r (Judges p cert)
+fault_line_refuses p cert text written (Err e) h is g = tt
+fault_line_refuses p cert text written (Ok a) h is g =
+    let P : List ℕ → Type 0 = λ out. JudgedBy p cert status.Refused out in
+    let Q : Status → Type 0 = λ s. JudgedBy p cert s (string_bytes a.output) in
+    subst Q (sym g.status_is) (subst P (ap (λ x. x ++ 10 ∷ []) (sym is) ∙ sym g.line_is) h)
+
+pub fault_refuses : (p q : Resolved) (written : List ℕ) (cert : Entries) (e : CheckError) (fault : CheckFault) (methods : List Method) (r : Result Answer AllocError) → check.Blames p cert e → e ≡ Fault fault → q ≡ p → methods ≡ q.methods →
+    written ≡ verdict_line methods fault → IfOk r (IsRefusal written) → IfOk r (Judges p cert)
+fault_refuses p q written cert e fault methods r blames is same shown spelled g =
     let wrong : check.Blames p cert (Fault fault) = subst (λ (x : CheckError). check.Blames p cert x) is blames in
     let spelled_here : written ≡ verdict_line p.methods fault = spelled ∙ ap (λ ms. verdict_line ms fault) (shown ∙ ap (λ (x : Resolved). x.methods) same) in
-    refuses p octets (verdict_line p.methods fault) written r (refused cert fault utf8 reads wrong) spelled_here g
+    fault_line_refuses p cert (verdict_line p.methods fault) written r (refused fault wrong) spelled_here g
 
-pub is_accepted : (p : Resolved) (octets : List ℕ) (cert : Entries) (a : Accepting) (output : String Global) → IsUtf8 octets → IsReading p.methods (numbered_lines octets) cert → IsAccepted a → a.profile ≡ p → a.certificate ≡ cert →
-    string_bytes output ≡ codes "accepted\n" → Checks p octets record { status = status.Done; output = output }
-is_accepted p octets cert a output utf8 reads is same_p same_c spelled =
+pub is_accepted : (p : Resolved) (cert : Entries) (a : Accepting) (output : String Global) → IsAccepted a → a.profile ≡ p → a.certificate ≡ cert → string_bytes output ≡ codes "accepted\n" →
+    Judges p cert record { status = status.Done; output = output }
+is_accepted p cert a output is same_p same_c spelled =
     let here : IsAccepted record { profile = p; certificate = cert; counts = a.counts } =
     subst (λ (c : Entries). IsAccepted record { profile = p; certificate = c; counts = a.counts }) same_c (subst (λ (q : Resolved). IsAccepted record { profile = q; certificate = a.certificate; counts = a.counts }) same_p is) in
-    subst (λ (out : List ℕ). CheckedBy p octets status.Done out) (sym spelled) (accepted cert utf8 reads here.valid)
+    subst (λ (out : List ℕ). JudgedBy p cert status.Done out) (sym spelled) (accepted here.valid)
+
+-- one that was read
+pub read_judged : (p : Resolved) (octets : List ℕ) (cert : Entries) (r : Result Answer AllocError) → IsUtf8 octets → IsReading p.methods (numbered_lines octets) cert → IfOk r (Judges p cert) → IfOk r (Checks p octets)
+read_judged p octets cert (Err e) utf8 reads h = tt
+read_judged p octets cert (Ok a) utf8 reads h = judged cert utf8 reads h
+
+-- ---- without a certificate
+
+-- one that was made
+pub made_judged : (p : Resolved) (cert : Entries) (r : Result Answer AllocError) → IsProved p cert → IfOk r (Judges p cert) → IfOk r (Makes p)
+made_judged p cert (Err e) is h = tt
+made_judged p cert (Ok a) is h = made cert is h
+
+pub none_made : (p : Resolved) (why : Unproved) (methods : List Method) (text written : List ℕ) (r : Result Answer AllocError) → IsUnproved p why → methods ≡ p.methods → IsUnprovedLine methods why text → written ≡ text → IfOk r (IsRefusal written) → IfOk r (Makes p)
+none_made p why methods text written (Err e) is shown line same g = tt
+none_made p why methods text written (Ok a) is shown line same g =
+    let P : List ℕ → Type 0 = λ out. MadeBy p status.Refused out in
+    let Q : Status → Type 0 = λ s. MadeBy p s (string_bytes a.output) in
+    subst Q (sym g.status_is) (subst P (ap (λ x. x ++ 10 ∷ []) (sym same) ∙ sym g.line_is) (unmade why text is (subst (λ ms. IsUnprovedLine ms why text) shown line)))
+
+pub none_proved_line : (p : Resolved) (why : Unproved) (methods : List Method) (text written : List ℕ) (r : Result Answer AllocError) → IsUnproved p why → methods ≡ p.methods → IsUnprovedLine methods why text → written ≡ text → IfOk r (IsRefusal written) → IfOk r (Proves p)
+none_proved_line p why methods text written (Err e) is shown line same g = tt
+none_proved_line p why methods text written (Ok a) is shown line same g =
+    let P : List ℕ → Type 0 = λ out. ProvedBy p status.Refused out in
+    let Q : Status → Type 0 = λ s. ProvedBy p s (string_bytes a.output) in
+    subst Q (sym g.status_is) (subst P (ap (λ x. x ++ 10 ∷ []) (sym same) ∙ sym g.line_is) (unproved why text is (subst (λ ms. IsUnprovedLine ms why text) shown line)))
+
+pub certificate_printed : (p : Resolved) (cert : Entries) (output : String Global) → IsProved p cert → string_bytes output ≡ certificate_text cert → Proves p record { status = status.Done; output = output }
+certificate_printed p cert output is spelled = subst (λ (out : List ℕ). ProvedBy p status.Done out) (sym spelled) (printed cert is)
 
 -- ---- by the octets of a profile
 
@@ -71,10 +114,23 @@ octets_refused top profile text written certificate (Ok a) h is g =
     let Q : Status → Type 0 = λ s. CheckedOctets top profile certificate s (string_bytes a.output) in
     subst Q (sym g.status_is) (subst P (ap (λ x. x ++ 10 ∷ []) (sym is) ∙ sym g.line_is) h)
 
-pub none_given : (top name profile : List ℕ) (certificate : Option (Bor (List ℕ))) (p : Resolved) (r : Result Answer AllocError) → name ≡ top → Reads profile name p → certificate ≡ None → IfOk r (IsRefusal (codes "prove: P3 Limit")) →
-    IfOk r (ChecksOctets top profile certificate)
-none_given top name profile certificate p r is reads at g = octets_refused top profile _ _ certificate r (unmade p (subst (λ x. Reads profile x p) is reads) at) refl g
+pub none_given : (top name profile : List ℕ) (certificate : Option (Bor (List ℕ))) (p : Resolved) (r : Result Answer AllocError) → name ≡ top → Reads profile name p → certificate ≡ None → IfOk r (Makes p) → IfOk r (ChecksOctets top profile certificate)
+none_given top name profile certificate p (Err e) is reads at h = tt
+none_given top name profile certificate p (Ok a) is reads at h = by_made p (subst (λ x. Reads profile x p) is reads) at h
 
 pub profile_refused : (top name profile text written : List ℕ) (certificate : Option (Bor (List ℕ))) (r : Result Answer AllocError) → name ≡ top → IsFaultLine name profile text → written ≡ text → IfOk r (IsRefusal written) →
     IfOk r (ChecksOctets top profile certificate)
 profile_refused top name profile text written certificate r is line same g = octets_refused top profile text written certificate r (profile_at_fault text (subst (λ x. IsFaultLine x profile text) is line)) same g
+
+-- ---- `prove`
+
+pub proved_by_profile : (top name profile : List ℕ) (p : Resolved) (r : Result Answer AllocError) → name ≡ top → Reads profile name p → IfOk r (Proves p) → IfOk r (ProvesOctets top profile)
+proved_by_profile top name profile p (Err e) is reads h = tt
+proved_by_profile top name profile p (Ok a) is reads h = proved_by p (subst (λ x. Reads profile x p) is reads) h
+
+pub proof_refused : (top name profile text written : List ℕ) (r : Result Answer AllocError) → name ≡ top → IsFaultLine name profile text → written ≡ text → IfOk r (IsRefusal written) → IfOk r (ProvesOctets top profile)
+proof_refused top name profile text written (Err e) same line is g = tt
+proof_refused top name profile text written (Ok a) same line is g =
+    let P : List ℕ → Type 0 = λ out. ProvedOctets top profile status.Refused out in
+    let Q : Status → Type 0 = λ s. ProvedOctets top profile s (string_bytes a.output) in
+    subst Q (sym g.status_is) (subst P (ap (λ x. x ++ 10 ∷ []) (sym is) ∙ sym g.line_is) (none_proved text (subst (λ x. IsFaultLine x profile text) same line)))

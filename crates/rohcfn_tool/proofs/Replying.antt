@@ -14,7 +14,7 @@ use Rattle.rohcfn_tool.specs.declared.status.Answer.{Answer}
 use Rattle.rohcfn_tool.specs.declared.status.Status.{Status}
 use Rattle.rohcfn_tool.specs.declared.status.Status.TheVariants as status
 use Rattle.rohcfn_tool.specs.declared.bundle.Parts.{Parts}
-use Rattle.rohcfn_tool.specs.declared.words.Command.TheVariants.{Show, Check, Run}
+use Rattle.rohcfn_tool.specs.declared.words.Command.TheVariants.{Show, Check, Prove, Run}
 use Rattle.rohcfn_tool.specs.declared.words.Direction.{Direction}
 use Rattle.rohcfn_tool.specs.declared.words.Order.{Order}
 use Rattle.rohcfn_tool.specs.declared.replies.Printed.{Printed}
@@ -27,7 +27,7 @@ use Rattle.fn_filling.specs.Fillings.{header, packed, item}
 use Rattle.fn_engine.specs.Faults.{FitsAlways, header_item}
 use Rattle.fn_engine.specs.Fragment.{IsFragment}
 use Rattle.rohcfn_tool.specs.declared.words.Direction.TheVariants.{Unpack}
-use Rattle.rohcfn_tool.specs.Printed.{IsLine, IsFault, IsPrinted, HasTexts, Prints, done, line, fault, IsFaultLine, AnsweredBy, AnsweredFor, answered, at_fault, by_profile, AnswersBy, AnswersFor, IsRefusal, Answered, Answers, AnsweredRun, AnswersRun, ShownBy, Shows, ChecksOctets, checked, cause_line, IsProfileFault, text_fault, profile_fault, no_listing, listed, no_input, both, ran, shown, input_of, input_name}
+use Rattle.rohcfn_tool.specs.Printed.{IsLine, IsFault, IsPrinted, HasTexts, Prints, done, line, fault, IsFaultLine, AnsweredBy, AnsweredFor, answered, at_fault, by_profile, AnswersBy, AnswersFor, IsRefusal, Answered, Answers, AnsweredRun, AnswersRun, ShownBy, Shows, ChecksOctets, checked, ProvesOctets, proved, cause_line, IsProfileFault, text_fault, profile_fault, no_listing, listed, no_input, both, ran, shown, input_of, input_name}
 
 -- one line that refuses
 pub refused : (direction : Direction) (top : List ℕ) (p : Resolved) (input text : List ℕ) (r : Result Answer AllocError) → AnsweredFor direction top p input status.Refused (text ++ 10 ∷ []) → IfOk r (IsRefusal text)
@@ -116,6 +116,10 @@ order_shown order parts profile (Err e) p c h = tt
 pub order_checked : (order : Order) (parts : Parts) (profile : Bor (List ℕ)) (r : Result Answer AllocError) → parts.profile ≡ Some profile → order.command ≡ Check → IfOk r (ChecksOctets order.top.now profile.now parts.certificate) → IfOk r (Answers order parts)
 order_checked order parts profile (Ok a) p c h = checked profile p c h
 order_checked order parts profile (Err e) p c h = tt
+
+pub order_proved : (order : Order) (parts : Parts) (profile : Bor (List ℕ)) (r : Result Answer AllocError) → parts.profile ≡ Some profile → order.command ≡ Prove → IfOk r (ProvesOctets order.top.now profile.now) → IfOk r (Answers order parts)
+order_proved order parts profile (Ok a) p c h = proved profile p c h
+order_proved order parts profile (Err e) p c h = tt
 
 -- the line of a packet that was read
 pub read_line : (p : Resolved) (packet : List Bool) (new : Place) (front_bits : List Bool) (count : ℕ) (f : Filling) (front text : List ℕ) → FitsAlways p f → Advances (record { used = []; left = packet }) new (packed f)

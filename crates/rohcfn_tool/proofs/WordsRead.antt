@@ -1,7 +1,7 @@
 -- What words that are written out ask for.
 use Rattle.std.proofs.Common.{◌≡◌, [], ◌∷◌, None, Some, inl, refl, codes}
 use Rattle.clap.proofs.OnLiterals.{clap_on_literals}
-use Rattle.rohcfn_tool.specs.declared.words.Command.TheVariants.{Show, Check, Run}
+use Rattle.rohcfn_tool.specs.declared.words.Command.TheVariants.{Show, Check, Prove, Run}
 use Rattle.rohcfn_tool.specs.declared.words.Direction.TheVariants.{Pack, Unpack}
 use Rattle.rohcfn_tool.specs.Words.{AskHelp, ReadsWords, asked_of, program}
 
@@ -21,6 +21,10 @@ pub check_read : asked_of (codes "check" ∷ codes "--top" ∷ codes "plain" ∷
 unfolding asked_of program clap_on_literals
 check_read = refl
 
+pub prove_read : asked_of (codes "prove" ∷ codes "--top" ∷ codes "plain" ∷ []) ≡ Some (record { command = Prove; top = codes "plain" })
+unfolding asked_of program clap_on_literals
+prove_read = refl
+
 pub top_missing : asked_of (codes "pack" ∷ []) ≡ None
 unfolding asked_of program clap_on_literals
 top_missing = refl
@@ -38,4 +42,4 @@ unfolding AskHelp program clap_on_literals
 help_wanted = inl refl
 
 pub words_are_read : ReadsWords
-words_are_read = record { pack = pack_read; unpack = unpack_read; show = show_read; check = check_read; no_top = top_missing; no_command = command_missing; other_flag = flag_unknown; help = help_wanted }
+words_are_read = record { pack = pack_read; unpack = unpack_read; show = show_read; check = check_read; prove = prove_read; no_top = top_missing; no_command = command_missing; other_flag = flag_unknown; help = help_wanted }

@@ -1,4 +1,5 @@
 pub mod Verdicts
+pub mod Provings
 pub mod Printed
 pub mod Program
 pub mod Status

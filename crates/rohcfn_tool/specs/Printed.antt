@@ -23,7 +23,7 @@ use Rattle.fn_engine.specs.declared.reader.UnpackFault.TheVariants.{Truncated, R
 use Rattle.rohcfn_tool.specs.declared.status.Answer.{Answer}
 use Rattle.rohcfn_tool.specs.declared.status.Status.{Status}
 use Rattle.rohcfn_tool.specs.declared.status.Status.TheVariants as status
-use Rattle.rohcfn_tool.specs.declared.words.Command.TheVariants.{Show, Check, Run}
+use Rattle.rohcfn_tool.specs.declared.words.Command.TheVariants.{Show, Check, Prove, Run}
 use Rattle.rohcfn_tool.specs.declared.words.Direction.{Direction}
 use Rattle.rohcfn_tool.specs.declared.words.Direction.TheVariants.{Pack, Unpack}
 use Rattle.rohcfn_tool.specs.declared.words.Order.{Order}
@@ -34,6 +34,7 @@ use Rattle.rohcfn_tool.specs.declared.inputs.BadLine.TheVariants as bad
 use Rattle.rohcfn_tool.specs.declared.replies.Printed.{Printed}
 use Rattle.rohcfn_tool.specs.declared.replies.Printed.TheVariants as printed
 use Rattle.rohcfn_tool.specs.Verdicts.{CheckedBy}
+use Rattle.rohcfn_tool.specs.Provings.{MadeBy, ProvedBy}
 use Rattle.fn_engine.specs.Faults.{Blames, BlamesItem, FitsAlways, header_item}
 use Rattle.fn_engine.specs.Fragment.{IsFragment}
 
@@ -144,10 +145,17 @@ pub data ShownBy (top octets : List ℕ) : Status → List ℕ → Type 0 where
 pub data CheckedOctets (top profile : List ℕ) (certificate : Option (Bor (List ℕ))) : Status → List ℕ → Type 0 where
   -- the profile is at fault
   profile_at_fault : (text : List ℕ) → IsFaultLine top profile text → CheckedOctets top profile certificate status.Refused (text ++ 10 ∷ [])
-  -- no certificate is given, and none is made yet
-  unmade : (p : Resolved) → Reads profile top p → certificate ≡ None → CheckedOctets top profile certificate status.Refused (codes "prove: P3 Limit" ++ 10 ∷ [])
+  -- none is given: by the one that is made for the profile
+  by_made : {s : Status} {output : List ℕ} (p : Resolved) → Reads profile top p → certificate ≡ None → MadeBy p s output → CheckedOctets top profile certificate s output
   -- by the profile that the octets stand for
   checked_by : {s : Status} {output : List ℕ} (p : Resolved) (octets : Bor (List ℕ)) → Reads profile top p → certificate ≡ Some octets → CheckedBy p octets.now s output → CheckedOctets top profile certificate s output
+
+-- What is answered to `prove`, by the octets of a profile.
+pub data ProvedOctets (top octets : List ℕ) : Status → List ℕ → Type 0 where
+  -- the profile is at fault
+  none_proved : (text : List ℕ) → IsFaultLine top octets text → ProvedOctets top octets status.Refused (text ++ 10 ∷ [])
+  -- by the profile that the octets stand for
+  proved_by : {s : Status} {output : List ℕ} (p : Resolved) → Reads octets top p → ProvedBy p s output → ProvedOctets top octets s output
 
 -- What is answered in a direction, by a profile and the octets of items or packets.
 pub data AnsweredFor (direction : Direction) (top : List ℕ) (p : Resolved) (input : List ℕ) : Status → List ℕ → Type 0 where
@@ -178,6 +186,8 @@ pub data Answered (order : Order) (parts : Parts) : Status → List ℕ → Type
       → ShownBy order.top.now profile.now s output → Answered order parts s output
   checked : {s : Status} {output : List ℕ} (profile : Bor (List ℕ)) → parts.profile ≡ Some profile → order.command ≡ Check
       → CheckedOctets order.top.now profile.now parts.certificate s output → Answered order parts s output
+  proved : {s : Status} {output : List ℕ} (profile : Bor (List ℕ)) → parts.profile ≡ Some profile → order.command ≡ Prove
+      → ProvedOctets order.top.now profile.now s output → Answered order parts s output
   ran : {s : Status} {output : List ℕ} (profile : Bor (List ℕ)) (direction : Direction) → parts.profile ≡ Some profile → order.command ≡ Run direction
       → AnsweredRun direction order.top.now profile.now parts s output → Answered order parts s output
 
@@ -191,6 +201,9 @@ AnswersRun direction top profile parts a = AnsweredRun direction top profile par
 
 abbrev pub ChecksOctets : List ℕ → List ℕ → Option (Bor (List ℕ)) → Answer → Type 0
 ChecksOctets top profile certificate a = CheckedOctets top profile certificate a.status (string_bytes a.output)
+
+abbrev pub ProvesOctets : List ℕ → List ℕ → Answer → Type 0
+ProvesOctets top octets a = ProvedOctets top octets a.status (string_bytes a.output)
 
 abbrev pub Shows : List ℕ → List ℕ → Answer → Type 0
 Shows top octets a = ShownBy top octets a.status (string_bytes a.output)

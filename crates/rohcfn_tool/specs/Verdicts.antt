@@ -77,16 +77,24 @@ IsErrorLine OutOfMemory text = ⊥
 
 -- ---- answers
 
+-- What is answered of a certificate of the profile.
+pub data JudgedBy (p : Resolved) (cert : Entries) : Status → List ℕ → Type 0 where
+  -- it is not valid
+  refused : (fault : CheckFault) → IsRefused p.methods p.sizes p.top cert fault → JudgedBy p cert status.Refused (verdict_line p.methods fault ++ 10 ∷ [])
+  -- it is
+  accepted : Valid p.methods p.sizes p.top cert → JudgedBy p cert status.Done (codes "accepted" ++ 10 ∷ [])
+
 -- What is answered to a certificate's octets, by the profile.
 pub data CheckedBy (p : Resolved) (octets : List ℕ) : Status → List ℕ → Type 0 where
   -- they are no UTF-8
   broken : (IsUtf8 octets → ⊥) → CheckedBy p octets status.Refused (line_of_certificate (broken_line octets) (codes "K1 bad word") ++ 10 ∷ [])
   -- they are no certificate of the profile
   unread : (e : CertificateError) (text : List ℕ) → IsUtf8 octets → Blames p.methods e octets → IsErrorLine e text → CheckedBy p octets status.Refused (text ++ 10 ∷ [])
-  -- it is not valid
-  refused : (cert : Entries) (fault : CheckFault) → IsUtf8 octets → IsReading p.methods (numbered_lines octets) cert → IsRefused p.methods p.sizes p.top cert fault → CheckedBy p octets status.Refused (verdict_line p.methods fault ++ 10 ∷ [])
-  -- it is
-  accepted : (cert : Entries) → IsUtf8 octets → IsReading p.methods (numbered_lines octets) cert → Valid p.methods p.sizes p.top cert → CheckedBy p octets status.Done (codes "accepted" ++ 10 ∷ [])
+  -- they are one
+  judged : {s : Status} {output : List ℕ} (cert : Entries) → IsUtf8 octets → IsReading p.methods (numbered_lines octets) cert → JudgedBy p cert s output → CheckedBy p octets s output
+
+abbrev pub Judges : Resolved → Entries → Answer → Type 0
+Judges p cert a = JudgedBy p cert a.status (string_bytes a.output)
 
 abbrev pub Checks : Resolved → List ℕ → Answer → Type 0
 Checks p octets a = CheckedBy p octets a.status (string_bytes a.output)

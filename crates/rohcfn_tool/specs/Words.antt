@@ -6,7 +6,7 @@ use Rattle.clap.specs.Simple.{on_top}
 use Rattle.clap.specs.declared.error.kind.ErrorKind.{ErrorKind}
 use Rattle.clap.specs.declared.error.kind.ErrorKind.TheVariants.{DisplayHelp, OutOfMemory}
 use Rattle.rohcfn_tool.specs.declared.words.Command.{Command}
-use Rattle.rohcfn_tool.specs.declared.words.Command.TheVariants.{Show, Check, Run}
+use Rattle.rohcfn_tool.specs.declared.words.Command.TheVariants.{Show, Check, Prove, Run}
 use Rattle.rohcfn_tool.specs.declared.words.Direction.TheVariants.{Pack, Unpack}
 use Rattle.rohcfn_tool.specs.declared.words.Order.{Order}
 use Rattle.rohcfn_tool.specs.declared.words.WordsError.{WordsError}
@@ -31,8 +31,8 @@ bare_program = on_top (λ top. record top { no_binary_name = true; subcommand_re
 
 -- with its commands
 unfoldable pub program : App
-program = with_subcommand (with_subcommand (with_subcommand (with_subcommand bare_program (with_top (codes "pack")).top)
-    (with_top (codes "unpack")).top) (with_top (codes "show")).top) (with_top (codes "check")).top
+program = with_subcommand (with_subcommand (with_subcommand (with_subcommand (with_subcommand bare_program (with_top (codes "pack")).top)
+    (with_top (codes "unpack")).top) (with_top (codes "show")).top) (with_top (codes "check")).top) (with_top (codes "prove")).top
 
 -- a command, and the name of a method
 pub record Asked : Type 0 where
@@ -46,7 +46,8 @@ abbrev pub command_named : List ℕ → Option Command
 command_named name = if bytes_eq name (codes "pack") then Some (Run Pack)
     else (if bytes_eq name (codes "unpack") then Some (Run Unpack)
     else (if bytes_eq name (codes "show") then Some Show
-    else (if bytes_eq name (codes "check") then Some Check else None)))
+    else (if bytes_eq name (codes "check") then Some Check
+    else (if bytes_eq name (codes "prove") then Some Prove else None))))
 
 abbrev pub asked_by : Option Command → Option (List ℕ) → Option Asked
 asked_by None top = None
@@ -89,6 +90,7 @@ pub record ReadsWords : Type 0 where
   pub unpack : asked_of (codes "unpack" ∷ codes "--top=plain" ∷ []) ≡ Some (record { command = Run Unpack; top = codes "plain" })
   pub show : asked_of (codes "show" ∷ codes "--top" ∷ codes "plain" ∷ []) ≡ Some (record { command = Show; top = codes "plain" })
   pub check : asked_of (codes "check" ∷ codes "--top" ∷ codes "plain" ∷ []) ≡ Some (record { command = Check; top = codes "plain" })
+  pub prove : asked_of (codes "prove" ∷ codes "--top" ∷ codes "plain" ∷ []) ≡ Some (record { command = Prove; top = codes "plain" })
   pub no_top : asked_of (codes "pack" ∷ []) ≡ None
   pub no_command : asked_of [] ≡ None
   pub other_flag : asked_of (codes "pack" ∷ codes "--top" ∷ codes "plain" ∷ codes "--fly" ∷ []) ≡ None

@@ -4,6 +4,7 @@
 pub mod bundle;
 pub mod inputs;
 pub mod program;
+pub mod proving;
 pub mod replies;
 pub mod showing;
 pub mod status;

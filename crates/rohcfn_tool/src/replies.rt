@@ -6,6 +6,7 @@ ghost use Rattle.rohcfn_tool.specs.Printed.{IsPrinted, IsProfileFault, IsRefusal
 
 use crate::bundle::Parts;
 use crate::inputs::{BadLine, read_inputs};
+use crate::proving::answer_prove;
 use crate::showing::{answer_listing, error_line};
 use crate::status::{Answer, Status};
 use crate::verdicts::answer_check;
@@ -26,7 +27,7 @@ pub enum Printed {
     Fault(String),
 }
 
-/// What is printed for an order: the listing of a profile, the verdict on a certificate, a line for each item or packet up to the first refusal, or the
+/// What is printed for an order: the listing of a profile, the verdict on a certificate, a certificate, a line for each item or packet up to the first refusal, or the
 /// one line of another fault.
 ///
 /// The order of faults: the missing part `profile`, another missing part, the profile, a line of the items or packets, and
@@ -40,6 +41,7 @@ pub fn answer(alloc: Global, order: &Order<'_>, parts: &Parts<'_>) -> Result<Ans
     match order.command {
         Command::Show => answer_listing(alloc, order.top, profile),
         Command::Check => answer_check(alloc, order.top, profile, parts),
+        Command::Prove => answer_prove(alloc, order.top, profile),
         Command::Run(direction) => answer_run(alloc, direction, order.top, profile, parts),
     }
 }

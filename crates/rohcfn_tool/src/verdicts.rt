@@ -3,15 +3,16 @@
 ghost use Rattle.std.specs.Prelude.{◌≡◌, ℕ, List, ◌++◌, codes, decimal, IfOk, string_bytes};
 ghost use Rattle.std.specs.Option.{option_copied};
 ghost use Rattle.std.specs.Str.{IsUtf8};
-ghost use Rattle.fn_cert.specs.Faults.{IsReading, Blames};
-ghost use Rattle.fn_bits.specs.Lines.{numbered_lines};
+ghost use Rattle.fn_cert.specs.Faults.{Blames};
 ghost use Rattle.fn_cert.specs.Text as text;
 ghost use Rattle.fn_profile.specs.Resolved.{Resolved};
 ghost use Rattle.rohcfn_tool.specs.Printed.{ChecksOctets};
 ghost use Rattle.rohcfn_tool.specs.Verdicts as spec;
-ghost use Rattle.rohcfn_tool.specs.Verdicts.{Checks};
+ghost use Rattle.rohcfn_tool.specs.Verdicts.{Checks, Judges};
+ghost use Rattle.rohcfn_tool.specs.Provings.{Makes};
 
 use crate::bundle::Parts;
+use crate::proving::unproved_line;
 use crate::replies::refusal;
 use crate::showing::error_line;
 use crate::status::{Answer, Status};
@@ -23,11 +24,12 @@ use fn_expr::Side;
 use fn_names::read;
 use fn_normal::{Field, Format, Method, Name};
 use fn_profile::Profile;
+use fn_prover::prove;
 use fn_rules::CheckFault;
 use std::alloc::{AllocError, Global};
 
 /// The answer to `check`: `accepted`, or the line of the first fault of the profile, of the certificate's text or of the certificate. Where no certificate
-/// is given, none is made yet.
+/// is given, one is made.
 pub(crate) fn answer_check(
     alloc: Global,
     top: &str,
@@ -39,7 +41,7 @@ pub(crate) fn answer_check(
     match read(alloc, profile, top.as_bytes()) {
         Ok(normal) => match parts.certificate {
             Some(octets) => check_octets(alloc, normal, octets),
-            None => refusal(alloc, "prove: P3 Limit"),
+            None => answer_made(alloc, normal),
         },
         Err(error) => {
             let line = error_line(alloc, profile, error)?;
@@ -55,6 +57,19 @@ fn check_octets(alloc: Global, profile: Profile, octets: &[u8]) -> Result<Answer
     match str::from_utf8(octets) {
         Ok(text) => check_text(alloc, profile, text),
         Err(_) => broken(alloc, octets),
+    }
+}
+
+/// The answer by a profile and the certificate that is made for it.
+fn answer_made(alloc: Global, profile: Profile) -> Result<Answer, AllocError>
+    ensures { IfOk result (Makes profile) }
+{
+    match prove(alloc, &profile) {
+        Ok(certificate) => verdict(alloc, profile, certificate),
+        Err(unproved) => {
+            let line = unproved_line(alloc, profile.methods(), unproved)?;
+            refusal(alloc, line.as_str())
+        }
     }
 }
 
@@ -111,7 +126,7 @@ fn error_text(alloc: Global, words: &str, line: usize) -> Result<String, AllocEr
 
 /// The verdict on a certificate.
 fn verdict(alloc: Global, profile: Profile, certificate: Certificate) -> Result<Answer, AllocError>
-    ensures { (octets : List ℕ) → IsUtf8 octets → IsReading profile.methods (numbered_lines octets) certificate → IfOk result (Checks profile octets) }
+    ensures { IfOk result (Judges profile certificate) }
 {
     match check(alloc, profile, certificate) {
         Ok(accepted) => {
@@ -141,15 +156,8 @@ pub(crate) fn verdict_line(
     ensures { IfOk result (λ text. string_bytes text ≡ spec.verdict_line methods.now fault) }
 {
     match fault {
-        CheckFault::NoMethod { method } => {
-            let name = method_name(methods, method);
-            format!(in alloc; "check: V1 {name}")
-        }
-        CheckFault::NoFormat { method, format } => {
-            let names = names(alloc, methods, method, format)?;
-            let names = names.as_str();
-            format!(in alloc; "check: V1 {names}")
-        }
+        CheckFault::NoMethod { method } => missing_method(alloc, methods, method),
+        CheckFault::NoFormat { method, format } => missing_format(alloc, methods, method, format),
         CheckFault::NotEnabled {
             method,
             format,
@@ -162,53 +170,46 @@ pub(crate) fn verdict_line(
             direction,
             field,
             side,
-        } => {
-            let names = names(alloc, methods, method, format)?;
-            let field = field_name(methods, method, format, field);
-            side_line(
-                alloc,
-                names.as_str(),
-                direction_word(direction),
-                field,
-                side_word(side),
-            )
-        }
+        } => side_line(alloc, methods, method, format, direction, field, side),
         CheckFault::WrongLeaf {
             method,
             node,
             format,
-        } => {
-            let format = format_name(methods, method, format);
-            node_line(
-                alloc,
-                "check: V4 ",
-                method_name(methods, method),
-                node,
-                format,
-            )
-        },
+        } => leaf_line(alloc, methods, method, node, format),
         CheckFault::ShortFormat {
             method,
             node,
             format,
-        } => {
-            let format = format_name(methods, method, format);
-            node_line(
-                alloc,
-                "check: V5 ",
-                method_name(methods, method),
-                node,
-                format,
-            )
-        },
-        CheckFault::OutOfRange { method, node } => {
-            range_line(alloc, method_name(methods, method), node)
-        }
+        } => bit_line(alloc, methods, method, node, format),
+        CheckFault::OutOfRange { method, node } => range_line(alloc, methods, method, node),
         CheckFault::TooMany => String::from_str(alloc, "check: V6 candidates"),
         CheckFault::TooLong => String::from_str(alloc, "check: V8 length"),
     }
 }
 
+/// A method of which nothing is said.
+fn missing_method(alloc: Global, methods: &[Method], method: usize) -> Result<String, AllocError>
+    ensures { IfOk result (λ text. string_bytes text ≡ spec.verdict_line methods.now (CheckFault.NoMethod method)) }
+{
+    let name = method_name(methods, method);
+    format!(in alloc; "check: V1 {name}")
+}
+
+/// A format without plans.
+fn missing_format(
+    alloc: Global,
+    methods: &[Method],
+    method: usize,
+    format: usize,
+) -> Result<String, AllocError>
+    ensures { IfOk result (λ text. string_bytes text ≡ spec.verdict_line methods.now (CheckFault.NoFormat method format)) }
+{
+    let names = names(alloc, methods, method, format)?;
+    let names = names.as_str();
+    format!(in alloc; "check: V1 {names}")
+}
+
+/// A step that may not be taken.
 fn step_line(
     alloc: Global,
     methods: &[Method],
@@ -228,6 +229,28 @@ fn step_line(
 /// A side of a field that a plan never learns.
 fn side_line(
     alloc: Global,
+    methods: &[Method],
+    method: usize,
+    format: usize,
+    direction: Direction,
+    field: usize,
+    side: Side,
+) -> Result<String, AllocError>
+    ensures { IfOk result (λ text. string_bytes text ≡ spec.verdict_line methods.now (CheckFault.NeverLearnt method format direction field side)) }
+{
+    let names = names(alloc, methods, method, format)?;
+    let field = field_name(methods, method, format, field);
+    side_words(
+        alloc,
+        names.as_str(),
+        direction_word(direction),
+        field,
+        side_word(side),
+    )
+}
+
+fn side_words(
+    alloc: Global,
     names: &str,
     direction: &str,
     field: &str,
@@ -238,8 +261,37 @@ fn side_line(
     format!(in alloc; "check: V3 {names} {direction} {field} {side}")
 }
 
-/// A fault of a format at a node.
-fn node_line(
+/// A leaf that a format of another leaf reaches.
+fn leaf_line(
+    alloc: Global,
+    methods: &[Method],
+    method: usize,
+    node: usize,
+    format: usize,
+) -> Result<String, AllocError>
+    ensures { IfOk result (λ text. string_bytes text ≡ spec.verdict_line methods.now (CheckFault.WrongLeaf method node format)) }
+{
+    let name = method_name(methods, method);
+    let format = format_name(methods, method, format);
+    node_words(alloc, "check: V4 ", name, node, format)
+}
+
+/// A bit past the end of a format.
+fn bit_line(
+    alloc: Global,
+    methods: &[Method],
+    method: usize,
+    node: usize,
+    format: usize,
+) -> Result<String, AllocError>
+    ensures { IfOk result (λ text. string_bytes text ≡ spec.verdict_line methods.now (CheckFault.ShortFormat method node format)) }
+{
+    let name = method_name(methods, method);
+    let format = format_name(methods, method, format);
+    node_words(alloc, "check: V5 ", name, node, format)
+}
+
+fn node_words(
     alloc: Global,
     code: &str,
     name: &str,
@@ -252,14 +304,25 @@ fn node_line(
 }
 
 /// A constant outside its range.
-fn range_line(alloc: Global, name: &str, node: usize) -> Result<String, AllocError>
+fn range_line(
+    alloc: Global,
+    methods: &[Method],
+    method: usize,
+    node: usize,
+) -> Result<String, AllocError>
+    ensures { IfOk result (λ text. string_bytes text ≡ spec.verdict_line methods.now (CheckFault.OutOfRange method node)) }
+{
+    range_words(alloc, method_name(methods, method), node)
+}
+
+fn range_words(alloc: Global, name: &str, node: usize) -> Result<String, AllocError>
     ensures { IfOk result (λ text. string_bytes text ≡ codes "check: V7 " ++ name.now ++ codes " node " ++ decimal node) }
 {
     format!(in alloc; "check: V7 {name} node {node}")
 }
 
 /// The names of a method and of a format of it.
-fn names(
+pub(crate) fn names(
     alloc: Global,
     methods: &[Method],
     method: usize,
@@ -290,7 +353,7 @@ fn name_of(name: &Option<Name>) -> &str
     }
 }
 
-fn method_name(methods: &[Method], method: usize) -> &str
+pub(crate) fn method_name(methods: &[Method], method: usize) -> &str
     ensures { result.now ≡ spec.method_name methods.now method }
 {
     match methods.get(method) {
@@ -305,7 +368,7 @@ fn format_at(methods: &[Method], method: usize, format: usize) -> Option<&Format
     methods.get(method)?.formats.get(format)
 }
 
-fn format_name(methods: &[Method], method: usize, format: usize) -> &str
+pub(crate) fn format_name(methods: &[Method], method: usize, format: usize) -> &str
     ensures { result.now ≡ spec.format_name methods.now method format }
 {
     match format_at(methods, method, format) {
@@ -314,7 +377,7 @@ fn format_name(methods: &[Method], method: usize, format: usize) -> &str
     }
 }
 
-fn field_name(methods: &[Method], method: usize, format: usize, field: usize) -> &str
+pub(crate) fn field_name(methods: &[Method], method: usize, format: usize, field: usize) -> &str
     ensures { result.now ≡ spec.field_name methods.now method format field }
 {
     match field_at(methods, method, format, field) {
@@ -329,7 +392,7 @@ fn field_at(methods: &[Method], method: usize, format: usize, field: usize) -> O
     format_at(methods, method, format)?.fields.get(field)
 }
 
-fn direction_word(direction: Direction) -> &'static str
+pub(crate) fn direction_word(direction: Direction) -> &'static str
     ensures { result.now ≡ spec.direction_word direction }
 {
     match direction {
@@ -338,7 +401,7 @@ fn direction_word(direction: Direction) -> &'static str
     }
 }
 
-fn side_word(side: Side) -> &'static str
+pub(crate) fn side_word(side: Side) -> &'static str
     ensures { result.now ≡ text.side_word side }
 {
     match side {

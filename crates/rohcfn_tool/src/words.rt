@@ -16,6 +16,8 @@ pub enum Command {
     Show,
     /// Checks the part `certificate` against the part `profile`.
     Check,
+    /// Makes a certificate for the part `profile`.
+    Prove,
     /// Turns lines into lines by the part `profile`.
     Run(Direction),
 }
@@ -57,8 +59,8 @@ impl From<AllocError> for WordsError {
     }
 }
 
-/// Reads the words that follow the program's name: a command, `pack`, `unpack`, `show` or `check`, and its
-/// flag `--top NAME`.
+/// Reads the words that follow the program's name: a command, `pack`, `unpack`, `show`, `check` or `prove`, and
+/// its flag `--top NAME`.
 ///
 /// The clauses say it by clap's own account of a command line (`asked_of`), on which clap's parse is
 /// proved exact. They say nothing of the text, and not which usage fault it tells.
@@ -100,6 +102,7 @@ fn program<'a>(alloc: Global) -> Result<clap::Command<'a>, AllocError>
         "check",
         "Checks the part certificate against the part profile",
     )?;
+    let prove = with_top(alloc, "prove", "Makes a certificate for the part profile")?;
     clap::Command::new(alloc, "rohcfn")
         .about("Packs and unpacks headers by a profile in the ROHC formal notation")
         .bin_name("rohcfn")?
@@ -108,7 +111,8 @@ fn program<'a>(alloc: Global) -> Result<clap::Command<'a>, AllocError>
         .subcommand(pack)?
         .subcommand(unpack)?
         .subcommand(show)?
-        .subcommand(check)
+        .subcommand(check)?
+        .subcommand(prove)
 }
 
 // A command with its flag.
@@ -149,6 +153,8 @@ fn command_of(name: &str) -> Option<Command>
         Some(Command::Show)
     } else if name == "check" {
         Some(Command::Check)
+    } else if name == "prove" {
+        Some(Command::Prove)
     } else {
         None
     }

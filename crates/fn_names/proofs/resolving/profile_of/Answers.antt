@@ -11,13 +11,14 @@ pub reached_methods-requires-clause-within : goal.reached_methods-requires-claus
 reached_methods-requires-clause-within c = uses_within c.args.order.now c.args.methods c.requires.order
 
 pub sizes-requires : goal.sizes-requires
-sizes-requires c = rw c.as_slice-4.ensures (order_of_kept (length c.args.methods) c.args.order.now c.args.methods c.in_ok-methods.methods c.args.top refl c.requires.order c.in_ok-methods.ensures)
+sizes-requires c = rw c.as_slice-5.ensures (order_of_kept (length c.args.methods) c.args.order.now c.args.methods c.in_ok-methods.methods c.args.top refl c.requires.order c.in_ok-methods.ensures)
 
 pub of-requires : goal.of-requires
-of-requires c = sound c.args.methods c.in_ok-methods.methods c.in-Ok.sizes c.args.top c.args.order.now c.requires.order c.requires.top c.in_ok-methods.ensures (rw c.as_slice-4.ensures at c.in-Ok.ensures.ok) c.requires.well_formed c.requires.names (rw c.as_slice-3.ensures at c.are_words.ensures) c.requires.plain c.requires.formats ((rw c.as_slice-2.ensures at c.in_ok-fault.ensures).fine c.in_default.is)
+of-requires c =
+    sound c.args.methods c.in_ok-methods.methods c.in-Ok.sizes c.args.top c.in_ok-asked.asked c.args.order.now (rw c.as_slice-4.ensures at c.in_ok-asked.ensures) c.requires.asking c.requires.order c.requires.top c.in_ok-methods.ensures (rw c.as_slice-5.ensures at c.in-Ok.ensures.ok) c.requires.well_formed c.requires.names (rw c.as_slice-3.ensures at c.are_words.ensures) c.requires.plain c.requires.formats ((rw c.as_slice-2.ensures at c.in_ok-fault.ensures).fine c.in_default.is)
 
 pub returns-clause-refused : goal.returns-clause-refused
 returns-clause-refused c =
     bounds_refused c.args.parts.now c.args.methods c.in_ok-methods.methods c.args.top c.args.order.now c.in_ok-methods.ensures
     (order_of_kept (length c.args.methods) c.args.order.now c.args.methods c.in_ok-methods.methods c.args.top refl c.requires.order c.in_ok-methods.ensures)
-    c.in-Err.error (rw c.as_slice-4.ensures at c.in-Err.ensures.err)
+    c.in-Err.error (rw c.as_slice-5.ensures at c.in-Err.ensures.err)

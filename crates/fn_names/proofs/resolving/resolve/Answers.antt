@@ -4,6 +4,7 @@ use Rattle.std.proofs.lemmas.Result.{err_from_is_err_and, IfOk-weaker, IfErr-wea
 use Rattle.fn_normal.specs.Judging.{Blames}
 use Rattle.fn_names.specs.Resolved.{IsNormalForm, IsProfile, ProfileCause, Cause, in_head, in_methods, has_no_top, calls_back, in_profile}
 use Rattle.fn_names.proofs.Passes.{blames_as, form_for_each, text_ordered, forms_ordered, normal}
+use Rattle.fn_names.proofs.AskedFields.{are_asked}
 use Rattle.fn_names.proofs.NamedMethods.{are_named, have_formats, is_plain}
 use Rattle.fn_names.proofs.SoundMethods.{well_formed}
 use Rattle.fn_names.proofs.resolving.resolve.Goals as goal
@@ -64,6 +65,11 @@ pub profile_of-requires-clause-formats : goal.profile_of-requires-clause-formats
 profile_of-requires-clause-formats c =
     let form = rw c.in-Some.is at c.in_ok-methods.ensures.found in
     have_formats c.args.text.now c.args.parts.now (Some c.in-Some.top) c.in_ok-methods.methods form
+
+pub profile_of-requires-clause-asking : goal.profile_of-requires-clause-asking
+profile_of-requires-clause-asking c =
+    let form = rw c.in-Some.is at c.in_ok-methods.ensures.found in
+    are_asked c.args.text.now c.args.parts.now c.in-Some.top c.in_ok-methods.methods form
 
 pub returns-clause-found : goal.returns-clause-found
 returns-clause-found c =

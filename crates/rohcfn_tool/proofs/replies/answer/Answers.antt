@@ -1,5 +1,5 @@
 use Rattle.rohcfn_tool.specs.Printed.{no_profile}
-use Rattle.rohcfn_tool.proofs.Replying.{refused_order, order_ran, order_shown, order_checked}
+use Rattle.rohcfn_tool.proofs.Replying.{refused_order, order_ran, order_shown, order_checked, order_proved}
 use Rattle.rohcfn_tool.proofs.replies.answer.Goals as goal
 
 pub returns-in_default : goal.returns-in_default
@@ -13,3 +13,6 @@ returns-in-Run c = order_ran _ _ c.in-Run.direction c.in-Some.profile _ c.in-Som
 
 pub returns-in-Check : goal.returns-in-Check
 returns-in-Check c = order_checked _ _ c.in-Some.profile _ c.in-Some.is c.in-Check.is c.answer_check.ensures
+
+pub returns-in-Prove : goal.returns-in-Prove
+returns-in-Prove c = order_proved _ _ c.in-Some.profile _ c.in-Some.is c.in-Prove.is c.answer_prove.ensures

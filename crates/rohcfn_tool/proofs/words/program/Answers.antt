@@ -15,4 +15,5 @@ returns c =
     let one = c.in_ok-subcommand.ensures.shape c.in_ok-pack.ensures.local ∙ ap₂ with_subcommand bare (ap (λ (a : App). a.top) c.in_ok-pack.ensures.app) in
     let two = c.in_ok-subcommand-2.ensures.shape c.in_ok-unpack.ensures.local ∙ ap₂ with_subcommand one (ap (λ (a : App). a.top) c.in_ok-unpack.ensures.app) in
     let three = c.in_ok-subcommand-3.ensures.shape c.in_ok-show.ensures.local ∙ ap₂ with_subcommand two (ap (λ (a : App). a.top) c.in_ok-show.ensures.app) in
-    IfOk-weaker c.subcommand-4.result _ _ (λ command adds. adds.shape c.in_ok-check.ensures.local ∙ ap₂ with_subcommand three (ap (λ (a : App). a.top) c.in_ok-check.ensures.app)) c.subcommand-4.ensures
+    let four = c.in_ok-subcommand-4.ensures.shape c.in_ok-check.ensures.local ∙ ap₂ with_subcommand three (ap (λ (a : App). a.top) c.in_ok-check.ensures.app) in
+    IfOk-weaker c.subcommand-5.result _ _ (λ command adds. adds.shape c.in_ok-prove.ensures.local ∙ ap₂ with_subcommand four (ap (λ (a : App). a.top) c.in_ok-prove.ensures.app)) c.subcommand-5.ensures

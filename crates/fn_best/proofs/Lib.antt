@@ -1,0 +1,13 @@
+pub mod Bounds
+pub mod Compares
+pub mod Example
+pub mod Few
+pub mod Fitting
+pub mod Kept
+pub mod Levels
+pub mod Listing
+pub mod Order
+pub mod Packing
+pub mod Reading
+pub mod Splitting
+pub mod Sums

@@ -1,0 +1,6 @@
+pub mod Changed
+pub mod Spelling
+pub mod Parts
+pub mod Gained
+pub mod Kept
+pub mod Asked

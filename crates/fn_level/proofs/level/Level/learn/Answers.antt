@@ -1,0 +1,36 @@
+use Rattle.std.proofs.Common.{◌≡◌, ◌∙◌, sym, ap, subst, ◌<◌, ◌^◌, length}
+use Rattle.std.specs.Prelude.{slice_get, slice_set, Some}
+use Rattle.fn_expr.specs.declared.expr.Side.TheVariants.{Uncompressed, Compressed}
+use Rattle.fn_rules.specs.declared.slots.Slot.{Slot}
+use Rattle.fn_rules.specs.Numbers.{slot_numbers}
+use Rattle.fn_level.specs.Joined.{joined_bits}
+use Rattle.fn_level.specs.Level.{bounds_at, whole_numbers}
+use Rattle.fn_level.specs.Sides.{LearnsAt}
+use Rattle.fn_level.proofs.Kept.{short_after, up_to_date_after}
+use Rattle.fn_level.proofs.level.Level.learn.Goals as goal
+
+pub note-requires-clause-header : goal.note-requires-clause-header
+note-requires-clause-header c =
+    let i = c.self.inside in
+    let l = subst (λ b. LearnsAt b c.args.field c.args.side c.args.found i.slots.items c.learn_at-is_learnt.new.slots.items) c.bounds_at-bounds.ensures (c.learn_at-is_learnt.ensures.learnt c.if-is_learnt.true) in
+    let short = short_after i.format.now i.sizes.now i.headers i.slots.items c.learn_at-is_learnt.new.slots.items c.args.field c.args.side c.args.found i.known c.self.invariant l in
+    subst (λ xs. length (joined_bits xs Uncompressed c.as_slice.result.now) < 2 ^ 31) (sym c.as_slice-then-is_learnt-2.ensures.value)
+    (subst (λ h. length (joined_bits c.learn_at-is_learnt.new.slots.items Uncompressed h) < 2 ^ 31) (sym c.as_slice.ensures) short.0)
+
+pub note-requires-clause-packed : goal.note-requires-clause-packed
+note-requires-clause-packed c =
+    let i = c.self.inside in
+    let l = subst (λ b. LearnsAt b c.args.field c.args.side c.args.found i.slots.items c.learn_at-is_learnt.new.slots.items) c.bounds_at-bounds.ensures (c.learn_at-is_learnt.ensures.learnt c.if-is_learnt.true) in
+    let short = short_after i.format.now i.sizes.now i.headers i.slots.items c.learn_at-is_learnt.new.slots.items c.args.field c.args.side c.args.found i.known c.self.invariant l in
+    subst (λ xs. length (joined_bits xs Compressed c.as_slice-then-is_learnt.result.now) < 2 ^ 31) (sym c.as_slice-then-is_learnt-2.ensures.value)
+    (subst (λ h. length (joined_bits c.learn_at-is_learnt.new.slots.items Compressed h) < 2 ^ 31) (sym c.as_slice-then-is_learnt.ensures) short.1)
+
+pub invariant_of-self : goal.invariant_of-self
+invariant_of-self c =
+    let i = c.self.inside in
+    let new = c.learn_at-is_learnt.new.slots.items in
+    let l = subst (λ b. LearnsAt b c.args.field c.args.side c.args.found i.slots.items new) c.bounds_at-bounds.ensures (c.learn_at-is_learnt.ensures.learnt c.if-is_learnt.true) in
+    let slots = c.as_slice-then-is_learnt-2.ensures.value in
+    let whole = c.note.ensures.whole ∙ ((λ j. whole_numbers (slots j) (c.as_slice.ensures j) (c.as_slice-then-is_learnt.ensures j))) in
+    up_to_date_after i.format.now i.sizes.now i.headers i.slots.items new c.args.field c.args.side c.args.found i.known c.note.new.known c.self.invariant l
+    (λ s at. c.note.ensures.fields s (ap (λ xs. slice_get xs c.args.field) slots ∙ at)) whole c.note.ensures.parameters

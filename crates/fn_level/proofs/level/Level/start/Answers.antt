@@ -1,0 +1,31 @@
+use Rattle.std.proofs.Common.{◌≡◌, ◌∙◌, refl, sym, ap, subst, ◌<◌, ◌^◌, length, map}
+use Rattle.fn_expr.specs.declared.expr.Side.TheVariants.{Uncompressed, Compressed}
+use Rattle.fn_rules.specs.Numbers.{slot_numbers}
+use Rattle.fn_level.specs.Joined.{header_places, joined_bits}
+use Rattle.fn_level.specs.Level.{IsPlaced, whole_numbers}
+use Rattle.fn_level.proofs.Kept.{start_short, start_up_to_date}
+use Rattle.fn_level.proofs.level.Level.start.Goals as goal
+
+pub numbers_of-requires-clause-header : goal.numbers_of-requires-clause-header
+numbers_of-requires-clause-header c =
+    let headers = c.in_ok-headers.ensures ∙ ap (header_places 0) c.as_slice.ensures in
+    let short = start_short c.args.format.now c.args.sizes.now c.args.arguments.now c.in_ok-headers.headers c.in_ok-slots.slots.items c.requires (c.if-not-are_unsent.ensures.0 refl) headers c.in_ok-slots.ensures in
+    subst (λ xs. length (joined_bits xs Uncompressed c.as_slice-2.result.now) < 2 ^ 31) (sym c.as_slice-4.ensures.value)
+    (subst (λ h. length (joined_bits c.in_ok-slots.slots.items Uncompressed h) < 2 ^ 31) (sym c.as_slice-2.ensures) short.0)
+
+pub numbers_of-requires-clause-packed : goal.numbers_of-requires-clause-packed
+numbers_of-requires-clause-packed c =
+    let headers = c.in_ok-headers.ensures ∙ ap (header_places 0) c.as_slice.ensures in
+    let short = start_short c.args.format.now c.args.sizes.now c.args.arguments.now c.in_ok-headers.headers c.in_ok-slots.slots.items c.requires (c.if-not-are_unsent.ensures.0 refl) headers c.in_ok-slots.ensures in
+    subst (λ xs. length (joined_bits xs Compressed c.as_slice-3.result.now) < 2 ^ 31) (sym c.as_slice-4.ensures.value)
+    (subst (λ h. length (joined_bits c.in_ok-slots.slots.items Compressed h) < 2 ^ 31) (sym c.as_slice-3.ensures) short.1)
+
+pub invariant_of-result : goal.invariant_of-result
+invariant_of-result c =
+    let headers = c.in_ok-headers.ensures ∙ ap (header_places 0) c.as_slice.ensures in
+    let known = c.in_ok-known.ensures in
+    let slots = c.as_slice-4.ensures.value in
+    let placed = subst (IsPlaced c.args.format.now c.args.sizes.now) (sym (ap (λ k. k.parameters) known)) c.requires in
+    let fields = ap (λ k. k.fields) known ∙ ap (map slot_numbers) slots in
+    let whole = ap (λ k. k.whole) known ∙ (λ j. whole_numbers (slots j) (c.as_slice-2.ensures j) (c.as_slice-3.ensures j)) in
+    start_up_to_date c.args.format.now c.args.sizes.now c.in_ok-headers.headers c.in_ok-slots.slots.items c.in_ok-known.known placed (c.if-not-are_unsent.ensures.0 refl) headers c.in_ok-slots.ensures fields whole

@@ -1,0 +1,97 @@
+-- What a walk knows of one level of a filling (docs/DEFINITIONS.md, What a walk knows of a level).
+use Rattle.std.specs.Prelude.{◌≡◌, ℕ, ℤ, false, List, length, slice_get, Some, pos, option_map}
+use Rattle.fn_expr.specs.declared.known.Known.{Known}
+use Rattle.fn_expr.specs.declared.known.Numbers.{Numbers}
+use Rattle.fn_expr.specs.declared.known.SideNumbers.{SideNumbers}
+use Rattle.fn_expr.specs.declared.expr.Expr.{Expr}
+use Rattle.fn_expr.specs.declared.expr.Side.{Side}
+use Rattle.fn_expr.specs.declared.expr.Side.TheVariants.{Uncompressed, Compressed}
+use Rattle.fn_normal.specs.declared.profile.Bounds.{Bounds}
+use Rattle.fn_normal.specs.declared.profile.Sizes.{Sizes}
+use Rattle.fn_normal.specs.declared.profile.FormatSizes.{FormatSizes}
+use Rattle.fn_normal.specs.declared.profile.MethodSizes.{MethodSizes}
+use Rattle.fn_normal.specs.declared.profile.Constraint.{Constraint}
+use Rattle.fn_normal.specs.declared.profile.Format.{Format}
+use Rattle.fn_normal.specs.declared.profile.Method.{Method}
+use Rattle.fn_bounds.specs.Fields.{lists}
+use Rattle.fn_bounds.specs.Formats.{sizes_at}
+use Rattle.fn_bounds.specs.Faults.{side_bounds}
+use Rattle.fn_bounds.specs.Laws.{StandsIn}
+use Rattle.fn_bounds.specs.Outcome.{AreSizes, FormatAt}
+use Rattle.fn_fits.specs.Bounded.{ArgumentsLie}
+use Rattle.fn_rules.specs.declared.slots.Learnt.{Learnt}
+use Rattle.fn_rules.specs.declared.slots.Slot.{Slot}
+use Rattle.fn_rules.specs.Rules.{length_given, value_given}
+use Rattle.fn_rules.specs.Numbers.{AreWithin, known_of}
+use Rattle.fn_level.specs.Sides.{LearnsAt}
+use Rattle.fn_level.specs.Joined.{header_places, joined_length, joined_value}
+
+-- ---- where a level stands
+
+-- the format is one of a profile with its bounds, and the arguments lie in the ranges of its method's parameters
+pub record IsPlaced (format : Format) (sizes : FormatSizes) (args : List ℤ) : Type 0 where
+  pub methods : List Method
+  pub table : List MethodSizes
+  pub are_sizes : AreSizes methods table
+  pub method : Method
+  pub whole : MethodSizes
+  pub at : FormatAt methods table method format whole sizes
+  pub lie : ArgumentsLie whole.parameters args
+
+-- what a walk has reached: the format with its bounds, the values of the parameters, and what is known of each field
+pub record Reached : Type 0 where
+  pub format : Format
+  pub sizes : FormatSizes
+  pub args : List ℤ
+  pub slots : List Slot
+
+-- what each level keeps: all that is known lies in the fields' bounds
+pub record IsKept (l : Reached) : Type 0 where
+  pub placed : IsPlaced l.format l.sizes l.args
+  pub count : length l.slots ≡ length l.format.fields
+  pub within : AreWithin l.sizes l.slots
+
+-- its parts: the header fields by their indices, and the numbers of what is known
+pub record IsUpToDate (format : Format) (sizes : FormatSizes) (headers : List ℕ) (slots : List Slot) (known : Known) : Type 0 where
+  pub kept : IsKept (record { format = format; sizes = sizes; args = known.parameters; slots = slots })
+  pub headers_are : headers ≡ header_places 0 format.fields
+  pub known_is : known ≡ known_of format slots known.parameters
+
+-- ---- the start
+
+-- each field that is not listed may have no packed bits
+abbrev pub AreUnsent : Format → FormatSizes → Type 0
+AreUnsent format sizes = (i : ℕ) (b : Sizes) → slice_get sizes.fields i ≡ Some b → lists format.listing i ≡ false → b.compressed.least ≡ 0
+
+-- ---- what is learnt
+
+-- the bounds of a side of a field
+abbrev pub bounds_at : FormatSizes → ℕ → Side → Bounds
+bounds_at sizes i side = side_bounds side (sizes_at sizes.fields i)
+
+-- what was found of a side of a field is known too, and the rest is as it was
+pub record Learns (old : Reached) (i : ℕ) (side : Side) (found : Learnt) (new : Reached) : Type 0 where
+  pub format_is : new.format ≡ old.format
+  pub sizes_are : new.sizes ≡ old.sizes
+  pub args_are : new.args ≡ old.args
+  pub slots_are : LearnsAt (bounds_at old.sizes i side) i side found old.slots new.slots
+
+-- ---- numbers
+
+-- the fields whose sides are joined to that of the whole
+abbrev pub parts_of : Format → Side → List ℕ
+parts_of format Uncompressed = header_places 0 format.fields
+parts_of format Compressed = format.listing
+
+-- those of sides that are joined
+abbrev pub joined_numbers : List Slot → Side → List ℕ → Numbers
+joined_numbers slots side fields = record { value = option_map pos (joined_value slots side fields); length = option_map pos (joined_length slots side fields) }
+
+abbrev pub whole_numbers : List Slot → List ℕ → List ℕ → SideNumbers
+whole_numbers slots headers listing = record { uncompressed = joined_numbers slots Uncompressed headers; compressed = joined_numbers slots Compressed listing }
+
+-- the expression is one that a step evaluates: an argument or one of a bracket, or what a constraint gives for a length or a value
+pub data IsAsked (format : Format) (e : Expr) : Type 0 where
+  stands : StandsIn format e → IsAsked format e
+  gives_length : (i j : ℕ) (side : Side) (k : Constraint) → slice_get format.constraints j ≡ Some k → length_given i side k ≡ Some e → IsAsked format e
+  gives_value : (i j : ℕ) (k : Constraint) → slice_get format.constraints j ≡ Some k → value_given i k ≡ Some e → IsAsked format e

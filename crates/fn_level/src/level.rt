@@ -1,0 +1,200 @@
+//! One level of a walk.
+
+ghost use Rattle.std.specs.Prelude.{◌≡◌, ◌+◌, ◌<◌, ◌↔◌, Bool, List, true, false, IsTrue, IfOk, IfSome, IfNone, length, map, slice_get, slice_set, option_map};
+ghost use Rattle.std.specs.Option.{option_copied};
+ghost use Rattle.fn_expr.specs.Values.{val};
+ghost use Rattle.fn_expr.specs.Known.{assignment_of};
+ghost use Rattle.fn_expr.specs.declared.expr.Subject.TheVariants as subject;
+ghost use Rattle.fn_expr.specs.declared.expr.Measure.TheVariants as measure;
+ghost use Rattle.fn_fits.specs.Bounded.{LiesBetween};
+ghost use Rattle.fn_rules.specs.Facts.{inputs, before};
+ghost use Rattle.fn_rules.specs.Numbers as numbers;
+ghost use Rattle.fn_rules.specs.Reading.{start_slots, known_numbers, known_sides};
+ghost use Rattle.fn_rules.specs.Slots.{HasSide, learnt_at, knows_all};
+ghost use Rattle.fn_level.specs.Joined as joined;
+ghost use Rattle.fn_level.specs.Level as spec;
+ghost use Rattle.fn_level.specs.Sides as sides;
+
+use crate::joining::{joined_length, joined_value, joined_whole};
+use crate::numbers::{note, numbers_of};
+use crate::slots::{are_unsent, at_start, bits_at, headers_of, learn_at, length_at};
+use fn_bits::Bits;
+use fn_expr::{Expr, Known, Numbers, Side, SideNumbers, value};
+use fn_normal::{Bounds, Format, FormatSizes};
+use fn_rules::{Learnt, Slot};
+use sqlite_items::Items;
+use std::alloc::{AllocError, Global};
+use std::marker::Model;
+
+/// What a walk knows of one level of a filling: its format with the bounds, the values of the method's parameters, and of each field what
+/// was learnt, with the numbers that expressions may ask for. All that is known lies in the bounds.
+#[derive(Drop)]
+pub struct Level<'a> {
+    format: &'a Format,
+    sizes: &'a FormatSizes,
+    headers: Items<usize>,
+    slots: Vec<Slot>,
+    known: Known,
+}
+
+impl<'a> Model for Level<'a> {
+    ghost use Rattle.fn_expr.specs.contracts.expr.Expr as expr;
+    ghost use Rattle.fn_expr.specs.contracts.expr.Cond as cond;
+    ghost use Rattle.fn_filling.specs.contracts.filling.Filling as filling;
+    ghost use Rattle.fn_level.specs.Level.{Reached, IsUpToDate};
+    ghost use Rattle.std.specs.Coded.{codes};
+
+    ghost Value = { Reached };
+
+    ghost coded = { Prim.hlevel (codes, expr.the_row.coded, cond.the_row.coded, filling.the_row.coded) };
+
+    ghost view = { λ l. record { format = l.format.now; sizes = l.sizes.now; args = l.known.parameters; slots = l.slots.items } };
+
+    ghost invariant = { λ l. IsUpToDate l.format.now l.sizes.now l.headers l.slots.items l.known };
+}
+
+impl<'a> Level<'a> {
+    /// The level of a format of which nothing is known, but that a field which is not listed has no packed bits. None where such a field must
+    /// have some by its bounds. The error is want of memory.
+    pub fn start(
+        alloc: Global,
+        format: &'a Format,
+        sizes: &'a FormatSizes,
+        arguments: &[i128],
+    ) -> Result<Option<Level<'a>>, AllocError>
+        requires { spec.IsPlaced format.now sizes.now arguments.now }
+        ensures found { IfOk result (λ o. IfSome o (λ l. l ≡ record { format = format.now; sizes = sizes.now; args = arguments.now; slots = start_slots format.now.listing 0 format.now.fields })) }
+        ensures none { IfOk result (λ o. IfNone o (spec.AreUnsent format.now sizes.now → ⊥)) }
+    {
+        if !are_unsent(format, sizes) {
+            return Ok(None);
+        }
+        let headers = headers_of(alloc, format.fields.as_slice())?;
+        let slots = at_start(alloc, format)?;
+        let known = numbers_of(
+            alloc,
+            headers.as_slice(),
+            format.listing.as_slice(),
+            slots.as_slice(),
+            arguments,
+        )?;
+        Ok(Some(Level {
+            format,
+            sizes,
+            headers,
+            slots,
+            known,
+        }))
+    }
+
+    /// A law of levels: what each one keeps.
+    pub fn keeps(&self)
+        ensures { spec.IsKept self.now }
+    {
+        let _ = &self.format;
+    }
+
+    /// The format.
+    pub fn format(&self) -> &'a Format
+        ensures { result.now ≡ self.now.format }
+    {
+        self.format
+    }
+
+    /// How many bits the side of the field has, where that is known.
+    pub fn length(&self, field: usize, side: Side) -> Option<usize>
+        ensures { result ≡ sides.length_of (learnt_at self.now.slots field side) }
+    {
+        length_at(self.slots.as_slice(), field, side)
+    }
+
+    /// The bits of the side of the field, where they are known.
+    pub fn bits(&self, field: usize, side: Side) -> Option<&Bits>
+        ensures { option_copied result ≡ sides.whole_of (learnt_at self.now.slots field side) }
+    {
+        bits_at(self.slots.as_slice(), field, side)
+    }
+
+    /// Learns what was found of a side of the field, a length or its bits: tests it against the bounds of the field, then compares it with
+    /// what is known. Whether it can be so; if not, nothing changes.
+    pub fn learn(&mut self, field: usize, side: Side, found: Learnt) -> bool
+        requires within { field < length self.old.slots }
+        ensures learnt { IsTrue result → spec.Learns self.old field side found self.new }
+        // No bits within the bounds are as was known and as was found.
+        ensures refused { result ≡ false → (bits : List Bool) → HasSide bits (learnt_at self.old.slots field side) → HasSide bits found → LiesBetween (spec.bounds_at self.old.sizes field side) (length bits) → ⊥ }
+        ensures stays { result ≡ false → self.new ≡ self.old }
+    {
+        let bounds = bounds_at(self.sizes, field, side);
+        let is_learnt = learn_at(&mut self.slots, field, side, bounds, found);
+        if is_learnt {
+            note(
+                &mut self.known,
+                self.headers.as_slice(),
+                self.format.listing.as_slice(),
+                self.slots.as_slice(),
+                field,
+            );
+        }
+        is_learnt
+    }
+
+    /// The value of an expression of the format, where it has one by what is known.
+    pub fn value(&self, expr: &Expr) -> Option<i128>
+        requires asked { spec.IsAsked self.now.format expr.now }
+        ensures value { result ≡ val (assignment_of (numbers.known_of self.now.format self.now.slots self.now.args)) expr.now }
+        // Where all that it asks for is known, it is that of any level that shows what is known.
+        ensures shown { knows_all self.now.format self.now.slots (inputs self.now.format expr.now) ≡ true → result ≡ val (known_numbers self.now.format self.now.slots self.now.args) expr.now }
+    {
+        value(expr, &self.known)
+    }
+
+    /// A side of the whole, where the bits of all its parts are known. The error is want of memory.
+    pub fn whole(&self, alloc: Global, side: Side) -> Result<Option<Bits>, AllocError>
+        ensures { IfOk result (λ o. o ≡ joined.joined_whole self.now.slots side (spec.parts_of self.now.format side)) }
+    {
+        joined_whole(alloc, self.slots.as_slice(), side, self.parts(side))
+    }
+
+    /// How many bits stand before the side of the field in that of the whole, where the length of each part before it is known.
+    pub fn offset(&self, field: usize, side: Side) -> Option<usize>
+        ensures { result ≡ joined.joined_length self.now.slots side (before field (spec.parts_of self.now.format side)) }
+    {
+        let parts = self.parts(side);
+        joined_length(self.slots.as_slice(), side, parts_before(parts, field))
+    }
+
+    /// The fields whose sides are joined to that of the whole.
+    fn parts(&self, side: Side) -> &[usize]
+        ensures { result.now ≡ spec.parts_of self.now.format side }
+    {
+        match side {
+            Side::Uncompressed => self.headers.as_slice(),
+            Side::Compressed => self.format.listing.as_slice(),
+        }
+    }
+}
+
+/// Those of the fields that stand before the field, all of them if it isn't there.
+fn parts_before(parts: &[usize], field: usize) -> &[usize]
+    ensures { result.now ≡ before field parts.now }
+{
+    for (place, part) in parts.iter().enumerate() {
+        if *part == field {
+            return &parts[..place];
+        }
+    }
+    parts
+}
+
+/// The bounds on the length of a side of the field; none are 0 to 0.
+fn bounds_at(sizes: &FormatSizes, field: usize, side: Side) -> Bounds
+    ensures { result ≡ spec.bounds_at sizes.now field side }
+{
+    let Some(sizes) = sizes.fields.get(field) else {
+        return Bounds { least: 0, most: 0 };
+    };
+    match side {
+        Side::Uncompressed => sizes.uncompressed,
+        Side::Compressed => sizes.compressed,
+    }
+}

@@ -1,0 +1,10 @@
+//! What a walk knows of one level of a filling.
+#![tactic(auto)]
+
+pub use level::Level;
+
+mod joining;
+pub mod level;
+mod numbers;
+mod side;
+mod slots;

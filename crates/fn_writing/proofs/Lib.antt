@@ -1,0 +1,5 @@
+pub mod Ending
+pub mod Fitted
+pub mod Going
+pub mod Knowing
+pub mod Steps
