@@ -8,6 +8,8 @@ from samples import TICK
 
 PLAIN = b"plain\n{\n  UNCOMPRESSED { a [4]; b [12]; }\n  COMPRESSED {\n    d =:= '10' [2];\n    a =:= irregular(4) [4];\n    b =:= irregular(12) [12];\n  }\n}\n"
 
+WIDE = b"wide { UNCOMPRESSED { x [64]; } COMPRESSED { x =:= irregular(64) [64]; } }\n"
+
 NO_TOP = b"profile:1:1: E27 no such top method without parameters\n"
 
 NO_SECTIONS = b"profile:1:1: E29 method m lacks one UNCOMPRESSED or named formats\n"
@@ -84,7 +86,7 @@ def packed():
     yield "129 statements", bundle(b"pack --top many", fields(129), items), 1, b"profile:131:1: E15 too many parts\n"
     for bits, answer in [(4096, b"item 1: F3 NoFormat\n"), (4097, b"item 1: F1 HeaderLength\n")]:
         items = b"=== items\n%d:%s\n" % (bits, b"00" * ((bits + 7) // 8))
-        yield "a header of %d bits" % bits, bundle(b"pack --top plain", PLAIN, items), 1, answer
+        yield "a header of %d bits" % bits, bundle(b"pack --top wide", WIDE, items), 1, answer
 
 
 def long_inputs():

@@ -16,4 +16,5 @@ done
 echo "examples: $passed passed, $failed failed"
 ./cases.py || failed=1
 ./certificates.py || failed=1
+./roundtrip.py || failed=1
 [ "$failed" -eq 0 ]

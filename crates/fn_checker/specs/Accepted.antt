@@ -7,19 +7,22 @@ use Rattle.fn_cert.specs.Kept.{Entries}
 use Rattle.fn_rules.specs.Valid.{Valid}
 use Rattle.fn_rules.specs.Refusals.{IsRefused}
 use Rattle.fn_trees.specs.Capped.{AreCapped}
+use Rattle.fn_best.specs.Spans.{AreSpans}
 use Rattle.fn_checker.specs.declared.accepted.CheckError.{CheckError}
 use Rattle.fn_checker.specs.declared.accepted.CheckError.TheVariants.{Fault, OutOfMemory}
 
--- a profile and a certificate, and for each method the number of its candidates, as far as 64 bits go
+-- a profile and a certificate, and for each method the number of its candidates, and those of its formats, as far as 64 bits go
 pub record Accepting : Type 0 where
   pub profile : Resolved
   pub certificate : Entries
   pub counts : List ℕ
+  pub spans : List (List ℕ)
 
 -- the certificate is valid for the profile, and the numbers are those of its candidates
 pub record IsAccepted (a : Accepting) : Type 0 where
   pub valid : Valid a.profile.methods a.profile.sizes a.profile.top a.certificate
   pub counted : AreCapped a.profile.methods a.certificate a.counts
+  pub spanned : AreSpans a.profile.methods a.certificate a.counts a.spans
 
 -- In every context and for all bits at most one filling has its packed bits at their front: of the top, and of each method under arguments and at a path.
 pub record IsDeterminate (a : Accepting) : Type 0 where

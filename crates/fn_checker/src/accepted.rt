@@ -15,6 +15,7 @@ pub struct Accepted {
     profile: Profile,
     certificate: Certificate,
     counts: Items<u64>,
+    spans: Items<Items<u64>>,
 }
 
 impl Model for Accepted {
@@ -27,14 +28,19 @@ impl Model for Accepted {
 
     ghost coded = { Prim.hlevel (codes, expr.the_row.coded, cond.the_row.coded) };
 
-    ghost view = { λ a. record { profile = a.profile; certificate = a.certificate; counts = a.counts } };
+    ghost view = { λ a. record { profile = a.profile; certificate = a.certificate; counts = a.counts; spans = a.spans } };
 
-    ghost invariant = { λ a. IsAccepted (record { profile = a.profile; certificate = a.certificate; counts = a.counts }) };
+    ghost invariant = { λ a. IsAccepted (record { profile = a.profile; certificate = a.certificate; counts = a.counts; spans = a.spans }) };
 }
 
 impl Accepted {
-    pub(crate) fn of(profile: Profile, certificate: Certificate, counts: Items<u64>) -> Accepted
-        requires { IsAccepted (record { profile = profile; certificate = certificate; counts = counts }) }
+    pub(crate) fn of(
+        profile: Profile,
+        certificate: Certificate,
+        counts: Items<u64>,
+        spans: Items<Items<u64>>,
+    ) -> Accepted
+        requires { IsAccepted (record { profile = profile; certificate = certificate; counts = counts; spans = spans }) }
         ensures profile { result.profile ≡ profile }
         ensures certificate { result.certificate ≡ certificate }
     {
@@ -42,6 +48,7 @@ impl Accepted {
             profile,
             certificate,
             counts,
+            spans,
         }
     }
 
@@ -64,6 +71,13 @@ impl Accepted {
         ensures { result.now ≡ self.now.counts }
     {
         self.counts.as_slice()
+    }
+
+    /// For each method the numbers of candidates of its formats, each the greatest of 64 bits where it is above that.
+    pub fn spans(&self) -> &[Items<u64>]
+        ensures { result.now ≡ self.now.spans }
+    {
+        self.spans.as_slice()
     }
 
     /// A law of what is accepted: the certificate is valid for the profile.

@@ -7,12 +7,14 @@ ghost use Rattle.fn_trees.specs.Calling.{HasOrder, CallsWithin};
 ghost use Rattle.fn_plans.specs.Laws.{refusal_of};
 ghost use Rattle.fn_rules.specs.Counts as counts;
 ghost use Rattle.fn_rules.specs.Valid as valid;
-ghost use Rattle.fn_rules.specs.Valid.{HasPlans};
+ghost use Rattle.fn_rules.specs.Valid.{HasPlans, Valid};
+ghost use Rattle.fn_trees.specs.Capped.{AreCapped};
 ghost use Rattle.fn_checker.specs.Accepted.{Blames};
 ghost use Rattle.fn_checker.specs.Judged as spec;
 ghost use Rattle.fn_checker.specs.Judged.{Serve, AreEntriesRight, AreFormatsRight, IsMethodRight, IsEntryRight, RefusesIn, RefusesEntry, RefusesFormats, RefusesFormat, RefusesPlans};
 
 use crate::accepted::{Accepted, CheckError, Refusal};
+use fn_best::format_counts;
 use fn_cert::{Certificate, Direction, MethodPlans, Plans};
 use fn_normal::{Format, Method, MethodSizes};
 use fn_plans::{PlanFault, plan_fault};
@@ -39,12 +41,39 @@ pub fn check(alloc: Global, profile: Profile, certificate: Certificate) -> Resul
     ensures fault { IfErr result (λ r. Blames profile certificate r.error) }
 {
     match judged(alloc, &profile, &certificate) {
-        Ok(Verdict::Right(counts)) => Ok(Accepted::of(profile, certificate, counts)),
+        Ok(Verdict::Right(counts)) => accepted(alloc, profile, certificate, counts),
         Ok(Verdict::Wrong(fault)) => Err(Refusal {
             error: CheckError::Fault(fault),
             profile,
             certificate,
         }),
+        Err(_) => Err(Refusal {
+            error: CheckError::OutOfMemory,
+            profile,
+            certificate,
+        }),
+    }
+}
+
+/// Keeps a valid certificate with its profile and the numbers of candidates, of which those of the methods are told.
+fn accepted(
+    alloc: Global,
+    profile: Profile,
+    certificate: Certificate,
+    counts: Items<u64>,
+) -> Result<Accepted, Refusal>
+    requires valid { Valid profile.methods profile.sizes profile.top certificate }
+    requires counted { AreCapped profile.methods certificate counts }
+    ensures profile { IfOk result (λ a. a.profile ≡ profile) }
+    ensures certificate { IfOk result (λ a. a.certificate ≡ certificate) }
+    ensures same_profile { IfErr result (λ r. r.profile ≡ profile) }
+    ensures same_certificate { IfErr result (λ r. r.certificate ≡ certificate) }
+    ensures fault { IfErr result (λ r. Blames profile certificate r.error) }
+{
+    let methods = profile.methods();
+    let entries = certificate.methods();
+    match format_counts(alloc, methods, entries, counts.as_slice()) {
+        Ok(spans) => Ok(Accepted::of(profile, certificate, counts, spans)),
         Err(_) => Err(Refusal {
             error: CheckError::OutOfMemory,
             profile,

@@ -1,6 +1,4 @@
-pub mod Following
-pub mod Walking
-pub mod Writing
-pub mod Fronts
-pub mod Marks
-pub mod Planned
+pub mod Standing
+pub mod Reading
+pub mod Searching
+pub mod Back

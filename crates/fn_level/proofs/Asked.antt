@@ -1,6 +1,7 @@
 -- The expressions that steps evaluate.
-use Rattle.std.proofs.Common.{◌≡◌, sym, ◌∙◌, ap, subst, ℕ, List, true}
-use Rattle.std.specs.Prelude.{ℤ}
+use Rattle.std.proofs.Common.{◌≡◌, refl, sym, ◌∙◌, ap, subst, ℕ, suc, List, [], ◌∷◌, ◌++◌, true}
+use Rattle.std.specs.Prelude.{ℤ, Some, slice_get, option_map, option_and_then, ◌&&◌}
+use Rattle.fn_cert.specs.declared.rule.Fact.{Fact}
 use Rattle.fn_expr.specs.declared.expr.Expr.{Expr}
 use Rattle.fn_expr.specs.declared.known.Known.{Known}
 use Rattle.fn_expr.specs.Known.{assignment_of}
@@ -12,16 +13,26 @@ use Rattle.fn_bounds.specs.Calling.{ranges_in}
 use Rattle.fn_bounds.specs.Laws.{IsSound}
 use Rattle.fn_bounds.specs.Ranging.{format_ranges}
 use Rattle.fn_bounds.proofs.Faultless.{faultless}
+use Rattle.fn_fits.specs.Fits.{vals}
 use Rattle.fn_rules.specs.declared.slots.Slot.{Slot}
-use Rattle.fn_rules.specs.Facts.{inputs}
+use Rattle.fn_rules.specs.Facts.{inputs, inputs_of_all}
 use Rattle.fn_rules.specs.Numbers.{known_of}
 use Rattle.fn_rules.specs.Reading.{known_numbers}
-use Rattle.fn_rules.specs.Slots.{knows_all}
+use Rattle.fn_rules.specs.Slots.{knows, knows_all}
+use Rattle.fn_rules.proofs.Agree.{and_true}
 use Rattle.fn_rules.proofs.Given.{given_is_sound}
 use Rattle.fn_rules.proofs.Lying.{all_lie}
 use Rattle.fn_rules.proofs.Numbers.{values_known}
 use Rattle.fn_rules.proofs.Within.{within_is_narrow}
-use Rattle.fn_level.specs.Level.{IsPlaced, IsKept, IsUpToDate, IsAsked, stands, gives_length, gives_value}
+use Rattle.fn_level.specs.Level.{IsKept, IsUpToDate, IsAsked, stands, gives_length, gives_value}
+
+pub knows_left : (format : Format) (slots : List Slot) (xs ys : List Fact) → knows_all format slots (xs ++ ys) ≡ true → knows_all format slots xs ≡ true
+knows_left format slots [] ys e = refl
+knows_left format slots (x ∷ xs) ys e = let b = and_true (knows format slots x) (knows_all format slots (xs ++ ys)) e in λ i. (b.0 ∙ refl) i && knows_left format slots xs ys b.1 i
+
+pub knows_right : (format : Format) (slots : List Slot) (xs ys : List Fact) → knows_all format slots (xs ++ ys) ≡ true → knows_all format slots ys ≡ true
+knows_right format slots [] ys e = e
+knows_right format slots (x ∷ xs) ys e = let b = and_true (knows format slots x) (knows_all format slots (xs ++ ys)) e in knows_right format slots xs ys b.1
 
 module _ (format : Format) (sizes : FormatSizes) (args : List ℤ) (slots : List Slot) (kept : IsKept (record { format = format; sizes = sizes; args = args; slots = slots })) where
   sound : (e : Expr) → IsAsked format e → IsSound sizes (format_ranges sizes kept.placed.whole.parameters) e
@@ -49,6 +60,15 @@ module _ (format : Format) (sizes : FormatSizes) (args : List ℤ) (slots : List
       let p = kept.placed in
       values_known format slots args e kept.count known (within_is_narrow p.methods p.table p.are_sizes p.method format p.whole sizes p.at slots kept.count kept.within e (sound e asked).narrow)
 
+  -- so have several
+  pub all_shown : (es : List Expr) → ((n : ℕ) (e : Expr) → slice_get es n ≡ Some e → IsAsked format e) → knows_all format slots (inputs_of_all format es) ≡ true →
+      vals (assignment_of (known_of format slots args)) es ≡ vals (known_numbers format slots args) es
+  all_shown [] asked known = refl
+  all_shown (e ∷ es) asked known =
+      let first = asked_shown e (asked 0 e refl) (knows_left format slots (inputs format e) (inputs_of_all format es) known) in
+      let rest = all_shown es (λ n x at. asked (suc n) x at) (knows_right format slots (inputs format e) (inputs_of_all format es) known) in
+      λ i. option_and_then (λ v. option_map (λ vs. v ∷ vs) (rest i)) (first i)
+
 -- over the numbers that are kept, such an expression may be evaluated
 pub ranged : (format : Format) (sizes : FormatSizes) (headers : List ℕ) (slots : List Slot) (known : Known) → IsUpToDate format sizes headers slots known → (e : Expr) → IsAsked format e → IsRanged (assignment_of known) e
 ranged format sizes headers slots known now e asked =
@@ -59,3 +79,9 @@ pub shown : (format : Format) (sizes : FormatSizes) (headers : List ℕ) (slots 
     knows_all format slots (inputs format e) ≡ true → val (assignment_of known) e ≡ val (known_numbers format slots known.parameters) e
 shown format sizes headers slots known now e asked inputs_known =
     ap (λ k. val (assignment_of k) e) now.known_is ∙ asked_shown format sizes known.parameters slots now.kept e asked inputs_known
+
+-- so for several
+pub shown_each : (format : Format) (sizes : FormatSizes) (headers : List ℕ) (slots : List Slot) (known : Known) → IsUpToDate format sizes headers slots known → (es : List Expr) →
+    ((n : ℕ) (e : Expr) → slice_get es n ≡ Some e → IsAsked format e) → knows_all format slots (inputs_of_all format es) ≡ true → vals (assignment_of known) es ≡ vals (known_numbers format slots known.parameters) es
+shown_each format sizes headers slots known now es asked inputs_known =
+    ap (λ k. vals (assignment_of k) es) now.known_is ∙ all_shown format sizes known.parameters slots now.kept es asked inputs_known

@@ -4,3 +4,5 @@ pub mod Parts
 pub mod Gained
 pub mod Kept
 pub mod Asked
+pub mod Held
+pub mod Making

@@ -1,5 +1,5 @@
 -- What a walk knows of one level of a filling (docs/DEFINITIONS.md, What a walk knows of a level).
-use Rattle.std.specs.Prelude.{◌≡◌, ℕ, ℤ, false, List, length, slice_get, Some, pos, option_map}
+use Rattle.std.specs.Prelude.{◌≡◌, ◌<◌, ℕ, ℤ, false, List, length, slice_get, slice_set, Some, pos, option_map}
 use Rattle.fn_expr.specs.declared.known.Known.{Known}
 use Rattle.fn_expr.specs.declared.known.Numbers.{Numbers}
 use Rattle.fn_expr.specs.declared.known.SideNumbers.{SideNumbers}
@@ -21,6 +21,8 @@ use Rattle.fn_bounds.specs.Outcome.{AreSizes, FormatAt}
 use Rattle.fn_fits.specs.Bounded.{ArgumentsLie}
 use Rattle.fn_rules.specs.declared.slots.Learnt.{Learnt}
 use Rattle.fn_rules.specs.declared.slots.Slot.{Slot}
+use Rattle.fn_rules.specs.Slots.{has_bits, learnt_at}
+use Rattle.fn_filling.specs.declared.filling.Filling.{Filling}
 use Rattle.fn_rules.specs.Rules.{length_given, value_given}
 use Rattle.fn_rules.specs.Numbers.{AreWithin, known_of}
 use Rattle.fn_level.specs.Sides.{LearnsAt}
@@ -75,6 +77,22 @@ pub record Learns (old : Reached) (i : ℕ) (side : Side) (found : Learnt) (new 
   pub sizes_are : new.sizes ≡ old.sizes
   pub args_are : new.args ≡ old.args
   pub slots_are : LearnsAt (bounds_at old.sizes i side) i side found old.slots new.slots
+
+-- the filling inside a field is kept, and the rest is as it was
+pub record Keeps (old : Reached) (i : ℕ) (inner : Filling) (new : Reached) : Type 0 where
+  pub format_is : new.format ≡ old.format
+  pub sizes_are : new.sizes ≡ old.sizes
+  pub args_are : new.args ≡ old.args
+  pub slot : Slot
+  pub slot_is : slice_get old.slots i ≡ Some slot
+  pub slots_are : new.slots ≡ slice_set old.slots i (record { uncompressed = slot.uncompressed; compressed = slot.compressed; inner = Some inner })
+
+-- the bits of a side of a field are not known
+pub record Lacks (slots : List Slot) : Type 0 where
+  pub field : ℕ
+  pub side : Side
+  pub within : field < length slots
+  pub unknown : has_bits (learnt_at slots field side) ≡ false
 
 -- ---- numbers
 

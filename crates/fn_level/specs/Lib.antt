@@ -1,3 +1,4 @@
 pub mod Sides
 pub mod Level
 pub mod Joined
+pub mod Filled

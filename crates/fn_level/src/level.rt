@@ -1,25 +1,30 @@
 //! One level of a walk.
 
-ghost use Rattle.std.specs.Prelude.{◌≡◌, ◌+◌, ◌<◌, ◌↔◌, Bool, List, true, false, IsTrue, IfOk, IfSome, IfNone, length, map, slice_get, slice_set, option_map};
+ghost use Rattle.std.specs.Prelude.{◌≡◌, ◌+◌, ◌<◌, ◌↔◌, ℕ, Some, Bool, List, true, false, IsTrue, IfOk, IfSome, IfNone, length, map, slice_get, slice_set, option_map};
 ghost use Rattle.std.specs.Option.{option_copied};
 ghost use Rattle.fn_expr.specs.Values.{val};
 ghost use Rattle.fn_expr.specs.Known.{assignment_of};
 ghost use Rattle.fn_expr.specs.declared.expr.Subject.TheVariants as subject;
 ghost use Rattle.fn_expr.specs.declared.expr.Measure.TheVariants as measure;
 ghost use Rattle.fn_fits.specs.Bounded.{LiesBetween};
-ghost use Rattle.fn_rules.specs.Facts.{inputs, before};
+ghost use Rattle.fn_expr.specs.declared.expr.Expr.{Expr};
+ghost use Rattle.fn_fits.specs.Fits.{vals};
+ghost use Rattle.fn_rules.specs.Facts.{inputs, inputs_of_all, before};
 ghost use Rattle.fn_rules.specs.Numbers as numbers;
-ghost use Rattle.fn_rules.specs.Reading.{start_slots, known_numbers, known_sides};
+ghost use Rattle.fn_rules.specs.Reading.{IsMade, start_slots, known_numbers, known_sides};
 ghost use Rattle.fn_rules.specs.Slots.{HasSide, learnt_at, knows_all};
 ghost use Rattle.fn_level.specs.Joined as joined;
 ghost use Rattle.fn_level.specs.Level as spec;
 ghost use Rattle.fn_level.specs.Sides as sides;
 
+use crate::filling::filling_of;
 use crate::joining::{joined_length, joined_value, joined_whole};
 use crate::numbers::{note, numbers_of};
 use crate::slots::{are_unsent, at_start, bits_at, headers_of, learn_at, length_at};
 use fn_bits::Bits;
 use fn_expr::{Expr, Known, Numbers, Side, SideNumbers, value};
+use fn_filling::Filling;
+use fn_holds::level::values_of;
 use fn_normal::{Bounds, Format, FormatSizes};
 use fn_rules::{Learnt, Slot};
 use sqlite_items::Items;
@@ -146,6 +151,31 @@ impl<'a> Level<'a> {
         ensures shown { knows_all self.now.format self.now.slots (inputs self.now.format expr.now) ≡ true → result ≡ val (known_numbers self.now.format self.now.slots self.now.args) expr.now }
     {
         value(expr, &self.known)
+    }
+
+    /// The values of several expressions of the format, where each has one by what is known. The error is want of memory.
+    pub fn values(&self, alloc: Global, exprs: &[Expr]) -> Result<Option<Items<i128>>, AllocError>
+        requires asked { (n : ℕ) (e : Expr) → slice_get exprs.now n ≡ Some e → spec.IsAsked self.now.format e }
+        // Where all that they ask for is known, they are those of any level that shows what is known.
+        ensures shown { IfOk result (λ o. knows_all self.now.format self.now.slots (inputs_of_all self.now.format exprs.now) ≡ true → o ≡ vals (known_numbers self.now.format self.now.slots self.now.args) exprs.now) }
+    {
+        values_of(alloc, exprs, &self.known)
+    }
+
+    /// Keeps the filling inside the field.
+    pub fn hold(&mut self, field: usize, inner: Filling)
+        requires within { field < length self.old.slots }
+        ensures { spec.Keeps self.old field inner self.new }
+    {
+        self.slots[field].inner = Some(inner);
+    }
+
+    /// The filling of the format, by its index, that is made of what is known. None where a side of a field isn't known. The error is want of memory.
+    pub fn into_filling(self, alloc: Global, index: usize) -> Result<Option<Filling>, AllocError>
+        ensures made { IfOk result (λ o. IfSome o (IsMade index self.entry.format self.entry.slots)) }
+        ensures none { IfOk result (λ o. IfNone o (spec.Lacks self.entry.slots)) }
+    {
+        filling_of(alloc, index, self.format, self.slots)
     }
 
     /// A side of the whole, where the bits of all its parts are known. The error is want of memory.

@@ -3,6 +3,7 @@
 
 pub use level::Level;
 
+mod filling;
 mod joining;
 pub mod level;
 mod numbers;

@@ -75,5 +75,6 @@ fn next_step<'a>(known: &Knowledge, possible: &'a [Possible]) -> Option<&'a Poss
 fn gives_more(known: &Knowledge, rule: &Rule) -> bool
     ensures { result ≡ spec.gives_more (shows known.now) rule.now }
 {
-    known.enables(rule) && !known.has_all(rule.gives.as_slice())
+    // Most steps that are looked at have given all already.
+    !known.has_all(rule.gives.as_slice()) && known.enables(rule)
 }

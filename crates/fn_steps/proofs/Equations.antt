@@ -1,6 +1,6 @@
 -- Values that equations give.
-use Rattle.std.proofs.Common.{◌≡◌, refl, sym, ◌∙◌, ap, subst, ℕ, ◌<◌, ◌≤◌, Bool, true, false, List, [], ◌∷◌, ◌++◌, length, arith}
-use Rattle.std.specs.Prelude.{Option, Some, None, IfSome, slice_get, option_and_then, option_map, nat_lt, nat_eq, ◌&&◌, ℤ, pos}
+use Rattle.std.proofs.Common.{◌≡◌, refl, sym, ◌∙◌, ap, subst, ℕ, Bool, true, false, List, [], ◌∷◌, length, arith}
+use Rattle.std.specs.Prelude.{Option, Some, IfSome, slice_get, option_and_then, option_map, nat_lt, nat_eq, ◌&&◌, ℤ, pos}
 use Rattle.std.proofs.lemmas.Bool.{eqb-true, ltb-false}
 use Rattle.fn_bits.specs.Number.{num}
 use Rattle.fn_context.specs.Entries.{bits_at}
@@ -23,10 +23,10 @@ use Rattle.fn_expr.specs.Inputs.{inputs_of}
 use Rattle.fn_expr.specs.Values.{val}
 use Rattle.fn_lib.specs.Methods.{IsOnly}
 use Rattle.fn_normal.specs.declared.profile.Constraint.{Constraint}
-use Rattle.fn_normal.specs.declared.profile.Constraint.TheVariants.{Bracket, Enforce}
+use Rattle.fn_normal.specs.declared.profile.Constraint.TheVariants.{Enforce}
 use Rattle.fn_normal.specs.declared.profile.FormatSizes.{FormatSizes}
 use Rattle.fn_normal.specs.declared.profile.Format.{Format}
-use Rattle.fn_bounds.specs.Faults.{is_wide, is_wide_by, side_bounds}
+use Rattle.fn_bounds.specs.Faults.{is_wide, is_wide_by}
 use Rattle.fn_bounds.specs.Laws.{AllSound}
 use Rattle.fn_bounds.specs.Ranging.{format_ranges}
 use Rattle.fn_bounds.proofs.Faultless.{faultless}
@@ -35,11 +35,11 @@ use Rattle.fn_profile.specs.Resolved.{IsSound}
 use Rattle.fn_rules.specs.declared.slots.Learnt.{Learnt}
 use Rattle.fn_rules.specs.declared.slots.Learnt.TheVariants.{Nothing, Length, Whole}
 use Rattle.fn_rules.specs.Facts.{inputs}
-use Rattle.fn_rules.specs.Rules.{when, first_or, same_subject, same_measure, is_attribute, equated, attribute_of, value_given, common_rule}
+use Rattle.fn_rules.specs.Rules.{same_subject, same_measure, is_attribute, attribute_of, value_given, common_rule}
 use Rattle.fn_rules.specs.Facts.{same_side}
 use Rattle.fn_rules.specs.Slots.{has_length, knows_all, bits_of, learnt_at}
 use Rattle.fn_rules.specs.Views.{view, side_at}
-use Rattle.fn_rules.proofs.Agree.{and_true, side_same}
+use Rattle.fn_rules.proofs.Agree.{and_true}
 use Rattle.fn_rules.proofs.Constraints.{first_cases}
 use Rattle.fn_rules.proofs.Learning.{solve}
 use Rattle.fn_rules.proofs.Numbers.{in_left, in_right}
@@ -47,7 +47,7 @@ use Rattle.std.proofs.lemmas.List.{length-replicate}
 use Rattle.fn_level.specs.Level.{Reached, IsKept, bounds_at}
 use Rattle.fn_level.specs.Sides as sides
 use Rattle.fn_steps.specs.declared.scene.Scene.{Scene}
-use Rattle.fn_steps.specs.Finding.{IsAt, Shows, IsReady, Finds, shown_numbers, spot_of}
+use Rattle.fn_steps.specs.Finding.{IsAt, IsReady, Finds, shown_numbers, spot_of}
 use Rattle.fn_steps.specs.Methods.{SpelledBy}
 use Rattle.fn_steps.proofs.Ruled.{constrained, within_slots}
 use Rattle.fn_steps.proofs.Shown.{lies}

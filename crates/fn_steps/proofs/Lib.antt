@@ -6,3 +6,5 @@ pub mod Found
 pub mod Sides
 pub mod Equations
 pub mod Checksums
+pub mod Valued
+pub mod Filled

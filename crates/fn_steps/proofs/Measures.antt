@@ -1,10 +1,9 @@
 -- The lengths that library methods and constraints give.
-use Rattle.std.proofs.Common.{◌≡◌, refl, sym, ◌∙◌, ap, subst, ℕ, Bool, true, false, List, [], ◌∷◌, length}
+use Rattle.std.proofs.Common.{◌≡◌, sym, ◌∙◌, ap, subst, ℕ, Bool, true, false, List, [], ◌∷◌}
 use Rattle.std.proofs.lemmas.Option.{same_Some}
 use Rattle.std.specs.Prelude.{Option, Some, None, IfSome, slice_get, option_and_then, ℤ, pos}
 use Rattle.fn_context.specs.Entries.{bits_at}
 use Rattle.fn_cert.specs.declared.certificate.Step.TheVariants as step
-use Rattle.fn_cert.specs.declared.rule.Fact.{Fact}
 use Rattle.fn_cert.specs.declared.rule.Fact.TheVariants.{LengthOf}
 use Rattle.fn_expr.specs.declared.expr.Expr.{Expr}
 use Rattle.fn_expr.specs.declared.expr.Side.{Side}
@@ -21,7 +20,7 @@ use Rattle.fn_rules.specs.Rules.{common_rule, by_library, length_needs, length_g
 use Rattle.fn_rules.specs.Slots.{knows_all}
 use Rattle.fn_rules.specs.Steps.{LengthIs, IsLengthOf}
 use Rattle.fn_rules.proofs.Learning.{by_constraint, length_of}
-use Rattle.fn_level.specs.Level.{Reached, IsAsked, stands}
+use Rattle.fn_level.specs.Level.{Reached, stands}
 use Rattle.fn_steps.specs.declared.scene.Scene.{Scene}
 use Rattle.fn_steps.specs.Finding.{IsReady, Counts, shown_numbers, reference_at, spot_of, AllAsked}
 use Rattle.fn_steps.proofs.Ruled.{constrained}

@@ -1,15 +1,12 @@
 -- Steps whose rule is followed.
-use Rattle.std.proofs.Common.{◌≡◌, refl, sym, ◌∙◌, ap, subst, ℕ, ◌<◌, true, List, [], ◌∷◌, Bool, length, arith}
-use Rattle.std.specs.Prelude.{Option, Some, None, IsSomeAnd, IfSome, slice_get, option_and_then, option_map, ℤ, pos, ◌&&◌}
+use Rattle.std.proofs.Common.{◌≡◌, refl, sym, ◌∙◌, ap, subst, ℕ, ◌<◌, true, List, [], ◌∷◌, length, arith}
+use Rattle.std.specs.Prelude.{Option, Some, None, IsSomeAnd, slice_get, option_and_then, option_map, ℤ, pos, ◌&&◌}
 use Rattle.std.proofs.lemmas.Option.{same_Some, slice_get_within}
-use Rattle.fn_cert.specs.declared.certificate.Step.TheVariants as step
 use Rattle.fn_cert.specs.declared.rule.Fact.{Fact}
 use Rattle.fn_cert.specs.declared.rule.Fact.TheVariants.{LengthOf, BitsOf}
 use Rattle.fn_cert.specs.declared.rule.Rule.{Rule}
 use Rattle.fn_expr.specs.declared.expr.Expr.{Expr}
 use Rattle.fn_expr.specs.declared.expr.Side.{Side}
-use Rattle.fn_expr.specs.declared.expr.Side.TheVariants.{Uncompressed, Compressed}
-use Rattle.fn_expr.specs.Values.{val}
 use Rattle.fn_normal.specs.declared.profile.Constraint.{Constraint}
 use Rattle.fn_normal.specs.declared.profile.Encoding.{Encoding}
 use Rattle.fn_normal.specs.declared.profile.Encoding.TheVariants as encoding
@@ -18,12 +15,11 @@ use Rattle.fn_normal.specs.declared.profile.Format.{Format}
 use Rattle.fn_normal.specs.declared.profile.Library.{Library}
 use Rattle.fn_fits.proofs.Sized.{and_then_some, map_some}
 use Rattle.fn_rules.specs.declared.slots.Learnt.{Learnt}
-use Rattle.fn_rules.specs.Facts.{inputs}
-use Rattle.fn_rules.specs.Rules.{rule, common_rule, by_library, by_length, length_given}
+use Rattle.fn_rules.specs.Rules.{rule, by_library}
 use Rattle.fn_rules.specs.Slots.{has_length, has_bits, learnt_at, knows, knows_all}
 use Rattle.fn_level.specs.Level.{Reached, IsKept}
 use Rattle.fn_steps.specs.declared.scene.Scene.{Scene}
-use Rattle.fn_steps.specs.Finding.{IsReady, Gains, Learns, counted, shown_numbers}
+use Rattle.fn_steps.specs.Finding.{IsReady, Gains, Learns, counted}
 
 -- ---- what the rule gives is known
 
@@ -45,6 +41,7 @@ module _ (scene : Scene) (o : Option Rule) (old new : Reached) (i : ℕ) (side :
     sizes_are = g.sizes_are;
     args_are = g.args_are;
     grown = g.grown;
+    inners = g.inners;
     gives = subst (λ z. IsSomeAnd z (λ r. knows_all old.format new.slots r.gives ≡ true)) (sym is) known;
     agrees = g.agrees;
   }

@@ -1,5 +1,5 @@
 -- What each filling has that shows what a level knows.
-use Rattle.std.proofs.Common.{◌≡◌, refl, sym, ◌∙◌, ap, subst, ℕ, ◌<◌, ◌≤◌, ◌^◌, List, [], Bool, length, arith}
+use Rattle.std.proofs.Common.{◌≡◌, sym, ◌∙◌, ap, subst, ℕ, ◌<◌, ◌≤◌, ◌^◌, List, [], Bool, length, arith}
 use Rattle.std.specs.Prelude.{Some, None, slice_get, Option, unwrap_or}
 use Rattle.fn_context.specs.Entries.{bits_at}
 use Rattle.fn_expr.specs.declared.expr.Side.{Side}
@@ -20,14 +20,14 @@ use Rattle.fn_bounds.specs.Faults.{side_bounds}
 use Rattle.fn_bounds.specs.Fields.{bounds, sides}
 use Rattle.fn_bounds.proofs.Ruling.{there}
 use Rattle.fn_profile.specs.Resolved.{IsSound}
-use Rattle.fn_filling.specs.declared.filling.Filling.{Filling, out-Filling}
+use Rattle.fn_filling.specs.declared.filling.Filling.{Filling}
 use Rattle.fn_filling.specs.declared.filling.FilledField.{FilledField}
 use Rattle.fn_filling.specs.Fillings.{sides_of, fields_of, level}
 use Rattle.fn_filling.specs.Fillings as fillings
 use Rattle.fn_filling.specs.Entries.{Path}
 use Rattle.fn_fits.specs.Fits.{Context, Fits, FieldFits, field_side}
 use Rattle.fn_fits.specs.Fits as fit
-use Rattle.fn_fits.specs.Bounded.{LiesBetween, SidesLie, sizes_at}
+use Rattle.fn_fits.specs.Bounded.{LiesBetween, SidesLie}
 use Rattle.fn_fits.proofs.Bounding.{lie-in-bounds}
 use Rattle.fn_fits.proofs.Fronts.{short_sides}
 use Rattle.fn_fits.proofs.Inverted.{length-level, length-fields, coded_parts}
@@ -37,7 +37,7 @@ use Rattle.fn_rules.proofs.Agree.{side_is}
 use Rattle.fn_rules.proofs.Within.{bound_count}
 use Rattle.fn_level.specs.Level.{Reached, IsKept, bounds_at}
 use Rattle.fn_steps.specs.declared.scene.Scene.{Scene}
-use Rattle.fn_steps.specs.Finding.{IsAt, Shows, spot_of}
+use Rattle.fn_steps.specs.Finding.{IsAt, Shows}
 
 -- ---- sides are short
 

@@ -1,30 +1,23 @@
 -- The sides that library methods give to a field of a level.
-use Rattle.std.proofs.Common.{◌≡◌, refl, sym, ◌∙◌, ap, subst, ℕ, ◌<◌, ◌≤◌, Bool, true, false, List, [], ◌∷◌, ◌++◌, length, arith}
-use Rattle.std.specs.Prelude.{Option, Some, None, slice_get, option_and_then, option_map, ◌&&◌, ℤ}
+use Rattle.std.proofs.Common.{◌≡◌, ◌∙◌, ap, subst, ℕ, ◌≤◌, Bool, true, false, List, [], ◌∷◌, length, arith}
+use Rattle.std.specs.Prelude.{Option, Some, None, slice_get, option_and_then, option_map}
 use Rattle.std.proofs.lemmas.Option.{same_Some}
 use Rattle.fn_context.specs.Entries.{bits_at}
 use Rattle.fn_cert.specs.declared.certificate.Step.TheVariants as step
-use Rattle.fn_cert.specs.declared.rule.Fact.{Fact}
 use Rattle.fn_cert.specs.declared.rule.Fact.TheVariants.{LengthOf, BitsOf}
 use Rattle.fn_expr.specs.declared.expr.Expr.{Expr}
 use Rattle.fn_expr.specs.declared.expr.Side.TheVariants.{Uncompressed, Compressed}
-use Rattle.fn_expr.specs.Values.{Assignment, val}
 use Rattle.fn_lib.specs.Methods.{IsOnly}
 use Rattle.fn_normal.specs.declared.profile.Encoding.TheVariants as encoding
 use Rattle.fn_normal.specs.declared.profile.Field.{Field}
-use Rattle.fn_normal.specs.declared.profile.Format.{Format}
 use Rattle.fn_normal.specs.declared.profile.Library.{Library}
-use Rattle.fn_normal.specs.declared.profile.Library.TheVariants as library
 use Rattle.fn_bounds.specs.Laws.{library_exprs}
 use Rattle.fn_rules.specs.declared.slots.Learnt.{Learnt}
 use Rattle.fn_rules.specs.declared.slots.Learnt.TheVariants.{Nothing, Length, Whole}
-use Rattle.fn_rules.specs.declared.slots.Slot.{Slot}
-use Rattle.fn_rules.specs.Facts.{inputs}
 use Rattle.fn_rules.specs.Rules.{common_rule, by_library, up_needs, down_needs}
-use Rattle.fn_rules.specs.Slots.{HasSide, knows, knows_all, bits_of, learnt_at}
+use Rattle.fn_rules.specs.Slots.{HasSide, knows_all, bits_of, learnt_at}
 use Rattle.fn_rules.specs.Steps.{UpIs, DownIs}
 use Rattle.fn_rules.specs.Views.{view, side_at}
-use Rattle.fn_rules.proofs.Agree.{and_true}
 use Rattle.fn_rules.proofs.Learning.{up, down}
 use Rattle.fn_rules.specs.Reading.{known_sides}
 use Rattle.fn_profile.specs.Resolved.{IsSound}
@@ -36,14 +29,6 @@ use Rattle.fn_steps.proofs.Gaining.{has_known}
 use Rattle.fn_steps.proofs.Ruled.{within_slots}
 use Rattle.fn_steps.proofs.Shown.{coded_short}
 use Rattle.fn_steps.specs.Finding.{IsAt, IsReady, Finds, AreFound, AllAsked, shown_numbers, reference_at, spot_of}
-
-pub knows_left : (format : Format) (slots : List Slot) (xs ys : List Fact) → knows_all format slots (xs ++ ys) ≡ true → knows_all format slots xs ≡ true
-knows_left format slots [] ys e = refl
-knows_left format slots (x ∷ xs) ys e = let b = and_true (knows format slots x) (knows_all format slots (xs ++ ys)) e in λ i. (b.0 ∙ refl) i && knows_left format slots xs ys b.1 i
-
-pub knows_right : (format : Format) (slots : List Slot) (xs ys : List Fact) → knows_all format slots (xs ++ ys) ≡ true → knows_all format slots ys ≡ true
-knows_right format slots [] ys e = e
-knows_right format slots (x ∷ xs) ys e = let b = and_true (knows format slots x) (knows_all format slots (xs ++ ys)) e in knows_right format slots xs ys b.1
 
 -- an argument of a method that is known by its constructor
 pub argument_asked : (l : Reached) {m n : Library} {e : Expr} (k : ℕ) → AllAsked l (library_exprs m) → m ≡ n → slice_get (library_exprs n) k ≡ Some e → IsAsked l.format e

@@ -1,7 +1,6 @@
 -- What a step finds, and what a walk owes for it (docs/DEFINITIONS.md, The steps of a walk).
 use Rattle.std.specs.Prelude.{◌≡◌, ℕ, ℤ, pos, true, Bool, List, length, slice_get, Option, Some, None, IsSomeAnd}
 use Rattle.fn_context.specs.Entries.{bits_at}
-use Rattle.fn_cert.specs.declared.certificate.Step.{Step}
 use Rattle.fn_cert.specs.declared.rule.Rule.{Rule}
 use Rattle.fn_expr.specs.declared.expr.Expr.{Expr}
 use Rattle.fn_expr.specs.declared.expr.Side.{Side}
@@ -12,10 +11,10 @@ use Rattle.fn_fits.specs.Fits.{format_at, reference_of}
 use Rattle.fn_normal.specs.declared.profile.Field.{Field}
 use Rattle.fn_fits.specs.Bounded.{sizes_at}
 use Rattle.fn_rules.specs.declared.slots.Learnt.{Learnt}
+use Rattle.fn_rules.specs.declared.slots.Slot.{Slot}
 use Rattle.fn_rules.specs.declared.slots.Learnt.TheVariants.{Length}
 use Rattle.fn_rules.specs.Reading.{Spot, IsLevel, known_numbers}
-use Rattle.fn_rules.specs.Rules.{common_rule}
-use Rattle.fn_rules.specs.Slots.{has_length, has_bits, learnt_at, HasSide, HasSlots, Grows, knows_all}
+use Rattle.fn_rules.specs.Slots.{slot_inner, has_length, has_bits, learnt_at, HasSide, HasSlots, Grows, knows_all}
 use Rattle.fn_rules.specs.Views.{view, side_at}
 use Rattle.fn_level.specs.Level.{Reached, IsAsked}
 use Rattle.fn_steps.specs.declared.scene.Scene.{Scene}
@@ -75,12 +74,17 @@ AllAsked l es = (n : ℕ) (e : Expr) → slice_get es n ≡ Some e → IsAsked l
 abbrev pub IsReady : Reached → Option Rule → Type 0
 IsReady l rule = IsSomeAnd rule (λ r. knows_all l.format l.slots r.needs ≡ true)
 
+-- the fillings inside the fields are those that were known
+abbrev pub HaveSameInners : List Slot → List Slot → Type 0
+HaveSameInners old new = (i : ℕ) → slot_inner (slice_get new i) ≡ slot_inner (slice_get old i)
+
 -- what was found of a side of the field is known, and what was known still is; each filling that showed what was known, whatever bits are in front, has what is known now
 pub record Gains (scene : Scene) (old : Reached) (i : ℕ) (side : Side) (found : Option Learnt) (new : Reached) : Type 0 where
   pub format_is : new.format ≡ old.format
   pub sizes_are : new.sizes ≡ old.sizes
   pub args_are : new.args ≡ old.args
   pub grown : Grows old.slots new.slots
+  pub inners : HaveSameInners old.slots new.slots
   pub length_known : IsSomeAnd found (λ l. has_length l ≡ true → has_length (learnt_at new.slots i side) ≡ true)
   pub bits_known : IsSomeAnd found (λ l. has_bits l ≡ true → has_bits (learnt_at new.slots i side) ≡ true)
   pub agrees : (bits : List Bool) (f : Filling) → Shows scene old bits f → HasSlots f new.slots
@@ -91,6 +95,7 @@ pub record Learns (scene : Scene) (rule : Option Rule) (old new : Reached) : Typ
   pub sizes_are : new.sizes ≡ old.sizes
   pub args_are : new.args ≡ old.args
   pub grown : Grows old.slots new.slots
+  pub inners : HaveSameInners old.slots new.slots
   pub gives : IsSomeAnd rule (λ r. knows_all old.format new.slots r.gives ≡ true)
   pub agrees : (bits : List Bool) (f : Filling) → Shows scene old bits f → HasSlots f new.slots
 

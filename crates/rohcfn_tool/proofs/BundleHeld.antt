@@ -22,6 +22,7 @@ module _ (parts : Parts) (before : List Part) (name : List ℕ) (text : Bor (Lis
     words = text_put (codes "words") before (named name text.now) e (no_text parts.words _ none held.words);
     profile = kept (codes "words") (codes "profile") _ e refl held.profile;
     certificate = kept (codes "words") (codes "certificate") _ e refl held.certificate;
+    context = kept (codes "words") (codes "context") _ e refl held.context;
     items = kept (codes "words") (codes "items") _ e refl held.items;
     packets = kept (codes "words") (codes "packets") _ e refl held.packets;
   }
@@ -31,6 +32,7 @@ module _ (parts : Parts) (before : List Part) (name : List ℕ) (text : Bor (Lis
     words = kept (codes "profile") (codes "words") _ e refl held.words;
     profile = text_put (codes "profile") before (named name text.now) e (no_text parts.profile _ none held.profile);
     certificate = kept (codes "profile") (codes "certificate") _ e refl held.certificate;
+    context = kept (codes "profile") (codes "context") _ e refl held.context;
     items = kept (codes "profile") (codes "items") _ e refl held.items;
     packets = kept (codes "profile") (codes "packets") _ e refl held.packets;
   }
@@ -40,8 +42,19 @@ module _ (parts : Parts) (before : List Part) (name : List ℕ) (text : Bor (Lis
     words = kept (codes "certificate") (codes "words") _ e refl held.words;
     profile = kept (codes "certificate") (codes "profile") _ e refl held.profile;
     certificate = text_put (codes "certificate") before (named name text.now) e (no_text parts.certificate _ none held.certificate);
+    context = kept (codes "certificate") (codes "context") _ e refl held.context;
     items = kept (codes "certificate") (codes "items") _ e refl held.items;
     packets = kept (codes "certificate") (codes "packets") _ e refl held.packets;
+  }
+
+  pub held_context : bytes_eq name (codes "context") ≡ true → is_some parts.context ≡ false → HoldsParts (record parts { context = Some text }) (before ++ named name text.now ∷ [])
+  held_context e none = record {
+    words = kept (codes "context") (codes "words") _ e refl held.words;
+    profile = kept (codes "context") (codes "profile") _ e refl held.profile;
+    certificate = kept (codes "context") (codes "certificate") _ e refl held.certificate;
+    context = text_put (codes "context") before (named name text.now) e (no_text parts.context _ none held.context);
+    items = kept (codes "context") (codes "items") _ e refl held.items;
+    packets = kept (codes "context") (codes "packets") _ e refl held.packets;
   }
 
   pub held_items : bytes_eq name (codes "items") ≡ true → is_some parts.items ≡ false → HoldsParts (record parts { items = Some text }) (before ++ named name text.now ∷ [])
@@ -49,6 +62,7 @@ module _ (parts : Parts) (before : List Part) (name : List ℕ) (text : Bor (Lis
     words = kept (codes "items") (codes "words") _ e refl held.words;
     profile = kept (codes "items") (codes "profile") _ e refl held.profile;
     certificate = kept (codes "items") (codes "certificate") _ e refl held.certificate;
+    context = kept (codes "items") (codes "context") _ e refl held.context;
     items = text_put (codes "items") before (named name text.now) e (no_text parts.items _ none held.items);
     packets = kept (codes "items") (codes "packets") _ e refl held.packets;
   }
@@ -58,6 +72,7 @@ module _ (parts : Parts) (before : List Part) (name : List ℕ) (text : Bor (Lis
     words = kept (codes "packets") (codes "words") _ e refl held.words;
     profile = kept (codes "packets") (codes "profile") _ e refl held.profile;
     certificate = kept (codes "packets") (codes "certificate") _ e refl held.certificate;
+    context = kept (codes "packets") (codes "context") _ e refl held.context;
     items = kept (codes "packets") (codes "items") _ e refl held.items;
     packets = text_put (codes "packets") before (named name text.now) e (no_text parts.packets _ none held.packets);
   }

@@ -1,12 +1,13 @@
+pub mod Certificates
 pub mod InputLines
 pub mod ProgramBytes
 pub mod ProgramNames
 pub mod ProgramReplies
 pub mod Replying
+pub mod Stepping
 pub mod WordsLemmas
 pub mod WordsRead
 pub mod BundleHeld
 pub mod BundleLines
 pub mod BundleParts
 pub mod BundleSpelled
-pub mod Checking

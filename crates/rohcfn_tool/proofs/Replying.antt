@@ -1,65 +1,45 @@
 -- What is printed, line by line.
-use Rattle.std.proofs.Common.{◌≡◌, ℕ, ◌+◌, ◌<◌, ◌≤◌, Bool, List, [], ◌∷◌, ◌++◌, length, drop, get_or, ap, sym, ◌∙◌, subst, append_assoc}
+use Rattle.std.proofs.Common.{◌≡◌, refl, ℕ, ◌+◌, ◌<◌, ◌≤◌, Bool, List, [], ◌∷◌, ◌++◌, length, drop, get_or, ap, sym, ◌∙◌, subst, append_assoc}
 use Rattle.std.specs.Borrow.{Bor}
-use Rattle.std.specs.Prelude.{Some, None, codes, decimal, Result, Ok, Err, IfOk, String, string_bytes}
+use Rattle.std.specs.Prelude.{Option, Some, None, Result, Ok, Err, IfOk, String, codes, string_bytes, true, false}
 use Rattle.std.specs.Global.{Global}
 use Rattle.std.specs.declared.alloc.AllocError.{AllocError}
 use Rattle.std.proofs.lemmas.List.{append-nil, drop_more, drop_all}
-use Rattle.fn_profile.specs.Resolved.{Resolved}
-use Rattle.fn_normal.specs.declared.fault.ProfileFault.{ProfileFault}
+use Rattle.fn_context.specs.Entries.{Entries}
+use Rattle.fn_context.specs.Text.{IsContextText}
+use Rattle.fn_filling.specs.declared.filling.Filling.{Filling}
+use Rattle.fn_filling.specs.Entries.{next}
 use Rattle.fn_source.specs.declared.fault.Fault.{Fault}
+use Rattle.fn_normal.specs.declared.fault.ProfileFault.{ProfileFault}
 use Rattle.fn_names.specs.Readings.{HasCause, IsTextFault, Reads}
+use Rattle.fn_profile.specs.Resolved.{Resolved}
 use Rattle.fn_show.specs.Shown as listing
+use Rattle.rohcfn_tool.specs.declared.printing.Printed.{Printed}
+use Rattle.rohcfn_tool.specs.declared.printing.Printed.TheVariants as printed
 use Rattle.rohcfn_tool.specs.declared.status.Answer.{Answer}
 use Rattle.rohcfn_tool.specs.declared.status.Status.{Status}
 use Rattle.rohcfn_tool.specs.declared.status.Status.TheVariants as status
-use Rattle.rohcfn_tool.specs.declared.bundle.Parts.{Parts}
-use Rattle.rohcfn_tool.specs.declared.words.Command.TheVariants.{Show, Check, Prove, Run}
+use Rattle.fn_checker.specs.Accepted.{Accepting}
+use Rattle.rohcfn_tool.specs.declared.inputs.BadLine.{BadLine}
+use Rattle.rohcfn_tool.specs.declared.inputs.BadLine.TheVariants as bad
 use Rattle.rohcfn_tool.specs.declared.words.Direction.{Direction}
-use Rattle.rohcfn_tool.specs.declared.words.Order.{Order}
-use Rattle.rohcfn_tool.specs.declared.replies.Printed.{Printed}
-use Rattle.rohcfn_tool.specs.declared.replies.Printed.TheVariants as printed
-use Rattle.fn_bits.specs.Cursor.{Place, Advances}
-use Rattle.fn_bits.specs.Text.{IsText}
-use Rattle.fn_filling.specs.declared.filling.Filling.{Filling}
-use Rattle.fn_filling.specs.declared.filling.Item.{Item}
-use Rattle.fn_filling.specs.Fillings.{header, packed, item}
-use Rattle.fn_engine.specs.Faults.{FitsAlways, header_item}
-use Rattle.fn_engine.specs.Fragment.{IsFragment}
-use Rattle.rohcfn_tool.specs.declared.words.Direction.TheVariants.{Unpack}
-use Rattle.rohcfn_tool.specs.Printed.{IsLine, IsFault, IsPrinted, HasTexts, Prints, done, line, fault, IsFaultLine, AnsweredBy, AnsweredFor, answered, at_fault, by_profile, AnswersBy, AnswersFor, IsRefusal, Answered, Answers, AnsweredRun, AnswersRun, ShownBy, Shows, ChecksOctets, checked, ProvesOctets, proved, cause_line, IsProfileFault, text_fault, profile_fault, no_listing, listed, no_input, both, ran, shown, input_of, input_name}
+use Rattle.rohcfn_tool.specs.Inputs.{BlamesContext}
+use Rattle.rohcfn_tool.specs.Printed.{AnsweredFor, bad_context, context_line, Holds, IsBadInput, IsEnd, IsFinished, IsRefusal, IsStep, AnsweredIn, Prints, ShownBy, Shows, bad_line, bad_line_text, done, line, fault, listed, no_listing}
+use Rattle.rohcfn_tool.specs.ProfileLines.{IsFaultLine, IsProfileFault, cause_line, text_fault, profile_fault}
 
 -- one line that refuses
-pub refused : (direction : Direction) (top : List ℕ) (p : Resolved) (input text : List ℕ) (r : Result Answer AllocError) → AnsweredFor direction top p input status.Refused (text ++ 10 ∷ []) → IfOk r (IsRefusal text)
-    → IfOk r (AnswersFor direction top p input)
-refused direction top p input text (Ok a) h r =
-    let P : List ℕ → Type 0 = λ out. AnsweredFor direction top p input status.Refused out in
-    let Q : Status → Type 0 = λ s. AnsweredFor direction top p input s (string_bytes a.output) in
-    subst Q (sym r.status_is) (subst P (sym r.line_is) h)
-refused direction top p input text (Err e) h r = tt
+pub refusal_is : (P : Status → List ℕ → Type 0) (text written : List ℕ) (r : Result Answer AllocError) → P status.Refused (text ++ 10 ∷ []) → written ≡ text → IfOk r (IsRefusal written) → IfOk r (Holds P)
+refusal_is P text written (Err e) h is g = tt
+refusal_is P text written (Ok a) h is g =
+    let Q : Status → Type 0 = λ s. P s (string_bytes a.output) in
+    subst Q (sym g.status_is) (subst (P status.Refused) (ap (λ x. x ++ 10 ∷ []) (sym is) ∙ sym g.line_is) h)
 
-pub refused_at : (direction : Direction) (top : List ℕ) (p : Resolved) (input text written : List ℕ) (r : Result Answer AllocError) → AnsweredFor direction top p input status.Refused (text ++ 10 ∷ []) → written ≡ text
-    → IfOk r (IsRefusal written) → IfOk r (AnswersFor direction top p input)
-refused_at direction top p input text written r h e g =
-    let P : List ℕ → Type 0 = λ x. IfOk r (IsRefusal x) in
-    refused direction top p input text r h (subst P e g)
+-- an answer of which more is so
+pub passed_on : (P Q : Status → List ℕ → Type 0) (r : Result Answer AllocError) → ((s : Status) (out : List ℕ) → P s out → Q s out) → IfOk r (Holds P) → IfOk r (Holds Q)
+passed_on P Q (Err e) f h = tt
+passed_on P Q (Ok a) f h = f a.status (string_bytes a.output) h
 
-pub refused_profile : (direction : Direction) (top name profile input text written : List ℕ) (r : Result Answer AllocError) → name ≡ top → IsFaultLine name profile text → written ≡ text → IfOk r (IsRefusal written)
-    → IfOk r (AnswersBy direction top profile input)
-refused_profile direction top name profile input text written (Ok a) n h e g =
-    let P : List ℕ → Type 0 = λ out. AnsweredBy direction top profile input status.Refused out in
-    let Q : Status → Type 0 = λ s. AnsweredBy direction top profile input s (string_bytes a.output) in
-    let line : IsFaultLine top profile text = subst (λ x. IsFaultLine x profile text) n h in
-    subst Q (sym g.status_is) (subst P (ap (λ x. x ++ 10 ∷ []) (sym e) ∙ sym g.line_is) (at_fault text line))
-refused_profile direction top name profile input text written (Err x) n h e g = tt
-
-pub refused_listing : (top name profile text written : List ℕ) (r : Result Answer AllocError) → name ≡ top → IsFaultLine name profile text → written ≡ text → IfOk r (IsRefusal written) → IfOk r (Shows top profile)
-refused_listing top name profile text written (Ok a) n h e g =
-    let P : List ℕ → Type 0 = λ out. ShownBy top profile status.Refused out in
-    let Q : Status → Type 0 = λ s. ShownBy top profile s (string_bytes a.output) in
-    let line : IsFaultLine top profile text = subst (λ x. IsFaultLine x profile text) n h in
-    subst Q (sym g.status_is) (subst P (ap (λ x. x ++ 10 ∷ []) (sym e) ∙ sym g.line_is) (no_listing text line))
-refused_listing top name profile text written (Err x) n h e g = tt
+-- ---- a fault of a profile
 
 pub line_of_text : (top octets : List ℕ) (f : Fault) (r : Result (String Global) AllocError) → IsTextFault octets f → IfOk r (λ text. IsProfileFault octets f (string_bytes text))
     → IfOk r (λ text. IsFaultLine top octets (string_bytes text))
@@ -71,103 +51,100 @@ pub line_of_cause : (top octets : List ℕ) (f : ProfileFault) (r : Result (Stri
 line_of_cause top octets f (Ok text) h e = subst (λ x. IsFaultLine top octets x) (sym e) (profile_fault f h)
 line_of_cause top octets f (Err e) h is = tt
 
-pub by_the_profile : (direction : Direction) (top name profile input : List ℕ) (p : Resolved) (r : Result Answer AllocError) → name ≡ top → Reads profile name p → IfOk r (AnswersFor direction top p input)
-    → IfOk r (AnswersBy direction top profile input)
-by_the_profile direction top name profile input p (Ok a) n h g = by_profile p (subst (λ x. Reads profile x p) n h) g
-by_the_profile direction top name profile input p (Err e) n h g = tt
-
 pub all_listed : (top name octets : List ℕ) (p : Resolved) (output : String Global) → name ≡ top → Reads octets name p → string_bytes output ≡ listing.shown octets p.methods p.sizes → Shows top octets (record { status = status.Done; output = output })
 all_listed top name octets p output n h e =
     let P : List ℕ → Type 0 = λ out. ShownBy top octets status.Done out in
     let Q : List ℕ → Type 0 = λ x. Reads octets x p in
     subst P (sym e) (listed p (subst Q n h))
 
-pub all_answered : (direction : Direction) (top input : List ℕ) (p : Resolved) (inputs : List (List Bool)) (r : Result Answer AllocError) → IsFragment p → HasTexts input inputs
-    → IfOk r (λ a. Prints direction top p 1 inputs a.status (string_bytes a.output)) → IfOk r (AnswersFor direction top p input)
-all_answered direction top input p inputs (Ok a) s h g = answered inputs s h g
-all_answered direction top input p inputs (Err e) s h g = tt
+pub refused_listing : (top name profile text written : List ℕ) (r : Result Answer AllocError) → name ≡ top → IsFaultLine name profile text → written ≡ text → IfOk r (IsRefusal written) → IfOk r (Shows top profile)
+refused_listing top name profile text written r n h e g = refusal_is (ShownBy top profile) text written r (no_listing text (subst (λ x. IsFaultLine x profile text) n h)) e g
 
-pub refused_order : (order : Order) (parts : Parts) (text : List ℕ) (r : Result Answer AllocError) → Answered order parts status.Refused (text ++ 10 ∷ []) → IfOk r (IsRefusal text) → IfOk r (Answers order parts)
-refused_order order parts text (Ok a) h r =
-    let P : List ℕ → Type 0 = λ out. Answered order parts status.Refused out in
-    let Q : Status → Type 0 = λ s. Answered order parts s (string_bytes a.output) in
-    subst Q (sym r.status_is) (subst P (sym r.line_is) h)
-refused_order order parts text (Err e) h r = tt
+-- ---- a line for each input
 
-pub both_there : (direction : Direction) (top profile : List ℕ) (parts : Parts) (input : Bor (List ℕ)) (r : Result Answer AllocError) → input_of direction parts ≡ Some input → IfOk r (AnswersBy direction top profile input.now) → IfOk r (AnswersRun direction top profile parts)
-both_there direction top profile parts input (Ok a) i h = both input i h
-both_there direction top profile parts input (Err e) i h = tt
+abbrev pub Says : Type 0 → Type 1
+Says X = Entries → X → Filling → List ℕ → Type 0
 
-pub no_input_there : (direction : Direction) (top profile : List ℕ) (parts : Parts) (r : Result Answer AllocError) → input_of direction parts ≡ None → IfOk r (IsRefusal (codes "bundle: I4 bad part " ++ input_name direction)) → IfOk r (AnswersRun direction top profile parts)
-no_input_there direction top profile parts (Ok a) i h =
-    let P : List ℕ → Type 0 = λ out. AnsweredRun direction top profile parts status.Refused out in
-    let Q : Status → Type 0 = λ s. AnsweredRun direction top profile parts s (string_bytes a.output) in
-    subst Q (sym h.status_is) (subst P (sym h.line_is) (no_input i))
-no_input_there direction top profile parts (Err e) i h = tt
+abbrev pub Faults : Type 0 → Type 1
+Faults X = Entries → ℕ → X → List ℕ → Type 0
 
-pub order_ran : (order : Order) (parts : Parts) (direction : Direction) (profile : Bor (List ℕ)) (r : Result Answer AllocError) → parts.profile ≡ Some profile → order.command ≡ Run direction → IfOk r (AnswersRun direction order.top.now profile.now parts) → IfOk r (Answers order parts)
-order_ran order parts direction profile (Ok a) p c h = ran profile direction p c h
-order_ran order parts direction profile (Err e) p c h = tt
-
-pub order_shown : (order : Order) (parts : Parts) (profile : Bor (List ℕ)) (r : Result Answer AllocError) → parts.profile ≡ Some profile → order.command ≡ Show → IfOk r (Shows order.top.now profile.now) → IfOk r (Answers order parts)
-order_shown order parts profile (Ok a) p c h = shown profile p c h
-order_shown order parts profile (Err e) p c h = tt
-
-pub order_checked : (order : Order) (parts : Parts) (profile : Bor (List ℕ)) (r : Result Answer AllocError) → parts.profile ≡ Some profile → order.command ≡ Check → IfOk r (ChecksOctets order.top.now profile.now parts.certificate) → IfOk r (Answers order parts)
-order_checked order parts profile (Ok a) p c h = checked profile p c h
-order_checked order parts profile (Err e) p c h = tt
-
-pub order_proved : (order : Order) (parts : Parts) (profile : Bor (List ℕ)) (r : Result Answer AllocError) → parts.profile ≡ Some profile → order.command ≡ Prove → IfOk r (ProvesOctets order.top.now profile.now) → IfOk r (Answers order parts)
-order_proved order parts profile (Ok a) p c h = proved profile p c h
-order_proved order parts profile (Err e) p c h = tt
-
--- the line of a packet that was read
-pub read_line : (p : Resolved) (packet : List Bool) (new : Place) (front_bits : List Bool) (count : ℕ) (f : Filling) (front text : List ℕ) → FitsAlways p f → Advances (record { used = []; left = packet }) new (packed f)
-    → item f ≡ header_item front_bits → count ≡ length (packed f) → IsText front front_bits → text ≡ front ++ codes " took " ++ decimal count → IsLine Unpack p packet text
-read_line p packet new front_bits count f front text fits at is n spelled e =
-    let same : front_bits ≡ header f = sym (ap (λ (i : Item). i.header) is) in
-    (f, λ ctx. record { fits = fits ctx; rest = new.left; front = at.left }, is ∙ ap header_item same, (front, subst (λ b. IsText front b) same spelled, e ∙ ap (λ k. front ++ codes " took " ++ decimal k) n))
-
--- the lines so far and those for what is left are all lines
-abbrev pub SoFar : Direction → List ℕ → Resolved → List (List Bool) → ℕ → List ℕ → Type 0
-SoFar direction top p inputs i out = (s : Status) (rest : List ℕ) → Prints direction top p (i + 1) (drop i inputs) s rest → Prints direction top p 1 inputs s (out ++ rest)
-
-pub printed_start : (direction : Direction) (top : List ℕ) (p : Resolved) (inputs : List (List Bool)) (out : List ℕ) → out ≡ [] → SoFar direction top p inputs 0 out
-printed_start direction top p inputs out e s rest h =
-    let P : List ℕ → Type 0 = λ o. Prints direction top p 1 inputs s (o ++ rest) in
-    subst P (sym e) h
+-- the lines so far and those for what is left, from the context that is reached on, are all lines
+abbrev pub SoFar : {X : Type 0} → Says X → Faults X → Bool → Entries → List X → ℕ → Entries → List ℕ → Type 0
+SoFar says faults shows start inputs i ctx out = (s : Status) (rest : List ℕ) → Prints says faults shows ctx (i + 1) (drop i inputs) s rest → Prints says faults shows start 1 inputs s (out ++ rest)
 
 joined : (out text rest : List ℕ) → out ++ (text ++ 10 ∷ rest) ≡ (out ++ text ++ 10 ∷ []) ++ rest
 joined out text rest = simp append_assoc
 
-pub printed_on : (direction : Direction) (top : List ℕ) (p : Resolved) (inputs : List (List Bool)) (i : ℕ) (x : List Bool) (out next text : List ℕ) → i < length inputs → x ≡ get_or inputs i [] → SoFar direction top p inputs i out → IsLine direction p x text → next ≡ out ++ text ++ 10 ∷ [] → SoFar direction top p inputs (i + 1) next
-printed_on direction top p inputs i x out next text h e so l n s rest pr =
-    let P : List (List Bool) → Type 0 = λ xs. Prints direction top p (i + 1) xs s (text ++ 10 ∷ rest) in
-    let Q : List ℕ → Type 0 = λ o. Prints direction top p 1 inputs s o in
-    let here : drop i inputs ≡ x ∷ drop (i + 1) inputs = drop_more inputs i [] h ∙ ap (λ y. y ∷ drop (i + 1) inputs) (sym e) in
-    subst Q (joined out text rest ∙ ap (λ o. o ++ rest) (sym n)) (so s (text ++ 10 ∷ rest) (subst P (sym here) (line text rest l pr)))
+module _ {X : Type 0} (says : Says X) (faults : Faults X) (shows : Bool) (start : Entries) (inputs : List X) where
+  pub printed_start : (out : List ℕ) → out ≡ [] → SoFar says faults shows start inputs 0 start out
+  printed_start out e s rest h = subst (λ o. Prints says faults shows start 1 inputs s (o ++ rest)) (sym e) h
 
-pub printed_fault : (direction : Direction) (top : List ℕ) (p : Resolved) (inputs : List (List Bool)) (i : ℕ) (x : List Bool) (out next text : List ℕ) → i < length inputs → x ≡ get_or inputs i [] → SoFar direction top p inputs i out → IsFault direction top p (i + 1) x text → next ≡ out ++ text ++ 10 ∷ [] → Prints direction top p 1 inputs status.Refused next
-printed_fault direction top p inputs i x out next text h e so f n =
-    let P : List (List Bool) → Type 0 = λ xs. Prints direction top p (i + 1) xs status.Refused (text ++ 10 ∷ []) in
-    let Q : List ℕ → Type 0 = λ o. Prints direction top p 1 inputs status.Refused o in
-    let here : drop i inputs ≡ x ∷ drop (i + 1) inputs = drop_more inputs i [] h ∙ ap (λ y. y ∷ drop (i + 1) inputs) (sym e) in
-    subst Q (sym (append_assoc out text (10 ∷ [])) ∙ sym n) (so status.Refused (text ++ 10 ∷ []) (subst P (sym here) (fault text f)))
+  -- a line more
+  pub printed_on : (i : ℕ) (d x : X) (ctx reached : Entries) (out new : List ℕ) (o : Printed) (text : String Global) → i < length inputs → x ≡ get_or inputs i d → SoFar says faults shows start inputs i ctx out → IsStep says faults ctx reached (i + 1) x o → o ≡ printed.Line text
+      → new ≡ out ++ string_bytes text ++ 10 ∷ [] → SoFar says faults shows start inputs (i + 1) reached new
+  printed_on i d x ctx reached out new o text h e so step is n s rest more =
+      let l = subst (λ (y : Printed). IsStep says faults ctx reached (i + 1) x y) is step in
+      let here : drop i inputs ≡ x ∷ drop (i + 1) inputs = drop_more inputs i d h ∙ ap (λ y. y ∷ drop (i + 1) inputs) (sym e) in
+      let next_one : Prints says faults shows (next ctx l.0) (i + 1 + 1) (drop (i + 1) inputs) s rest = subst (λ c. Prints says faults shows c (i + 1 + 1) (drop (i + 1) inputs) s rest) l.2 more in
+      let lines : Prints says faults shows ctx (i + 1) (x ∷ drop (i + 1) inputs) s (string_bytes text ++ 10 ∷ rest) = line l.0 (string_bytes text) rest l.1 next_one in
+      subst (λ o. Prints says faults shows start 1 inputs s o) (joined out (string_bytes text) rest ∙ ap (λ o. o ++ rest) (sym n))
+      (so s (string_bytes text ++ 10 ∷ rest) (subst (λ xs. Prints says faults shows ctx (i + 1) xs s (string_bytes text ++ 10 ∷ rest)) (sym here) lines))
 
-pub printed_end : (direction : Direction) (top : List ℕ) (p : Resolved) (inputs : List (List Bool)) (i : ℕ) (out : List ℕ) → length inputs ≤ i → SoFar direction top p inputs i out → Prints direction top p 1 inputs status.Done out
-printed_end direction top p inputs i out h so =
-    let P : List (List Bool) → Type 0 = λ xs. Prints direction top p (i + 1) xs status.Done [] in
-    let Q : List ℕ → Type 0 = λ o. Prints direction top p 1 inputs status.Done o in
-    subst Q (append-nil out) (so status.Done [] (subst P (sym (drop_all i inputs h)) done))
+  -- the line that refuses
+  pub printed_fault : (i : ℕ) (d x : X) (ctx reached : Entries) (out written : List ℕ) (o : Printed) (text : String Global) (r : Result Answer AllocError) → i < length inputs → x ≡ get_or inputs i d → SoFar says faults shows start inputs i ctx out → IsStep says faults ctx reached (i + 1) x o
+      → o ≡ printed.Fault text → written ≡ string_bytes text → IfOk r (IsRefusal (out ++ written)) → IfOk r (Holds (Prints says faults shows start 1 inputs))
+  printed_fault i d x ctx reached out written o text r h e so step is w g =
+      let f = subst (λ (y : Printed). IsStep says faults ctx reached (i + 1) x y) is step in
+      let here : drop i inputs ≡ x ∷ drop (i + 1) inputs = drop_more inputs i d h ∙ ap (λ y. y ∷ drop (i + 1) inputs) (sym e) in
+      let last : Prints says faults shows ctx (i + 1) (x ∷ drop (i + 1) inputs) status.Refused (string_bytes text ++ 10 ∷ []) = fault (string_bytes text) f in
+      let whole = so status.Refused (string_bytes text ++ 10 ∷ []) (subst (λ xs. Prints says faults shows ctx (i + 1) xs status.Refused (string_bytes text ++ 10 ∷ [])) (sym here) last) in
+      let shaped : Prints says faults shows start 1 inputs status.Refused ((out ++ string_bytes text) ++ 10 ∷ []) = subst (λ o. Prints says faults shows start 1 inputs status.Refused o) (sym (append_assoc out (string_bytes text) (10 ∷ []))) whole in
+      refusal_is (Prints says faults shows start 1 inputs) (out ++ string_bytes text) (out ++ written) r shaped (ap (λ t. out ++ t) w) g
 
--- ---- as the code has them
+  -- after the last
+  pub printed_end : (i : ℕ) (ctx : Entries) (out : List ℕ) (r : Result Answer AllocError) → length inputs ≤ i → SoFar says faults shows start inputs i ctx out → IfOk r (IsFinished shows ctx out) → IfOk r (Holds (Prints says faults shows start 1 inputs))
+  printed_end i ctx out (Err e) h so f = tt
+  printed_end i ctx out (Ok a) h so f =
+      let last : Prints says faults shows ctx (i + 1) (drop i inputs) status.Done f.text = subst (λ xs. Prints says faults shows ctx (i + 1) xs status.Done f.text) (sym (drop_all i inputs h)) (done f.ends) in
+      let whole = so status.Done f.text last in
+      subst (λ s. Prints says faults shows start 1 inputs s (string_bytes a.output)) (sym f.status_is) (subst (λ o. Prints says faults shows start 1 inputs status.Done o) (sym f.output_is) whole)
 
-pub printed_on_at : (direction : Direction) (top : List ℕ) (p : Resolved) (inputs : List (List Bool)) (i : ℕ) (x : List Bool) (out next : List ℕ) (o : Printed) (text : String Global) → i < length inputs → x ≡ get_or inputs i [] → SoFar direction top p inputs i out → IsPrinted direction top p (i + 1) x o → o ≡ printed.Line text → next ≡ out ++ string_bytes text ++ 10 ∷ [] → SoFar direction top p inputs (i + 1) next
-printed_on_at direction top p inputs i x out next o text h e so l is n =
-    let P : Printed → Type 0 = λ y. IsPrinted direction top p (i + 1) x y in
-    printed_on direction top p inputs i x out next (string_bytes text) h e so (subst P is l) n
+-- ---- a context that can't be read
 
-pub printed_fault_at : (direction : Direction) (top : List ℕ) (p : Resolved) (inputs : List (List Bool)) (i : ℕ) (x : List Bool) (out next : List ℕ) (o : Printed) (text : String Global) → i < length inputs → x ≡ get_or inputs i [] → SoFar direction top p inputs i out → IsPrinted direction top p (i + 1) x o → o ≡ printed.Fault text → next ≡ out ++ string_bytes text ++ 10 ∷ [] → Prints direction top p 1 inputs status.Refused next
-printed_fault_at direction top p inputs i x out next o text h e so f is n =
-    let P : Printed → Type 0 = λ y. IsPrinted direction top p (i + 1) x y in
-    printed_fault direction top p inputs i x out next (string_bytes text) h e so (subst P is f) n
+context_bad : (direction : Direction) (shows : Bool) (a : Accepting) (part : Option (Bor (List ℕ))) (input : List ℕ) (n : ℕ) (p : Option (Bor (List ℕ))) → part ≡ p → BlamesContext (bad.Number n) p → AnsweredFor direction shows a part input status.Refused (context_line n ++ 10 ∷ [])
+context_bad direction shows a part input n None is h = absurd h
+context_bad direction shows a part input n (Some octets) is h = bad_context octets n is h
+
+pub bad_context_is : (direction : Direction) (shows : Bool) (a : Accepting) (part : Option (Bor (List ℕ))) (input : List ℕ) (e : BadLine) (n m : ℕ) (written : List ℕ) (r : Result Answer AllocError) → BlamesContext e part → e ≡ bad.Number n → written ≡ context_line m → m ≡ n → IfOk r (IsRefusal written)
+    → IfOk r (Holds (AnsweredFor direction shows a part input))
+bad_context_is direction shows a part input e n m written r blames is same number g =
+    let here : BlamesContext (bad.Number n) part = subst (λ (x : BadLine). BlamesContext x part) is blames in
+    refusal_is (AnsweredFor direction shows a part input) (context_line n) written r (context_bad direction shows a part input n part (λ i. part) here) (same ∙ ap context_line number) g
+
+-- ---- items or packets of which a line can't be read
+
+pub bad_input_is : (direction : Direction) (shows : Bool) (a : Accepting) (ctx : Entries) (input : List ℕ) (n m : ℕ) (written : List ℕ) (r : Result Answer AllocError) → IsBadInput direction input n → written ≡ bad_line_text direction m → m ≡ n → IfOk r (IsRefusal written)
+    → IfOk r (Holds (AnsweredIn direction shows a ctx input))
+bad_input_is direction shows a ctx input n m written r is same number g =
+    refusal_is (AnsweredIn direction shows a ctx input) (bad_line_text direction n) written r (bad_line n is) (same ∙ ap (bad_line_text direction) number) g
+
+-- ---- after the last line
+
+pub finished_at : (shows b : Bool) (ctx : Entries) (lines : List ℕ) (r : Result Answer AllocError) → shows ≡ b → IfOk r (IsFinished b ctx lines) → IfOk r (IsFinished shows ctx lines)
+finished_at shows b ctx lines r is h = subst (λ x. IfOk r (IsFinished x ctx lines)) (sym is) h
+
+pub finished_plain : (shows : Bool) (ctx : Entries) (output : String Global) → shows ≡ false → IsFinished shows ctx (string_bytes output) record { status = status.Done; output = output }
+finished_plain shows ctx output is = record {
+  status_is = refl;
+  text = [];
+  ends = subst (λ b. IsEnd b ctx []) (sym is) refl;
+  output_is = sym (append-nil (string_bytes output));
+}
+
+pub finished_more : (ctx : Entries) (lines mid shown text : List ℕ) (output : String Global) → mid ≡ lines ++ codes "=== context\n" → string_bytes output ≡ mid ++ shown → shown ≡ text → IsContextText ctx text → IsFinished true ctx lines record { status = status.Done; output = output }
+finished_more ctx lines mid shown text output head all same is = record {
+  status_is = refl;
+  text = codes "=== context\n" ++ text;
+  ends = (text, is, refl);
+  output_is = all ∙ (λ i. head i ++ same i) ∙ append_assoc lines (codes "=== context\n") text;
+}

@@ -1,5 +1,5 @@
 -- What clap's clauses say of the program's command line.
-use Rattle.std.proofs.Common.{◌≡◌, ◌∙◌, ℕ, true, List, [], ◌∷◌, Option, None, Some, refl, sym, ap, ap₂, subst, option_map, codes, Bor, ◌⊎◌, inl, inr}
+use Rattle.std.proofs.Common.{◌≡◌, ◌∙◌, ℕ, Bool, true, List, [], ◌∷◌, Option, None, Some, refl, sym, ap, subst, option_map, codes, Bor, ◌⊎◌, inl, inr}
 use Rattle.std.specs.Prelude.{Box}
 use Rattle.std.specs.Box.{box_value}
 use Rattle.clap.specs.Words.{App, IsAmong, Kinds, Row, fault_of, first_of, found_of, is_simple, is_simple_and_free, rows_of, subcommand_of, subcommand_rows}
@@ -11,7 +11,7 @@ use Rattle.clap.specs.declared.parser.matches.SubCommand.{SubCommand}
 use Rattle.rohcfn_tool.specs.declared.words.Command.{Command}
 use Rattle.rohcfn_tool.specs.declared.words.WordsError.{WordsError}
 use Rattle.rohcfn_tool.specs.declared.words.WordsError.TheVariants as error
-use Rattle.rohcfn_tool.specs.Words.{AskHelp, Asked, RefusesError, RefusesWords, asked_by, asked_in, asked_of, asked_unless, command_named, program}
+use Rattle.rohcfn_tool.specs.Words.{AskHelp, Asked, RefusesError, RefusesWords, asked_by, asked_in, asked_of, asked_unless, command_named, is_set, program}
 
 program_is_simple : is_simple program ≡ true
 unfolding program
@@ -31,9 +31,20 @@ subcommand_read (Some b) (Some p) name rows =
     let r : rows_of (found_of p.1.now) ≡ rows_of (found_of (out-SubCommand (box_value b)).matches) = cc in
     ap Some (λ i. (sym n i, sym r i))
 
--- what a command's name and the value of its flag ask for
-pub asked_by_parts : (met : Option (List ℕ × List Row)) (name : List ℕ) (rows : List Row) (command : Option Command) (top : Option (List ℕ)) → met ≡ Some (name, rows) → command ≡ command_named name → top ≡ first_of (codes "top") rows → asked_by command top ≡ asked_in met
-asked_by_parts met name rows command top m c t = ap₂ asked_by c t ∙ sym (ap asked_in m)
+-- what a command's name and the values of its flags ask for
+pub asked_by_parts : (met : Option (List ℕ × List Row)) (name : List ℕ) (rows : List Row) (command : Option Command) (top : Option (List ℕ)) (context : Bool) → met ≡ Some (name, rows) → command ≡ command_named name → top ≡ first_of (codes "top") rows
+    → context ≡ is_set (first_of (codes "context") rows) → asked_by command top context ≡ asked_in met
+asked_by_parts met name rows command top context m c t s = (λ i. asked_by (c i) (t i) (s i)) ∙ sym (ap asked_in m)
+
+-- without the name of a method nothing is asked for
+pub asked_without_top : (met : Option (List ℕ × List Row)) (name : List ℕ) (rows : List Row) (command : Option Command) (top : Option (List ℕ)) → met ≡ Some (name, rows) → command ≡ command_named name → top ≡ first_of (codes "top") rows → top ≡ None → None ≡ asked_in met
+asked_without_top met name rows command top m c t none =
+    let context : Bool = is_set (first_of (codes "context") rows) in
+    no_top command context ∙ (λ i. asked_by command (sym none i) context) ∙ asked_by_parts met name rows command top context m c t refl
+  where
+    no_top : (command : Option Command) (context : Bool) → None ≡ asked_by command None context
+    no_top None context = refl
+    no_top (Some command) context = refl
 
 pub asked_found : (app : App) (words : List (List ℕ)) (met : Option (List ℕ × List Row)) (x : Option Asked) → app ≡ program → (is_simple_and_free app ≡ true → fault_of app words ≡ []) → (is_simple app ≡ true → met ≡ subcommand_of app words) → x ≡ asked_in met → asked_of words ≡ x
 unfolding asked_of

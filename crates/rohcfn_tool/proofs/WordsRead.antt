@@ -1,29 +1,37 @@
 -- What words that are written out ask for.
-use Rattle.std.proofs.Common.{◌≡◌, [], ◌∷◌, None, Some, inl, refl, codes}
+use Rattle.std.proofs.Common.{◌≡◌, [], ◌∷◌, None, Some, true, false, inl, refl, codes}
 use Rattle.clap.proofs.OnLiterals.{clap_on_literals}
 use Rattle.rohcfn_tool.specs.declared.words.Command.TheVariants.{Show, Check, Prove, Run}
 use Rattle.rohcfn_tool.specs.declared.words.Direction.TheVariants.{Pack, Unpack}
 use Rattle.rohcfn_tool.specs.Words.{AskHelp, ReadsWords, asked_of, program}
 
-pub pack_read : asked_of (codes "pack" ∷ codes "--top" ∷ codes "plain" ∷ []) ≡ Some (record { command = Run Pack; top = codes "plain" })
+pub pack_read : asked_of (codes "pack" ∷ codes "--top" ∷ codes "plain" ∷ []) ≡ Some (record { command = Run Pack; top = codes "plain"; shows_context = false })
 unfolding asked_of program clap_on_literals
 pack_read = refl
 
-pub unpack_read : asked_of (codes "unpack" ∷ codes "--top=plain" ∷ []) ≡ Some (record { command = Run Unpack; top = codes "plain" })
+pub unpack_read : asked_of (codes "unpack" ∷ codes "--top=plain" ∷ []) ≡ Some (record { command = Run Unpack; top = codes "plain"; shows_context = false })
 unfolding asked_of program clap_on_literals
 unpack_read = refl
 
-pub show_read : asked_of (codes "show" ∷ codes "--top" ∷ codes "plain" ∷ []) ≡ Some (record { command = Show; top = codes "plain" })
+pub show_read : asked_of (codes "show" ∷ codes "--top" ∷ codes "plain" ∷ []) ≡ Some (record { command = Show; top = codes "plain"; shows_context = false })
 unfolding asked_of program clap_on_literals
 show_read = refl
 
-pub check_read : asked_of (codes "check" ∷ codes "--top" ∷ codes "plain" ∷ []) ≡ Some (record { command = Check; top = codes "plain" })
+pub check_read : asked_of (codes "check" ∷ codes "--top" ∷ codes "plain" ∷ []) ≡ Some (record { command = Check; top = codes "plain"; shows_context = false })
 unfolding asked_of program clap_on_literals
 check_read = refl
 
-pub prove_read : asked_of (codes "prove" ∷ codes "--top" ∷ codes "plain" ∷ []) ≡ Some (record { command = Prove; top = codes "plain" })
+pub prove_read : asked_of (codes "prove" ∷ codes "--top" ∷ codes "plain" ∷ []) ≡ Some (record { command = Prove; top = codes "plain"; shows_context = false })
 unfolding asked_of program clap_on_literals
 prove_read = refl
+
+pub pack_context_read : asked_of (codes "pack" ∷ codes "--top" ∷ codes "plain" ∷ codes "--context" ∷ []) ≡ Some (record { command = Run Pack; top = codes "plain"; shows_context = true })
+unfolding asked_of program clap_on_literals
+pack_context_read = refl
+
+pub show_context_refused : asked_of (codes "show" ∷ codes "--top" ∷ codes "plain" ∷ codes "--context" ∷ []) ≡ None
+unfolding asked_of program clap_on_literals
+show_context_refused = refl
 
 pub top_missing : asked_of (codes "pack" ∷ []) ≡ None
 unfolding asked_of program clap_on_literals
@@ -42,4 +50,4 @@ unfolding AskHelp program clap_on_literals
 help_wanted = inl refl
 
 pub words_are_read : ReadsWords
-words_are_read = record { pack = pack_read; unpack = unpack_read; show = show_read; check = check_read; prove = prove_read; no_top = top_missing; no_command = command_missing; other_flag = flag_unknown; help = help_wanted }
+words_are_read = record { pack = pack_read; unpack = unpack_read; show = show_read; check = check_read; prove = prove_read; pack_context = pack_context_read; show_context = show_context_refused; no_top = top_missing; no_command = command_missing; other_flag = flag_unknown; help = help_wanted }

@@ -60,7 +60,7 @@ front_of input = text_before (full_lines input)
 
 abbrev pub is_known : List ℕ → Bool
 is_known name = bytes_eq name (codes "words") || bytes_eq name (codes "profile") || bytes_eq name (codes "certificate")
-    || bytes_eq name (codes "items") || bytes_eq name (codes "packets")
+    || bytes_eq name (codes "context") || bytes_eq name (codes "items") || bytes_eq name (codes "packets")
 
 -- the text of the first part of that name
 abbrev pub text_named : List ℕ → List Part → Option (List ℕ)
@@ -89,6 +89,7 @@ pub record HoldsParts (held : Parts) (parts : List Part) : Type 0 where
   pub words : option_map (λ text. text.now) held.words ≡ text_named (codes "words") parts
   pub profile : option_map (λ text. text.now) held.profile ≡ text_named (codes "profile") parts
   pub certificate : option_map (λ text. text.now) held.certificate ≡ text_named (codes "certificate") parts
+  pub context : option_map (λ text. text.now) held.context ≡ text_named (codes "context") parts
   pub items : option_map (λ text. text.now) held.items ≡ text_named (codes "items") parts
   pub packets : option_map (λ text. text.now) held.packets ≡ text_named (codes "packets") parts
 

@@ -1,7 +1,10 @@
-pub mod Verdicts
-pub mod Provings
-pub mod Printed
-pub mod Program
-pub mod Status
-pub mod Words
+pub mod Accepting
 pub mod Bundle
+pub mod Inputs
+pub mod Printed
+pub mod ProfileLines
+pub mod Program
+pub mod Provings
+pub mod Status
+pub mod Verdicts
+pub mod Words

@@ -1,25 +1,30 @@
--- What is printed for a profile, and for a profile and items or packets.
-use Rattle.std.specs.Prelude.{◌≡◌, ℕ, ◌+◌, ◌≤◌, Bool, List, [], ◌∷◌, ◌++◌, length, codes, decimal, Option, Some, None, string_bytes}
-use Rattle.std.specs.Str.{IsUtf8}
+-- What is printed for a profile, and for a profile with a context and items or packets (docs/FORMATS.md).
+use Rattle.std.specs.Prelude.{◌≡◌, ℕ, ◌+◌, Bool, true, false, List, [], ◌∷◌, ◌++◌, length, codes, decimal, Option, Some, None, string_bytes}
 use Rattle.std.specs.Borrow.{Bor}
-use Rattle.fn_bits.specs.Text.{IsText, ReadsAs}
-use Rattle.fn_bits.specs.Lines.{numbered_lines, broken_line}
-use Rattle.fn_source.specs.declared.fault.Fault.{Fault}
-use Rattle.fn_source.specs.Faults.{code_of}
-use Rattle.fn_normal.specs.declared.fault.ProfileFault.{ProfileFault}
-use Rattle.fn_normal.specs.Faults as profiles
+use Rattle.fn_bits.specs.Text.{IsText}
+use Rattle.fn_context.specs.Entries.{Entries, bits_at}
+use Rattle.fn_context.specs.Text.{IsContextText}
+use Rattle.fn_normal.specs.declared.profile.Method.{Method}
 use Rattle.fn_profile.specs.Resolved.{Resolved}
-use Rattle.fn_names.specs.Readings.{HasCause, IsTextFault, Reads}
+use Rattle.fn_names.specs.Readings.{Reads}
 use Rattle.fn_show.specs.Shown as listing
-use Rattle.fn_show.specs.Texts.{fault_words}
-use Rattle.fn_source.specs.Places.{line_of, column_of}
 use Rattle.fn_filling.specs.declared.filling.Filling.{Filling}
-use Rattle.fn_filling.specs.Fillings.{header, packed, item}
-use Rattle.fn_fits.specs.Fits.{Context}
-use Rattle.fn_fits.specs.Fronts.{InFronts}
-use Rattle.rohcfn_tool.specs.declared.bundle.Parts.{Parts}
+use Rattle.fn_filling.specs.declared.filling.Item.{Item}
+use Rattle.fn_filling.specs.declared.filling.AskedValue.{AskedValue}
+use Rattle.fn_filling.specs.Fillings.{packed, item}
+use Rattle.fn_filling.specs.Entries.{next}
+use Rattle.fn_best.specs.Best.{Best}
+use Rattle.fn_reader.specs.declared.fault.Blamed.{Blamed}
+use Rattle.fn_checker.specs.Accepted.{Accepting}
+use Rattle.fn_engine.specs.Reading as reading
+use Rattle.fn_engine.specs.Writing as writing
 use Rattle.fn_engine.specs.declared.reader.UnpackFault.{UnpackFault}
 use Rattle.fn_engine.specs.declared.reader.UnpackFault.TheVariants.{Truncated, Refused, OutOfMemory}
+use Rattle.fn_engine.specs.declared.writer.PackFault.{PackFault}
+use Rattle.fn_engine.specs.declared.writer.PackFault.TheVariants as writer
+use Rattle.rohcfn_tool.specs.declared.bundle.Parts.{Parts}
+use Rattle.rohcfn_tool.specs.declared.printing.Printed.{Printed}
+use Rattle.rohcfn_tool.specs.declared.printing.Printed.TheVariants as printed
 use Rattle.rohcfn_tool.specs.declared.status.Answer.{Answer}
 use Rattle.rohcfn_tool.specs.declared.status.Status.{Status}
 use Rattle.rohcfn_tool.specs.declared.status.Status.TheVariants as status
@@ -27,79 +32,92 @@ use Rattle.rohcfn_tool.specs.declared.words.Command.TheVariants.{Show, Check, Pr
 use Rattle.rohcfn_tool.specs.declared.words.Direction.{Direction}
 use Rattle.rohcfn_tool.specs.declared.words.Direction.TheVariants.{Pack, Unpack}
 use Rattle.rohcfn_tool.specs.declared.words.Order.{Order}
-use Rattle.fn_engine.specs.declared.writer.PackFault.{PackFault}
-use Rattle.fn_engine.specs.declared.writer.PackFault.TheVariants as writer
-use Rattle.rohcfn_tool.specs.declared.inputs.BadLine.{BadLine}
-use Rattle.rohcfn_tool.specs.declared.inputs.BadLine.TheVariants as bad
-use Rattle.rohcfn_tool.specs.declared.replies.Printed.{Printed}
-use Rattle.rohcfn_tool.specs.declared.replies.Printed.TheVariants as printed
-use Rattle.rohcfn_tool.specs.Verdicts.{CheckedBy}
-use Rattle.rohcfn_tool.specs.Provings.{MadeBy, ProvedBy}
-use Rattle.fn_engine.specs.Faults.{Blames, BlamesItem, FitsAlways, header_item}
-use Rattle.fn_engine.specs.Fragment.{IsFragment}
+use Rattle.rohcfn_tool.specs.Accepting.{AcceptsProfile, RefusesProfile}
+use Rattle.rohcfn_tool.specs.Inputs.{HasLines, IsBadContext, IsBadLine, IsBits, IsItem, StartsAt}
+use Rattle.rohcfn_tool.specs.ProfileLines.{IsFaultLine}
+use Rattle.rohcfn_tool.specs.Provings.{ProvedBy}
+use Rattle.rohcfn_tool.specs.Verdicts.{format_name, method_name}
 
--- ---- the lines that go in
+-- ---- the line of an item or a packet
 
--- the lines are the texts of these bits, a line each
-abbrev pub AreTexts : List (ℕ × List ℕ) → List (List Bool) → Type 0
-AreTexts [] [] = Unit {0}
-AreTexts (l ∷ ls) (b ∷ bs) = ReadsAs l.1 b × (length b ≤ 65536) × AreTexts ls bs
-AreTexts [] (b ∷ bs) = ⊥
-AreTexts (l ∷ ls) [] = ⊥
+-- the value of a field: a blank, its name, an equals sign and the text of its bits
+abbrev pub IsValueText : AskedValue → List ℕ → Type 0
+IsValueText v text = (spelled : List ℕ) × IsText spelled v.bits × (text ≡ codes " " ++ v.name ++ codes "=" ++ spelled)
 
--- the lines of a part, the empty ones left out, are the texts of these bits
-pub record HasTexts (octets : List ℕ) (inputs : List (List Bool)) : Type 0 where
-  pub utf8 : IsUtf8 octets
-  pub texts : AreTexts (numbered_lines octets) inputs
+abbrev pub AreValuesText : List AskedValue → List ℕ → Type 0
+AreValuesText [] text = text ≡ []
+AreValuesText (v ∷ vs) text = (word : List ℕ) × (rest : List ℕ) × IsValueText v word × AreValuesText vs rest × (text ≡ word ++ rest)
 
--- no bits have this text
-abbrev pub IsNoText : List ℕ → Type 0
-IsNoText text = (b : List Bool) → length b ≤ 65536 → ReadsAs text b → ⊥
+-- an item: the text of its header, then its values
+abbrev pub IsItemText : Item → List ℕ → Type 0
+IsItemText it text = (front : List ℕ) × (values : List ℕ) × IsText front it.header × AreValuesText it.asked values × (text ≡ front ++ values)
 
--- The first line of a part that is no text of bits, by its number: where the part breaks UTF-8, else the first that can't be read.
-pub data IsBadLine (octets : List ℕ) : ℕ → Type 0 where
-  broken : {n : ℕ} → (IsUtf8 octets → ⊥) → n ≡ broken_line octets → IsBadLine octets n
-  unread : {n : ℕ} (front back : List (ℕ × List ℕ)) (text : List ℕ) (inputs : List (List Bool)) → IsUtf8 octets → numbered_lines octets ≡ front ++ (n, text) ∷ back
-      → AreTexts front inputs → IsNoText text → IsBadLine octets n
+-- an item, and how many bits its packet took
+abbrev pub IsTaken : Item → ℕ → List ℕ → Type 0
+IsTaken it count text = (front : List ℕ) × IsItemText it front × (text ≡ front ++ codes " took " ++ decimal count)
 
-abbrev pub BlamesLine : BadLine → List ℕ → Type 0
-BlamesLine (bad.Number n) octets = IsBadLine octets n
-BlamesLine bad.OutOfMemory octets = Unit {0}
+-- for an item: the packed bits of the best filling that fits in the context and has the item
+pub record IsItemLine (a : Accepting) (ctx : Entries) (it : Item) (f : Filling) (text : List ℕ) : Type 0 where
+  pub best : Best a.profile.methods a.certificate a.profile.top (bits_at ctx) it f
+  pub spelled : IsText text (packed f)
 
--- ---- the lines that go out
+-- for a packet: the item of a filling that fits in the context and whose packed bits are at its front, and how many these are
+pub record IsPacketLine (a : Accepting) (ctx : Entries) (packet : List Bool) (f : Filling) (text : List ℕ) : Type 0 where
+  pub fits : reading.Fronts a ctx packet f
+  pub taken : IsTaken (item f) (length (packed f)) text
 
--- For a header, the packed bits of a filling that fits and has it as its item. For a packet, the header of a filling that fits and
--- whose packed bits are at its front, and how many bits that takes; the header is the whole item. Both are so in every context.
-abbrev pub IsLine : Direction → Resolved → List Bool → List ℕ → Type 0
-IsLine Pack p bits text = (f : Filling) × FitsAlways p f × (item f ≡ header_item bits) × IsText text (packed f)
-IsLine Unpack p packet text = (f : Filling) × ((ctx : Context) → InFronts p.methods p.top ctx packet f) × (item f ≡ header_item (header f))
-    × ((front : List ℕ) × IsText front (header f) × (text ≡ front ++ codes " took " ++ decimal (length (packed f))))
+-- ---- the line of a refusal
 
 -- a refused item, by its number from 1
 abbrev pub IsItemFault : PackFault → ℕ → List ℕ → Type 0
 IsItemFault writer.HeaderLength n text = text ≡ codes "item " ++ decimal n ++ codes ": F1 HeaderLength"
+IsItemFault (writer.Asked name) n text = text ≡ codes "item " ++ decimal n ++ codes ": F2 Asked " ++ name
 IsItemFault writer.NoFormat n text = text ≡ codes "item " ++ decimal n ++ codes ": F3 NoFormat"
 IsItemFault writer.OutOfMemory n text = ⊥
 
--- a refused packet, by its number from 1; the refusal names the top method, and its one format, which has no name
-abbrev pub IsPacketFault : UnpackFault → List ℕ → ℕ → List ℕ → Type 0
-IsPacketFault Truncated top n text = text ≡ codes "packet " ++ decimal n ++ codes ": U1 Truncated"
-IsPacketFault Refused top n text = text ≡ codes "packet " ++ decimal n ++ codes ": U2 Refused " ++ top ++ codes ".-"
-IsPacketFault OutOfMemory top n text = ⊥
+-- the format after a point, where there is one
+abbrev pub format_words : List Method → ℕ → Option ℕ → List ℕ
+format_words methods k None = []
+format_words methods k (Some n) = codes "." ++ format_name methods k n
 
--- the line of a refusal, which is true of the item or the packet
-abbrev pub IsFault : Direction → List ℕ → Resolved → ℕ → List Bool → List ℕ → Type 0
-IsFault Pack top p n item text = (e : PackFault) × BlamesItem e p item × IsItemFault e n text
-IsFault Unpack top p n packet text = (e : UnpackFault) × Blames e p packet × IsPacketFault e top n text
+-- a refused packet, by its number from 1; the refusal names the method at work, and its format
+abbrev pub refused_packet : List Method → ℕ → Blamed → List ℕ
+refused_packet methods n at = codes "packet " ++ decimal n ++ codes ": U2 Refused " ++ method_name methods at.method ++ format_words methods at.method at.format
 
--- What is printed for items or packets, counted from n: a line for each, up to the first that is refused.
-pub data Prints (direction : Direction) (top : List ℕ) (p : Resolved) : ℕ → List (List Bool) → Status → List ℕ → Type 0 where
-  done : {n : ℕ} → Prints direction top p n [] status.Done []
-  line : {n : ℕ} {x : List Bool} {xs : List (List Bool)} {s : Status} (text rest : List ℕ) → IsLine direction p x text → Prints direction top p (n + 1) xs s rest
-      → Prints direction top p n (x ∷ xs) s (text ++ 10 ∷ rest)
-  fault : {n : ℕ} {x : List Bool} {xs : List (List Bool)} (text : List ℕ) → IsFault direction top p n x text → Prints direction top p n (x ∷ xs) status.Refused (text ++ 10 ∷ [])
+abbrev pub IsPacketFault : UnpackFault → List Method → ℕ → List ℕ → Type 0
+IsPacketFault Truncated methods n text = text ≡ codes "packet " ++ decimal n ++ codes ": U1 Truncated"
+IsPacketFault (Refused at) methods n text = text ≡ refused_packet methods n at
+IsPacketFault OutOfMemory methods n text = ⊥
 
--- ---- the whole answer
+-- a fault that is there, with its line
+abbrev pub FaultsItem : Accepting → Entries → ℕ → Item → List ℕ → Type 0
+FaultsItem a ctx n it text = (e : PackFault) × writing.Blames e a ctx it × IsItemFault e n text
+
+abbrev pub FaultsPacket : Accepting → Entries → ℕ → List Bool → List ℕ → Type 0
+FaultsPacket a ctx n packet text = (e : UnpackFault) × reading.Blames e a ctx packet × IsPacketFault e a.profile.methods n text
+
+-- ---- line by line
+
+-- what follows the last line: the context, where it is wanted
+abbrev pub IsEnd : Bool → Entries → List ℕ → Type 0
+IsEnd false ctx text = text ≡ []
+IsEnd true ctx text = (rest : List ℕ) × IsContextText ctx rest × (text ≡ codes "=== context\n" ++ rest)
+
+-- What is printed for inputs, counted from n, in a context. Each has a line that is that of a filling, whose entries go over the context; the first that is
+-- refused has the line of its fault, which is the last.
+pub data Prints {X : Type 0} (says : Entries → X → Filling → List ℕ → Type 0) (faults : Entries → ℕ → X → List ℕ → Type 0) (shows : Bool) : Entries → ℕ → List X → Status → List ℕ → Type 0 where
+  done : {ctx : Entries} {n : ℕ} {text : List ℕ} → IsEnd shows ctx text → Prints says faults shows ctx n [] status.Done text
+  line : {ctx : Entries} {n : ℕ} {x : X} {xs : List X} {s : Status} (f : Filling) (text rest : List ℕ) → says ctx x f text → Prints says faults shows (next ctx f) (n + 1) xs s rest
+      → Prints says faults shows ctx n (x ∷ xs) s (text ++ 10 ∷ rest)
+  fault : {ctx : Entries} {n : ℕ} {x : X} {xs : List X} (text : List ℕ) → faults ctx n x text → Prints says faults shows ctx n (x ∷ xs) status.Refused (text ++ 10 ∷ [])
+
+abbrev pub PrintsItems : Accepting → Bool → Entries → ℕ → List Item → Status → List ℕ → Type 0
+PrintsItems a shows = Prints (IsItemLine a) (FaultsItem a) shows
+
+abbrev pub PrintsPackets : Accepting → Bool → Entries → ℕ → List (List Bool) → Status → List ℕ → Type 0
+PrintsPackets a shows = Prints (IsPacketLine a) (FaultsPacket a) shows
+
+-- ---- by an accepted profile
 
 -- the part that is read in a direction, with its name and with what a bad line of it is called
 abbrev pub input_of : Direction → Parts → Option (Bor (List ℕ))
@@ -114,27 +132,38 @@ abbrev pub bad_line_words : Direction → List ℕ
 bad_line_words Pack = codes ": I1 bad item"
 bad_line_words Unpack = codes ": I2 bad packet"
 
--- a line of the profile: where an octet of it stands, a code and words
-abbrev pub profile_line : List ℕ → ℕ → List ℕ → List ℕ → List ℕ
-profile_line octets offset code words = codes "profile:" ++ decimal (line_of octets offset) ++ codes ":" ++ decimal (column_of octets offset) ++ codes ": " ++ code ++ codes " " ++ words
+abbrev pub bad_line_text : Direction → ℕ → List ℕ
+bad_line_text direction n = input_name direction ++ codes ":" ++ decimal n ++ bad_line_words direction
 
--- a fault at its line and column, with its code
-pub record IsProfileFault (octets : List ℕ) (fault : Fault) (text : List ℕ) : Type 0 where
-  pub words : List ℕ
-  pub spelled : text ≡ profile_line octets fault.at.from (code_of fault.kind) words
+abbrev pub IsBadInput : Direction → List ℕ → ℕ → Type 0
+IsBadInput Pack octets n = IsBadLine IsItem octets n
+IsBadInput Unpack octets n = IsBadLine IsBits octets n
 
--- a fault of the normal form at its line and column, with its code and its words
-abbrev pub cause_line : List ℕ → ProfileFault → List ℕ
-cause_line octets f = profile_line octets f.at.from (profiles.code_of f.kind) (fault_words octets f)
+-- the octets are those of items or packets, for which this is printed
+abbrev pub PrintsInput : Direction → Bool → Accepting → Entries → List ℕ → Status → List ℕ → Type 0
+PrintsInput Pack shows a ctx octets s output = (items : List Item) × HasLines IsItem octets items × PrintsItems a shows ctx 1 items s output
+PrintsInput Unpack shows a ctx octets s output = (packets : List (List Bool)) × HasLines IsBits octets packets × PrintsPackets a shows ctx 1 packets s output
 
--- The line of the fault for which the octets of a profile have no normal form.
-pub data IsFaultLine (top octets : List ℕ) : List ℕ → Type 0 where
-  -- the octets have no tree
-  text_fault : (fault : Fault) (text : List ℕ) → IsTextFault octets fault → IsProfileFault octets fault text → IsFaultLine top octets text
-  -- their tree has no normal form
-  profile_fault : (fault : ProfileFault) → HasCause octets top fault → IsFaultLine top octets (cause_line octets fault)
+-- What is answered in a direction, from a context on.
+pub data AnsweredIn (direction : Direction) (shows : Bool) (a : Accepting) (ctx : Entries) (input : List ℕ) : Status → List ℕ → Type 0 where
+  -- a line can't be read
+  bad_line : (n : ℕ) → IsBadInput direction input n → AnsweredIn direction shows a ctx input status.Refused (bad_line_text direction n ++ 10 ∷ [])
+  -- a line for each item or packet
+  answered : {s : Status} {output : List ℕ} → PrintsInput direction shows a ctx input s output → AnsweredIn direction shows a ctx input s output
 
--- What is answered to `show`, by the octets of a profile.
+abbrev pub context_line : ℕ → List ℕ
+context_line n = codes "context:" ++ decimal n ++ codes ": C1 bad line"
+
+-- What is answered in a direction, by the part of the context and the octets of items or packets.
+pub data AnsweredFor (direction : Direction) (shows : Bool) (a : Accepting) (context : Option (Bor (List ℕ))) (input : List ℕ) : Status → List ℕ → Type 0 where
+  -- a line of the context can't be read
+  bad_context : (octets : Bor (List ℕ)) (n : ℕ) → context ≡ Some octets → IsBadContext octets.now n → AnsweredFor direction shows a context input status.Refused (context_line n ++ 10 ∷ [])
+  -- from the context on
+  from_context : {s : Status} {output : List ℕ} (ctx : Entries) → StartsAt context ctx → AnsweredIn direction shows a ctx input s output → AnsweredFor direction shows a context input s output
+
+-- ---- by the octets of a profile
+
+-- What is answered to `show`.
 pub data ShownBy (top octets : List ℕ) : Status → List ℕ → Type 0 where
   -- the profile is at fault
   no_listing : (text : List ℕ) → IsFaultLine top octets text → ShownBy top octets status.Refused (text ++ 10 ∷ [])
@@ -143,41 +172,29 @@ pub data ShownBy (top octets : List ℕ) : Status → List ℕ → Type 0 where
 
 -- What is answered to `check`, by the octets of a profile and of a certificate, if there is one.
 pub data CheckedOctets (top profile : List ℕ) (certificate : Option (Bor (List ℕ))) : Status → List ℕ → Type 0 where
-  -- the profile is at fault
-  profile_at_fault : (text : List ℕ) → IsFaultLine top profile text → CheckedOctets top profile certificate status.Refused (text ++ 10 ∷ [])
-  -- none is given: by the one that is made for the profile
-  by_made : {s : Status} {output : List ℕ} (p : Resolved) → Reads profile top p → certificate ≡ None → MadeBy p s output → CheckedOctets top profile certificate s output
-  -- by the profile that the octets stand for
-  checked_by : {s : Status} {output : List ℕ} (p : Resolved) (octets : Bor (List ℕ)) → Reads profile top p → certificate ≡ Some octets → CheckedBy p octets.now s output → CheckedOctets top profile certificate s output
+  -- something is wrong with one of them
+  refused : (text : List ℕ) → RefusesProfile top profile certificate text → CheckedOctets top profile certificate status.Refused (text ++ 10 ∷ [])
+  -- the certificate is valid for the profile that the octets stand for
+  accepted : (a : Accepting) → AcceptsProfile top profile certificate a → CheckedOctets top profile certificate status.Done (codes "accepted" ++ 10 ∷ [])
 
--- What is answered to `prove`, by the octets of a profile.
+-- What is answered to `prove`.
 pub data ProvedOctets (top octets : List ℕ) : Status → List ℕ → Type 0 where
   -- the profile is at fault
   none_proved : (text : List ℕ) → IsFaultLine top octets text → ProvedOctets top octets status.Refused (text ++ 10 ∷ [])
   -- by the profile that the octets stand for
   proved_by : {s : Status} {output : List ℕ} (p : Resolved) → Reads octets top p → ProvedBy p s output → ProvedOctets top octets s output
 
--- What is answered in a direction, by a profile and the octets of items or packets.
-pub data AnsweredFor (direction : Direction) (top : List ℕ) (p : Resolved) (input : List ℕ) : Status → List ℕ → Type 0 where
-  -- the profile is outside the fragment
-  outside : (IsFragment p → ⊥) → AnsweredFor direction top p input status.Refused (codes "prove: P3 Limit" ++ 10 ∷ [])
-  -- it is of the fragment, and a line can't be read
-  bad_line : (n : ℕ) → IsFragment p → IsBadLine input n → AnsweredFor direction top p input status.Refused ((input_name direction ++ codes ":" ++ decimal n ++ bad_line_words direction) ++ 10 ∷ [])
-  -- a line for each item or packet
-  answered : {s : Status} {output : List ℕ} (inputs : List (List Bool)) → IsFragment p → HasTexts input inputs → Prints direction top p 1 inputs s output → AnsweredFor direction top p input s output
-
--- What is answered in a direction, by the octets of a profile and of items or packets.
-pub data AnsweredBy (direction : Direction) (top profile input : List ℕ) : Status → List ℕ → Type 0 where
-  -- the profile is at fault
-  at_fault : (text : List ℕ) → IsFaultLine top profile text → AnsweredBy direction top profile input status.Refused (text ++ 10 ∷ [])
-  -- by the profile that the octets stand for
-  by_profile : {s : Status} {output : List ℕ} (p : Resolved) → Reads profile top p → AnsweredFor direction top p input s output → AnsweredBy direction top profile input s output
+-- What is answered in a direction, by the octets of a profile, of its certificate and of a context, if there are such, and of items or packets.
+pub data AnsweredBy (direction : Direction) (order : Order) (profile : List ℕ) (parts : Parts) (input : List ℕ) : Status → List ℕ → Type 0 where
+  -- something is wrong with the profile or its certificate
+  unaccepted : (text : List ℕ) → RefusesProfile order.top.now profile parts.certificate text → AnsweredBy direction order profile parts input status.Refused (text ++ 10 ∷ [])
+  -- by the profile that the octets stand for, with a certificate that is valid for it
+  by_profile : {s : Status} {output : List ℕ} (a : Accepting) → AcceptsProfile order.top.now profile parts.certificate a → AnsweredFor direction order.shows_context a parts.context input s output → AnsweredBy direction order profile parts input s output
 
 -- What is answered in a direction, by the octets of a profile and the parts.
-pub data AnsweredRun (direction : Direction) (top profile : List ℕ) (parts : Parts) : Status → List ℕ → Type 0 where
-  no_input : input_of direction parts ≡ None → AnsweredRun direction top profile parts status.Refused (codes "bundle: I4 bad part " ++ input_name direction ++ 10 ∷ [])
-  both : {s : Status} {output : List ℕ} (input : Bor (List ℕ)) → input_of direction parts ≡ Some input → AnsweredBy direction top profile input.now s output
-      → AnsweredRun direction top profile parts s output
+pub data AnsweredRun (direction : Direction) (order : Order) (profile : List ℕ) (parts : Parts) : Status → List ℕ → Type 0 where
+  no_input : input_of direction parts ≡ None → AnsweredRun direction order profile parts status.Refused ((codes "bundle: I4 bad part " ++ input_name direction) ++ 10 ∷ [])
+  both : {s : Status} {output : List ℕ} (input : Bor (List ℕ)) → input_of direction parts ≡ Some input → AnsweredBy direction order profile parts input.now s output → AnsweredRun direction order profile parts s output
 
 -- What is answered to an order with these parts.
 pub data Answered (order : Order) (parts : Parts) : Status → List ℕ → Type 0 where
@@ -189,37 +206,57 @@ pub data Answered (order : Order) (parts : Parts) : Status → List ℕ → Type
   proved : {s : Status} {output : List ℕ} (profile : Bor (List ℕ)) → parts.profile ≡ Some profile → order.command ≡ Prove
       → ProvedOctets order.top.now profile.now s output → Answered order parts s output
   ran : {s : Status} {output : List ℕ} (profile : Bor (List ℕ)) (direction : Direction) → parts.profile ≡ Some profile → order.command ≡ Run direction
-      → AnsweredRun direction order.top.now profile.now parts s output → Answered order parts s output
+      → AnsweredRun direction order profile.now parts s output → Answered order parts s output
 
 -- ---- the steps
 
-abbrev pub Answers : Order → Parts → Answer → Type 0
-Answers order parts a = Answered order parts a.status (string_bytes a.output)
+-- an answer of which this is so
+abbrev pub Holds : (Status → List ℕ → Type 0) → Answer → Type 0
+Holds P a = P a.status (string_bytes a.output)
 
-abbrev pub AnswersRun : Direction → List ℕ → List ℕ → Parts → Answer → Type 0
-AnswersRun direction top profile parts a = AnsweredRun direction top profile parts a.status (string_bytes a.output)
+abbrev pub Answers : Order → Parts → Answer → Type 0
+Answers order parts = Holds (Answered order parts)
+
+abbrev pub AnswersRun : Direction → Order → List ℕ → Parts → Answer → Type 0
+AnswersRun direction order profile parts = Holds (AnsweredRun direction order profile parts)
+
+abbrev pub AnswersBy : Direction → Order → List ℕ → Parts → List ℕ → Answer → Type 0
+AnswersBy direction order profile parts input = Holds (AnsweredBy direction order profile parts input)
+
+abbrev pub AnswersFor : Direction → Bool → Accepting → Option (Bor (List ℕ)) → List ℕ → Answer → Type 0
+AnswersFor direction shows a context input = Holds (AnsweredFor direction shows a context input)
+
+abbrev pub AnswersIn : Direction → Bool → Accepting → Entries → List ℕ → Answer → Type 0
+AnswersIn direction shows a ctx input = Holds (AnsweredIn direction shows a ctx input)
 
 abbrev pub ChecksOctets : List ℕ → List ℕ → Option (Bor (List ℕ)) → Answer → Type 0
-ChecksOctets top profile certificate a = CheckedOctets top profile certificate a.status (string_bytes a.output)
+ChecksOctets top profile certificate = Holds (CheckedOctets top profile certificate)
 
 abbrev pub ProvesOctets : List ℕ → List ℕ → Answer → Type 0
-ProvesOctets top octets a = ProvedOctets top octets a.status (string_bytes a.output)
+ProvesOctets top octets = Holds (ProvedOctets top octets)
 
 abbrev pub Shows : List ℕ → List ℕ → Answer → Type 0
-Shows top octets a = ShownBy top octets a.status (string_bytes a.output)
-
-abbrev pub AnswersFor : Direction → List ℕ → Resolved → List ℕ → Answer → Type 0
-AnswersFor direction top p input a = AnsweredFor direction top p input a.status (string_bytes a.output)
-
-abbrev pub AnswersBy : Direction → List ℕ → List ℕ → List ℕ → Answer → Type 0
-AnswersBy direction top profile input a = AnsweredBy direction top profile input a.status (string_bytes a.output)
+Shows top octets = Holds (ShownBy top octets)
 
 -- one line, which refuses
 pub record IsRefusal (text : List ℕ) (a : Answer) : Type 0 where
   pub status_is : a.status ≡ status.Refused
   pub line_is : string_bytes a.output ≡ text ++ 10 ∷ []
 
--- a line for an item or a packet, or the line of its refusal
-abbrev pub IsPrinted : Direction → List ℕ → Resolved → ℕ → List Bool → Printed → Type 0
-IsPrinted direction top p n input (printed.Line text) = IsLine direction p input (string_bytes text)
-IsPrinted direction top p n input (printed.Fault text) = IsFault direction top p n input (string_bytes text)
+-- these lines, and what follows the last
+pub record IsFinished (shows : Bool) (ctx : Entries) (lines : List ℕ) (a : Answer) : Type 0 where
+  pub status_is : a.status ≡ status.Done
+  pub text : List ℕ
+  pub ends : IsEnd shows ctx text
+  pub output_is : string_bytes a.output ≡ lines ++ text
+
+-- a line for an input, after which the context is the next, or the line of its refusal
+abbrev pub IsStep : {X : Type 0} → (Entries → X → Filling → List ℕ → Type 0) → (Entries → ℕ → X → List ℕ → Type 0) → Entries → Entries → ℕ → X → Printed → Type 0
+IsStep says faults old new n x (printed.Line text) = (f : Filling) × says old x f (string_bytes text) × (new ≡ next old f)
+IsStep says faults old new n x (printed.Fault text) = faults old n x (string_bytes text)
+
+abbrev pub IsItemStep : Accepting → Entries → Entries → ℕ → Item → Printed → Type 0
+IsItemStep a old new n it = IsStep (IsItemLine a) (FaultsItem a) old new n it
+
+abbrev pub IsPacketStep : Accepting → Entries → Entries → ℕ → List Bool → Printed → Type 0
+IsPacketStep a old new n packet = IsStep (IsPacketLine a) (FaultsPacket a) old new n packet

@@ -1,4 +1,4 @@
--- What is answered where no certificate is given, and to `prove` (docs/FORMATS.md).
+-- What is answered to `prove` (docs/FORMATS.md).
 use Rattle.std.specs.Prelude.{◌≡◌, ℕ, List, [], ◌∷◌, ◌++◌, codes, flat_map, string_bytes}
 use Rattle.fn_normal.specs.declared.profile.Method.{Method}
 use Rattle.fn_cert.specs.declared.certificate.Direction.{Direction}
@@ -12,7 +12,7 @@ use Rattle.fn_prover.specs.declared.unproved.Unproved.TheVariants.{NoPlan, NoTre
 use Rattle.rohcfn_tool.specs.declared.status.Answer.{Answer}
 use Rattle.rohcfn_tool.specs.declared.status.Status.{Status}
 use Rattle.rohcfn_tool.specs.declared.status.Status.TheVariants as status
-use Rattle.rohcfn_tool.specs.Verdicts.{JudgedBy, names, method_name, format_name, field_name, direction_word}
+use Rattle.rohcfn_tool.specs.Verdicts.{names, method_name, format_name, field_name, direction_word}
 
 -- a side of a field of a format, after a blank
 abbrev pub side_words : List Method → ℕ → ℕ → FieldSide → List ℕ
@@ -33,22 +33,12 @@ IsUnprovedLine methods (NoTree k first second) text = text ≡ tree_line methods
 IsUnprovedLine methods Limit text = text ≡ codes "prove: P3 Limit"
 IsUnprovedLine methods OutOfMemory text = ⊥
 
--- What is answered of the certificate that is made for a profile.
-pub data MadeBy (p : Resolved) : Status → List ℕ → Type 0 where
-  -- none is
-  unmade : (why : Unproved) (text : List ℕ) → IsUnproved p why → IsUnprovedLine p.methods why text → MadeBy p status.Refused (text ++ 10 ∷ [])
-  -- this one is
-  made : {s : Status} {output : List ℕ} (cert : Entries) → IsProved p cert → JudgedBy p cert s output → MadeBy p s output
-
 -- What is answered to `prove`, by the profile.
 pub data ProvedBy (p : Resolved) : Status → List ℕ → Type 0 where
   -- no certificate is made
   unproved : (why : Unproved) (text : List ℕ) → IsUnproved p why → IsUnprovedLine p.methods why text → ProvedBy p status.Refused (text ++ 10 ∷ [])
   -- the text of the one that is
   printed : (cert : Entries) → IsProved p cert → ProvedBy p status.Done (certificate_text cert)
-
-abbrev pub Makes : Resolved → Answer → Type 0
-Makes p a = MadeBy p a.status (string_bytes a.output)
 
 abbrev pub Proves : Resolved → Answer → Type 0
 Proves p a = ProvedBy p a.status (string_bytes a.output)

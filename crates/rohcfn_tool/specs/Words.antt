@@ -1,8 +1,9 @@
 -- What the words of a call ask for, by what clap's contracts say of a command and words.
-use Rattle.std.specs.Prelude.{◌≡◌, ◌≢◌, ℕ, true, List, [], ◌∷◌, Option, None, Some, if◌then◌else◌, codes}
+use Rattle.std.specs.Prelude.{◌≡◌, ◌≢◌, ℕ, Bool, true, false, List, [], ◌∷◌, Option, None, Some, if◌then◌else◌, codes}
 use Rattle.std.specs.Str.{bytes_eq}
 use Rattle.clap.specs.Words.{App, IsAmong, Kinds, Row, Rule, fault_of, first_of, new_app, new_rule, subcommand_of, with_rule, with_subcommand}
 use Rattle.clap.specs.Simple.{on_top}
+use Rattle.clap.specs.declared.builder.action.ArgAction.TheVariants.{SetTrue}
 use Rattle.clap.specs.declared.error.kind.ErrorKind.{ErrorKind}
 use Rattle.clap.specs.declared.error.kind.ErrorKind.TheVariants.{DisplayHelp, OutOfMemory}
 use Rattle.rohcfn_tool.specs.declared.words.Command.{Command}
@@ -20,9 +21,19 @@ top_flag = record (new_rule (codes "top")) {
   required = true;
 }
 
--- a command of that name with this flag
+-- `--context`, which takes no value
+abbrev pub context_flag : Rule
+context_flag = record (new_rule (codes "context")) {
+  long = Some (codes "context");
+  action = Some SetTrue;
+}
+
+-- a command of that name with the first flag, and with both
 abbrev pub with_top : List ℕ → App
 with_top name = with_rule (new_app name) top_flag
+
+abbrev pub with_flags : List ℕ → App
+with_flags name = with_rule (with_top name) context_flag
 
 -- the program's own command line: no name before the words, and one of the commands has to be there
 abbrev pub bare_program : App
@@ -31,16 +42,17 @@ bare_program = on_top (λ top. record top { no_binary_name = true; subcommand_re
 
 -- with its commands
 unfoldable pub program : App
-program = with_subcommand (with_subcommand (with_subcommand (with_subcommand (with_subcommand bare_program (with_top (codes "pack")).top)
-    (with_top (codes "unpack")).top) (with_top (codes "show")).top) (with_top (codes "check")).top) (with_top (codes "prove")).top
+program = with_subcommand (with_subcommand (with_subcommand (with_subcommand (with_subcommand bare_program (with_flags (codes "pack")).top)
+    (with_flags (codes "unpack")).top) (with_top (codes "show")).top) (with_top (codes "check")).top) (with_top (codes "prove")).top
 
--- a command, and the name of a method
+-- a command, the name of a method, and whether the last context is printed
 pub record Asked : Type 0 where
   pub command : Command
   pub top : List ℕ
+  pub shows_context : Bool
 
 abbrev pub asked : Order → Asked
-asked order = record { command = order.command; top = order.top.now }
+asked order = record { command = order.command; top = order.top.now; shows_context = order.shows_context }
 
 abbrev pub command_named : List ℕ → Option Command
 command_named name = if bytes_eq name (codes "pack") then Some (Run Pack)
@@ -49,15 +61,20 @@ command_named name = if bytes_eq name (codes "pack") then Some (Run Pack)
     else (if bytes_eq name (codes "check") then Some Check
     else (if bytes_eq name (codes "prove") then Some Prove else None))))
 
-abbrev pub asked_by : Option Command → Option (List ℕ) → Option Asked
-asked_by None top = None
-asked_by (Some command) None = None
-asked_by (Some command) (Some top) = Some (record { command = command; top = top })
+-- the flag was given
+abbrev pub is_set : Option (List ℕ) → Bool
+is_set None = false
+is_set (Some text) = bytes_eq text (codes "true")
+
+abbrev pub asked_by : Option Command → Option (List ℕ) → Bool → Option Asked
+asked_by None top context = None
+asked_by (Some command) None context = None
+asked_by (Some command) (Some top) context = Some (record { command = command; top = top; shows_context = context })
 
 -- a command's name, and the values of its flags
 abbrev pub asked_in : Option (List ℕ × List Row) → Option Asked
 asked_in None = None
-asked_in (Some met) = asked_by (command_named met.0) (first_of (codes "top") met.1)
+asked_in (Some met) = asked_by (command_named met.0) (first_of (codes "top") met.1) (is_set (first_of (codes "context") met.1))
 
 -- words with a fault ask for nothing
 abbrev pub asked_unless : Kinds → Option (List ℕ × List Row) → Option Asked
@@ -86,11 +103,13 @@ RefusesError kind error.OutOfMemory = Unit {0}
 
 -- what some words ask for, written out
 pub record ReadsWords : Type 0 where
-  pub pack : asked_of (codes "pack" ∷ codes "--top" ∷ codes "plain" ∷ []) ≡ Some (record { command = Run Pack; top = codes "plain" })
-  pub unpack : asked_of (codes "unpack" ∷ codes "--top=plain" ∷ []) ≡ Some (record { command = Run Unpack; top = codes "plain" })
-  pub show : asked_of (codes "show" ∷ codes "--top" ∷ codes "plain" ∷ []) ≡ Some (record { command = Show; top = codes "plain" })
-  pub check : asked_of (codes "check" ∷ codes "--top" ∷ codes "plain" ∷ []) ≡ Some (record { command = Check; top = codes "plain" })
-  pub prove : asked_of (codes "prove" ∷ codes "--top" ∷ codes "plain" ∷ []) ≡ Some (record { command = Prove; top = codes "plain" })
+  pub pack : asked_of (codes "pack" ∷ codes "--top" ∷ codes "plain" ∷ []) ≡ Some (record { command = Run Pack; top = codes "plain"; shows_context = false })
+  pub unpack : asked_of (codes "unpack" ∷ codes "--top=plain" ∷ []) ≡ Some (record { command = Run Unpack; top = codes "plain"; shows_context = false })
+  pub show : asked_of (codes "show" ∷ codes "--top" ∷ codes "plain" ∷ []) ≡ Some (record { command = Show; top = codes "plain"; shows_context = false })
+  pub check : asked_of (codes "check" ∷ codes "--top" ∷ codes "plain" ∷ []) ≡ Some (record { command = Check; top = codes "plain"; shows_context = false })
+  pub prove : asked_of (codes "prove" ∷ codes "--top" ∷ codes "plain" ∷ []) ≡ Some (record { command = Prove; top = codes "plain"; shows_context = false })
+  pub pack_context : asked_of (codes "pack" ∷ codes "--top" ∷ codes "plain" ∷ codes "--context" ∷ []) ≡ Some (record { command = Run Pack; top = codes "plain"; shows_context = true })
+  pub show_context : asked_of (codes "show" ∷ codes "--top" ∷ codes "plain" ∷ codes "--context" ∷ []) ≡ None
   pub no_top : asked_of (codes "pack" ∷ []) ≡ None
   pub no_command : asked_of [] ≡ None
   pub other_flag : asked_of (codes "pack" ∷ codes "--top" ∷ codes "plain" ∷ codes "--fly" ∷ []) ≡ None

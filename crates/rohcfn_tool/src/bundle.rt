@@ -9,6 +9,7 @@ pub struct Parts<'a> {
     pub words: Option<&'a [u8]>,
     pub profile: Option<&'a [u8]>,
     pub certificate: Option<&'a [u8]>,
+    pub context: Option<&'a [u8]>,
     pub items: Option<&'a [u8]>,
     pub packets: Option<&'a [u8]>,
 }
@@ -30,6 +31,8 @@ const PROFILE: &[u8] = b"profile";
 
 const CERTIFICATE: &[u8] = b"certificate";
 
+const CONTEXT: &[u8] = b"context";
+
 const ITEMS: &[u8] = b"items";
 
 const PACKETS: &[u8] = b"packets";
@@ -49,6 +52,7 @@ pub fn split(input: &[u8]) -> Result<Parts<'_>, BadPart<'_>>
         words: None,
         profile: None,
         certificate: None,
+        context: None,
         items: None,
         packets: None,
     };
@@ -92,6 +96,11 @@ fn with_part<'a>(parts: Parts<'a>, name: &[u8], text: &'a [u8]) -> Option<Parts<
     } else if name == CERTIFICATE && parts.certificate.is_none() {
         Some(Parts {
             certificate: Some(text),
+            ..parts
+        })
+    } else if name == CONTEXT && parts.context.is_none() {
+        Some(Parts {
+            context: Some(text),
             ..parts
         })
     } else if name == ITEMS && parts.items.is_none() {

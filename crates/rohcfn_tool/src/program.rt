@@ -6,6 +6,7 @@ ghost use Rattle.std.specs.Io.KnownBytes.{Appends, Consumes, IsAtEnd};
 ghost use Rattle.rohcfn_tool.specs.Program.{IsInput, IsShortInput, large_line, RefusesBy, Replies, RepliesBy, RunGives, bad_part_line, most_octets, shown_name, words_in};
 
 use crate::bundle::{BadPart, Parts, split};
+use crate::inputs::pieces;
 use crate::replies::answer;
 use crate::status::{Answer, Status};
 use crate::words::{WordsError, read_order};
@@ -240,11 +241,4 @@ fn filled_lines<'a>(alloc: Global, text: &'a str) -> Result<Vec<&'a str>, AllocE
     ensures { IfOk result (λ found. map (λ line. line.now) found.items ≡ filter (λ line. not (length line == 0)) (lines text.entry.now)) }
 {
     text.lines().filter(|line| !line.is_empty()).collect(alloc)
-}
-
-// A line cut at each blank.
-fn pieces<'a>(alloc: Global, line: &'a str) -> Result<Vec<&'a str>, AllocError>
-    ensures { IfOk result (λ words. map (λ word. word.now) words.items ≡ slice_split (λ octet. octet == 32) line.entry.now) }
-{
-    line.split(' ').collect(alloc)
 }

@@ -1,39 +1,27 @@
 //! What is printed for an order and the parts of the input.
 
-ghost use Rattle.std.specs.Prelude.{◌≡◌, ◌∷◌, ◌++◌, [], ℕ, List, IfOk, OnOk, codes, decimal, string_bytes};
-ghost use Rattle.fn_engine.specs.Fragment.{IsFragment};
-ghost use Rattle.rohcfn_tool.specs.Printed.{IsPrinted, IsProfileFault, IsRefusal, Prints, Answers, AnswersBy, AnswersFor, AnswersRun, input_name, bad_line_words};
+ghost use Rattle.std.specs.Prelude.{◌≡◌, ◌++◌, IfOk, codes, decimal, string_bytes};
+ghost use Rattle.rohcfn_tool.specs.Printed as spec;
 
+use crate::accepting::{Judged, accept};
 use crate::bundle::Parts;
-use crate::inputs::{BadLine, read_inputs};
+use crate::inputs::{BadLine, read_context, read_items, read_packets};
+use crate::printing::{pack_all, unpack_all};
 use crate::proving::answer_prove;
-use crate::showing::{answer_listing, error_line};
+use crate::showing::answer_listing;
 use crate::status::{Answer, Status};
-use crate::verdicts::answer_check;
 use crate::words::{Command, Direction, Order};
-use fn_bits::{Bits, Cursor};
-use fn_engine::{Fragment, PackFault, Read, UnpackFault, Written, pack, unpack};
-use fn_names::read;
-use fn_profile::Profile;
-use fn_source::{Fault, line_column};
+use fn_checker::Accepted;
+use fn_context::Context;
 use std::alloc::{AllocError, Global};
-
-/// A line of the output.
-#[derive(Drop)]
-pub enum Printed {
-    /// The line of an item or a packet.
-    Line(String),
-    /// The line of its refusal, which is the last.
-    Fault(String),
-}
 
 /// What is printed for an order: the listing of a profile, the verdict on a certificate, a certificate, a line for each item or packet up to the first refusal, or the
 /// one line of another fault.
 ///
-/// The order of faults: the missing part `profile`, another missing part, the profile, a line of the items or packets, and
-/// then each item or packet.
+/// The order of faults: the missing part `profile`, another missing part, the profile, its certificate, a line of the context, a line of the items or packets,
+/// and then each item or packet.
 pub fn answer(alloc: Global, order: &Order<'_>, parts: &Parts<'_>) -> Result<Answer, AllocError>
-    ensures { IfOk result (Answers order.now parts.now) }
+    ensures { IfOk result (spec.Answers order.now parts.now) }
 {
     let Some(profile) = parts.profile else {
         return refusal(alloc, "bundle: I4 bad part profile");
@@ -42,7 +30,25 @@ pub fn answer(alloc: Global, order: &Order<'_>, parts: &Parts<'_>) -> Result<Ans
         Command::Show => answer_listing(alloc, order.top, profile),
         Command::Check => answer_check(alloc, order.top, profile, parts),
         Command::Prove => answer_prove(alloc, order.top, profile),
-        Command::Run(direction) => answer_run(alloc, direction, order.top, profile, parts),
+        Command::Run(direction) => answer_run(alloc, direction, order, profile, parts),
+    }
+}
+
+/// The answer to `check`: `accepted`, or the line of the first fault.
+fn answer_check(
+    alloc: Global,
+    top: &str,
+    profile: &[u8],
+    parts: &Parts<'_>,
+) -> Result<Answer, AllocError>
+    ensures { IfOk result (spec.ChecksOctets top.now profile.now parts.now.certificate) }
+{
+    match accept(alloc, top, profile, parts)? {
+        Judged::Accepted(_) => Ok(Answer {
+            status: Status::Done,
+            output: String::from_str(alloc, "accepted\n")?,
+        }),
+        Judged::Refused(line) => refusal(alloc, line.as_str()),
     }
 }
 
@@ -50,60 +56,116 @@ pub fn answer(alloc: Global, order: &Order<'_>, parts: &Parts<'_>) -> Result<Ans
 fn answer_run(
     alloc: Global,
     direction: Direction,
-    top: &str,
+    order: &Order<'_>,
     profile: &[u8],
     parts: &Parts<'_>,
 ) -> Result<Answer, AllocError>
-    ensures { IfOk result (AnswersRun direction top.now profile.now parts.now) }
+    ensures { IfOk result (spec.AnswersRun direction order.now profile.now parts.now) }
 {
     match direction {
         Direction::Pack => match parts.items {
-            Some(items) => answer_lines(alloc, Direction::Pack, top, profile, items),
+            Some(items) => answer_by(alloc, Direction::Pack, order, profile, parts, items),
             None => refusal(alloc, "bundle: I4 bad part items"),
         },
         Direction::Unpack => match parts.packets {
-            Some(packets) => answer_lines(alloc, Direction::Unpack, top, profile, packets),
+            Some(packets) => answer_by(alloc, Direction::Unpack, order, profile, parts, packets),
             None => refusal(alloc, "bundle: I4 bad part packets"),
         },
     }
 }
 
 /// The answer in a direction, by the octets of a profile and of items or packets.
-fn answer_lines(
+fn answer_by(
     alloc: Global,
     direction: Direction,
-    top: &str,
+    order: &Order<'_>,
     profile: &[u8],
+    parts: &Parts<'_>,
     input: &[u8],
 ) -> Result<Answer, AllocError>
-    ensures { IfOk result (AnswersBy direction top.now profile.now input.now) }
+    ensures { IfOk result (spec.AnswersBy direction order.now profile.now parts.now input.now) }
 {
-    match read(alloc, profile, top.as_bytes()) {
-        Ok(normal) => answer_for(alloc, direction, top, &normal, input),
-        Err(error) => {
-            let line = error_line(alloc, profile, error)?;
-            refusal(alloc, line.as_str())
+    match accept(alloc, order.top, profile, parts)? {
+        Judged::Accepted(accepted) => {
+            let shows = order.shows_context;
+            answer_for(alloc, direction, shows, &accepted, parts, input)
         }
+        Judged::Refused(line) => refusal(alloc, line.as_str()),
     }
 }
 
-/// The answer in a direction, by a profile and the octets of items or packets.
+/// The answer in a direction, by an accepted profile and the octets of items or packets.
 fn answer_for(
     alloc: Global,
     direction: Direction,
-    top: &str,
-    profile: &Profile,
+    shows: bool,
+    accepted: &Accepted,
+    parts: &Parts<'_>,
     input: &[u8],
 ) -> Result<Answer, AllocError>
-    ensures { IfOk result (AnswersFor direction top.now profile.now input.now) }
+    ensures { IfOk result (spec.AnswersFor direction shows accepted.now parts.now.context input.now) }
 {
-    let Some(fragment) = Fragment::of(alloc, profile)? else {
-        return refusal(alloc, "prove: P3 Limit");
-    };
-    match read_inputs(alloc, input) {
-        Ok(inputs) => print_all(alloc, direction, top, &fragment, inputs.as_slice()),
+    match read_context(alloc, parts) {
+        Ok(context) => answer_lines(alloc, direction, shows, accepted, context, input),
         Err(BadLine::Number(number)) => {
-            let line = bad_line(alloc, direction, number)?;
+            let line = context_line(alloc, number)?;
+            refusal(alloc, line.as_str())
+        }
+        Err(BadLine::OutOfMemory) => Err(AllocError),
+    }
+}
+
+/// The answer in a direction and a context.
+fn answer_lines(
+    alloc: Global,
+    direction: Direction,
+    shows: bool,
+    accepted: &Accepted,
+    context: Context,
+    input: &[u8],
+) -> Result<Answer, AllocError>
+    ensures { IfOk result (spec.AnswersIn direction shows accepted.now context input.now) }
+{
+    match direction {
+        Direction::Pack => answer_items(alloc, shows, accepted, context, input),
+        Direction::Unpack => answer_packets(alloc, shows, accepted, context, input),
+    }
+}
+
+/// The answer to the octets of items.
+fn answer_items(
+    alloc: Global,
+    shows: bool,
+    accepted: &Accepted,
+    context: Context,
+    input: &[u8],
+) -> Result<Answer, AllocError>
+    ensures { IfOk result (spec.AnswersIn Direction.Pack shows accepted.now context input.now) }
+{
+    match read_items(alloc, input) {
+        Ok(items) => pack_all(alloc, shows, accepted, context, items.as_slice()),
+        Err(BadLine::Number(number)) => {
+            let line = bad_line(alloc, Direction::Pack, number)?;
+            refusal(alloc, line.as_str())
+        }
+        Err(BadLine::OutOfMemory) => Err(AllocError),
+    }
+}
+
+/// The answer to the octets of packets.
+fn answer_packets(
+    alloc: Global,
+    shows: bool,
+    accepted: &Accepted,
+    context: Context,
+    input: &[u8],
+) -> Result<Answer, AllocError>
+    ensures { IfOk result (spec.AnswersIn Direction.Unpack shows accepted.now context input.now) }
+{
+    match read_packets(alloc, input) {
+        Ok(packets) => unpack_all(alloc, shows, accepted, context, packets.as_slice()),
+        Err(BadLine::Number(number)) => {
+            let line = bad_line(alloc, Direction::Unpack, number)?;
             refusal(alloc, line.as_str())
         }
         Err(BadLine::OutOfMemory) => Err(AllocError),
@@ -112,7 +174,7 @@ fn answer_for(
 
 /// One line, and the status of a refusal.
 pub(crate) fn refusal(alloc: Global, line: &str) -> Result<Answer, AllocError>
-    ensures { IfOk result (IsRefusal line.now) }
+    ensures { IfOk result (spec.IsRefusal line.now) }
 {
     let mut output = String::from_str(alloc, line)?;
     output.push('\n')?;
@@ -122,33 +184,9 @@ pub(crate) fn refusal(alloc: Global, line: &str) -> Result<Answer, AllocError>
     })
 }
 
-/// A fault of the profile, at its line and column.
-pub(crate) fn profile_line(alloc: Global, octets: &[u8], fault: Fault) -> Result<String, AllocError>
-    ensures { IfOk result (λ text. IsProfileFault octets.now fault (string_bytes text)) }
-{
-    let place = line_column(octets, fault.at.from);
-    let (line, column) = (place.line, place.column);
-    let code = fault.kind.code();
-    let words = fault.kind.to_string(alloc)?;
-    fault_line(alloc, line, column, code, words.as_str())
-}
-
-/// The line of a fault with its code and its words.
-pub(crate) fn fault_line(
-    alloc: Global,
-    line: usize,
-    column: usize,
-    code: &str,
-    words: &str,
-) -> Result<String, AllocError>
-    ensures { IfOk result (λ text. string_bytes text ≡ codes "profile:" ++ decimal line ++ codes ":" ++ decimal column ++ codes ": " ++ code.now ++ codes " " ++ words.now) }
-{
-    format!(in alloc; "profile:{line}:{column}: {code} {words}")
-}
-
-/// The line of a part that can't be read.
+/// The line of items or packets that can't be read.
 fn bad_line(alloc: Global, direction: Direction, number: usize) -> Result<String, AllocError>
-    ensures { IfOk result (λ text. string_bytes text ≡ input_name direction ++ codes ":" ++ decimal number ++ bad_line_words direction) }
+    ensures { IfOk result (λ text. string_bytes text ≡ spec.input_name direction ++ codes ":" ++ decimal number ++ spec.bad_line_words direction) }
 {
     match direction {
         Direction::Pack => format!(in alloc; "items:{number}: I1 bad item"),
@@ -156,113 +194,9 @@ fn bad_line(alloc: Global, direction: Direction, number: usize) -> Result<String
     }
 }
 
-/// A line for each item or packet, up to the first that is refused.
-fn print_all(
-    alloc: Global,
-    direction: Direction,
-    top: &str,
-    fragment: &Fragment<'_>,
-    inputs: &[Bits],
-) -> Result<Answer, AllocError>
-    ensures { IfOk result (λ a. Prints direction top.now fragment.now.profile 1 inputs.now a.status (string_bytes a.output)) }
+/// The line of a context that can't be read.
+fn context_line(alloc: Global, number: usize) -> Result<String, AllocError>
+    ensures { IfOk result (λ text. string_bytes text ≡ spec.context_line number) }
 {
-    let mut output = String::new(alloc);
-    for (i, input) in inputs.iter().enumerate() {
-        match print_one(alloc, direction, top, fragment, i + 1, input)? {
-            Printed::Line(line) => push_line(&mut output, line.as_str())?,
-            Printed::Fault(line) => {
-                push_line(&mut output, line.as_str())?;
-                return Ok(Answer {
-                    status: Status::Refused,
-                    output,
-                });
-            }
-        }
-    }
-    Ok(Answer {
-        status: Status::Done,
-        output,
-    })
-}
-
-fn push_line(output: &mut String, line: &str) -> Result<(), AllocError>
-    ensures { OnOk result (string_bytes output.new ≡ string_bytes output.old ++ line.now ++ 10 ∷ []) }
-{
-    output.push_str(line)?;
-    output.push('\n')
-}
-
-/// The line of an item or a packet, whose number counts from 1.
-fn print_one(
-    alloc: Global,
-    direction: Direction,
-    top: &str,
-    fragment: &Fragment<'_>,
-    number: usize,
-    input: &Bits,
-) -> Result<Printed, AllocError>
-    ensures { IfOk result (IsPrinted direction top.now fragment.now.profile number input.now) }
-{
-    match direction {
-        Direction::Pack => print_packed(alloc, fragment, number, input),
-        Direction::Unpack => print_read(alloc, top, fragment, number, input),
-    }
-}
-
-/// The packed bits of an item.
-fn print_packed(
-    alloc: Global,
-    fragment: &Fragment<'_>,
-    number: usize,
-    item: &Bits,
-) -> Result<Printed, AllocError>
-    ensures { (top : List ℕ) → IfOk result (IsPrinted Direction.Pack top fragment.now.profile number item.now) }
-{
-    match pack(alloc, fragment, item) {
-        Ok(Written { packed, filling: _ }) => Ok(Printed::Line(packed.print_text(alloc)?)),
-        Err(PackFault::HeaderLength) => {
-            Ok(Printed::Fault(format!(in alloc; "item {number}: F1 HeaderLength")?))
-        }
-        Err(PackFault::NoFormat) => {
-            Ok(Printed::Fault(format!(in alloc; "item {number}: F3 NoFormat")?))
-        }
-        Err(PackFault::OutOfMemory) => Err(AllocError),
-    }
-}
-
-/// The item of a packet, and how many bits it took.
-fn print_read(
-    alloc: Global,
-    top: &str,
-    fragment: &Fragment<'_>,
-    number: usize,
-    packet: &Bits,
-) -> Result<Printed, AllocError>
-    ensures { IfOk result (IsPrinted Direction.Unpack top.now fragment.now.profile number packet.now) }
-{
-    let mut cursor = Cursor::new(packet);
-    match unpack(alloc, fragment, &mut cursor) {
-        Ok(
-            Read {
-                header,
-                bits,
-                filling: _,
-            },
-        ) => {
-            let item = header.print_text(alloc)?;
-            Ok(Printed::Line(format!(in alloc; "{item} took {bits}")?))
-        }
-        Err(UnpackFault::Truncated) => {
-            Ok(Printed::Fault(format!(in alloc; "packet {number}: U1 Truncated")?))
-        }
-        Err(UnpackFault::Refused) => { Ok(Printed::Fault(refused_line(alloc, number, top)?)) }
-        Err(UnpackFault::OutOfMemory) => Err(AllocError),
-    }
-}
-
-/// The line of a refused packet, which names the top method and its one format, which has no name.
-fn refused_line(alloc: Global, number: usize, top: &str) -> Result<String, AllocError>
-    ensures { IfOk result (λ text. string_bytes text ≡ codes "packet " ++ decimal number ++ codes ": U2 Refused " ++ top.now ++ codes ".-") }
-{
-    format!(in alloc; "packet {number}: U2 Refused {top}.-")
+    format!(in alloc; "context:{number}: C1 bad line")
 }

@@ -1,17 +1,18 @@
 //! What is printed of a profile alone.
 
-ghost use Rattle.std.specs.Prelude.{◌≡◌, ℕ, List, IfOk, string_bytes};
+ghost use Rattle.std.specs.Prelude.{◌≡◌, ℕ, List, ◌++◌, IfOk, codes, decimal, string_bytes};
 ghost use Rattle.fn_names.specs.Readings.{Refuses};
 ghost use Rattle.fn_show.specs.Shown as listing;
-ghost use Rattle.rohcfn_tool.specs.Printed.{IsFaultLine, Shows, cause_line};
+ghost use Rattle.rohcfn_tool.specs.Printed.{Shows};
+ghost use Rattle.rohcfn_tool.specs.ProfileLines.{IsFaultLine, IsProfileFault, cause_line};
 
-use crate::replies::{fault_line, profile_line, refusal};
+use crate::replies::refusal;
 use crate::status::{Answer, Status};
 use fn_names::{ReadError, read};
 use fn_normal::ProfileFault;
 use fn_profile::Profile;
 use fn_show::{fault_text, show};
-use fn_source::line_column;
+use fn_source::{Fault, line_column};
 use std::alloc::{AllocError, Global};
 
 /// The listing of the profile with the top of this name: its methods, bounds and constraints. For a profile with a fault
@@ -65,4 +66,28 @@ fn cause_line(alloc: Global, octets: &[u8], fault: &ProfileFault) -> Result<Stri
     let code = fault.kind.code();
     let words = fault_text(alloc, octets, fault)?;
     fault_line(alloc, line, column, code, words.as_str())
+}
+
+/// A fault of the profile, at its line and column.
+fn profile_line(alloc: Global, octets: &[u8], fault: Fault) -> Result<String, AllocError>
+    ensures { IfOk result (λ text. IsProfileFault octets.now fault (string_bytes text)) }
+{
+    let place = line_column(octets, fault.at.from);
+    let (line, column) = (place.line, place.column);
+    let code = fault.kind.code();
+    let words = fault.kind.to_string(alloc)?;
+    fault_line(alloc, line, column, code, words.as_str())
+}
+
+/// The line of a fault with its code and its words.
+fn fault_line(
+    alloc: Global,
+    line: usize,
+    column: usize,
+    code: &str,
+    words: &str,
+) -> Result<String, AllocError>
+    ensures { IfOk result (λ text. string_bytes text ≡ codes "profile:" ++ decimal line ++ codes ":" ++ decimal column ++ codes ": " ++ code.now ++ codes " " ++ words.now) }
+{
+    format!(in alloc; "profile:{line}:{column}: {code} {words}")
 }

@@ -1,112 +1,18 @@
-//! What is answered to `check`.
+//! The lines of what is wrong with a certificate.
 
-ghost use Rattle.std.specs.Prelude.{◌≡◌, ℕ, List, ◌++◌, codes, decimal, IfOk, string_bytes};
+ghost use Rattle.std.specs.Prelude.{◌≡◌, ◌++◌, codes, decimal, IfOk, string_bytes};
 ghost use Rattle.std.specs.Option.{option_copied};
-ghost use Rattle.std.specs.Str.{IsUtf8};
-ghost use Rattle.fn_cert.specs.Faults.{Blames};
 ghost use Rattle.fn_cert.specs.Text as text;
-ghost use Rattle.fn_profile.specs.Resolved.{Resolved};
-ghost use Rattle.rohcfn_tool.specs.Printed.{ChecksOctets};
 ghost use Rattle.rohcfn_tool.specs.Verdicts as spec;
-ghost use Rattle.rohcfn_tool.specs.Verdicts.{Checks, Judges};
-ghost use Rattle.rohcfn_tool.specs.Provings.{Makes};
 
-use crate::bundle::Parts;
-use crate::proving::unproved_line;
-use crate::replies::refusal;
-use crate::showing::error_line;
-use crate::status::{Answer, Status};
-use fn_bits::LinesError;
-use fn_bits::lines::lines;
-use fn_cert::{Certificate, CertificateError, Direction};
-use fn_checker::{CheckError, check};
+use fn_cert::{CertificateError, Direction};
 use fn_expr::Side;
-use fn_names::read;
 use fn_normal::{Field, Format, Method, Name};
-use fn_profile::Profile;
-use fn_prover::prove;
 use fn_rules::CheckFault;
 use std::alloc::{AllocError, Global};
 
-/// The answer to `check`: `accepted`, or the line of the first fault of the profile, of the certificate's text or of the certificate. Where no certificate
-/// is given, one is made.
-pub(crate) fn answer_check(
-    alloc: Global,
-    top: &str,
-    profile: &[u8],
-    parts: &Parts<'_>,
-) -> Result<Answer, AllocError>
-    ensures { IfOk result (ChecksOctets top.now profile.now parts.now.certificate) }
-{
-    match read(alloc, profile, top.as_bytes()) {
-        Ok(normal) => match parts.certificate {
-            Some(octets) => check_octets(alloc, normal, octets),
-            None => answer_made(alloc, normal),
-        },
-        Err(error) => {
-            let line = error_line(alloc, profile, error)?;
-            refusal(alloc, line.as_str())
-        }
-    }
-}
-
-/// The answer by a profile and the octets of a certificate.
-fn check_octets(alloc: Global, profile: Profile, octets: &[u8]) -> Result<Answer, AllocError>
-    ensures { IfOk result (Checks profile octets.now) }
-{
-    match str::from_utf8(octets) {
-        Ok(text) => check_text(alloc, profile, text),
-        Err(_) => broken(alloc, octets),
-    }
-}
-
-/// The answer by a profile and the certificate that is made for it.
-fn answer_made(alloc: Global, profile: Profile) -> Result<Answer, AllocError>
-    ensures { IfOk result (Makes profile) }
-{
-    match prove(alloc, &profile) {
-        Ok(certificate) => verdict(alloc, profile, certificate),
-        Err(unproved) => {
-            let line = unproved_line(alloc, profile.methods(), unproved)?;
-            refusal(alloc, line.as_str())
-        }
-    }
-}
-
-/// The refusal of octets that are no UTF-8, at their first line that isn't.
-fn broken(alloc: Global, octets: &[u8]) -> Result<Answer, AllocError>
-    requires { IsUtf8 octets.now → ⊥ }
-    ensures { (p : Resolved) → IfOk result (Checks p octets.now) }
-{
-    match lines(alloc, octets) {
-        Ok(_) => unreachable!(),
-        Err(LinesError::NotText { line }) => {
-            let line = error_text(alloc, "K1 bad word", line)?;
-            refusal(alloc, line.as_str())
-        }
-        Err(LinesError::OutOfMemory) => Err(AllocError),
-    }
-}
-
-/// The answer by a profile and the text of a certificate.
-fn check_text(alloc: Global, profile: Profile, text: &str) -> Result<Answer, AllocError>
-    ensures { IfOk result (Checks profile text.now) }
-{
-    match fn_cert::read(alloc, &profile, text) {
-        Ok(certificate) => verdict(alloc, profile, certificate),
-        Err(error) => unread(alloc, error),
-    }
-}
-
-/// The refusal of a text that is no certificate of the profile.
-fn unread(alloc: Global, error: CertificateError) -> Result<Answer, AllocError>
-    ensures { (p : Resolved) (octets : List ℕ) → IsUtf8 octets → Blames p.methods error octets → IfOk result (Checks p octets) }
-{
-    let line = unread_line(alloc, error)?;
-    refusal(alloc, line.as_str())
-}
-
-fn unread_line(alloc: Global, error: CertificateError) -> Result<String, AllocError>
+/// The line of what is wrong with a text that is no certificate of the profile.
+pub(crate) fn unread_line(alloc: Global, error: CertificateError) -> Result<String, AllocError>
     ensures { IfOk result (λ text. spec.IsErrorLine error (string_bytes text)) }
 {
     match error {
@@ -118,33 +24,10 @@ fn unread_line(alloc: Global, error: CertificateError) -> Result<String, AllocEr
 }
 
 /// A fault of a certificate's text, at its line.
-fn error_text(alloc: Global, words: &str, line: usize) -> Result<String, AllocError>
+pub(crate) fn error_text(alloc: Global, words: &str, line: usize) -> Result<String, AllocError>
     ensures { IfOk result (λ text. string_bytes text ≡ spec.line_of_certificate line words.now) }
 {
     format!(in alloc; "certificate:{line}: {words}")
-}
-
-/// The verdict on a certificate.
-fn verdict(alloc: Global, profile: Profile, certificate: Certificate) -> Result<Answer, AllocError>
-    ensures { IfOk result (Judges profile certificate) }
-{
-    match check(alloc, profile, certificate) {
-        Ok(accepted) => {
-            accepted.keeps();
-            let output = String::from_str(alloc, "accepted\n")?;
-            Ok(Answer {
-                status: Status::Done,
-                output,
-            })
-        }
-        Err(refused) => match refused.error {
-            CheckError::Fault(fault) => {
-                let line = verdict_line(alloc, refused.profile.methods(), fault)?;
-                refusal(alloc, line.as_str())
-            }
-            CheckError::OutOfMemory => Err(AllocError),
-        },
-    }
 }
 
 /// The line of a fault: its code, and where it is by the profile's names.

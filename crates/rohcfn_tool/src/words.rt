@@ -2,10 +2,10 @@
 ghost use Rattle.std.specs.Prelude.{◌≡◌, ◌↔◌, None, Some, false, map, IfOk, IfErr, option_map};
 ghost use Rattle.clap.specs.Words.{app_of, kind_of, subcommand_rows_of};
 ghost use Rattle.clap.specs.declared.builder.command.Command.TheViews.{out-Command as fields_of};
-ghost use Rattle.rohcfn_tool.specs.Words.{ReadsWords, RefusesError, RefusesWords, asked, asked_in, asked_of, command_named, program, with_top};
+ghost use Rattle.rohcfn_tool.specs.Words.{ReadsWords, RefusesError, RefusesWords, asked, asked_in, asked_of, command_named, is_set, program, with_flags, with_top};
 
 use clap::error::ErrorKind;
-use clap::{Arg, ArgMatches};
+use clap::{Arg, ArgAction, ArgMatches};
 use std::alloc::{AllocError, AllocFailed, Global};
 use thiserror::Error;
 
@@ -31,11 +31,12 @@ pub enum Direction {
     Unpack,
 }
 
-/// A call: the command, and the name of the method at which it starts.
+/// A call: the command, the name of the method at which it starts, and whether the last context is printed.
 #[derive(Clone, Copy)]
 pub struct Order<'a> {
     pub command: Command,
     pub top: &'a str,
+    pub shows_context: bool,
 }
 
 /// Why words are no order. The text is clap's, for the person who called.
@@ -60,7 +61,7 @@ impl From<AllocError> for WordsError {
 }
 
 /// Reads the words that follow the program's name: a command, `pack`, `unpack`, `show`, `check` or `prove`, and
-/// its flag `--top NAME`.
+/// its flags: `--top NAME`, and for `pack` and `unpack` also `--context`.
 ///
 /// The clauses say it by clap's own account of a command line (`asked_of`), on which clap's parse is
 /// proved exact. They say nothing of the text, and not which usage fault it tells.
@@ -90,8 +91,8 @@ const NO_ORDER: &str = "error: a command and --top NAME are needed\n";
 fn program<'a>(alloc: Global) -> Result<clap::Command<'a>, AllocError>
     ensures { IfOk result (λ command. app_of command ≡ program) }
 {
-    let pack = with_top(alloc, "pack", "Packs the part items")?;
-    let unpack = with_top(alloc, "unpack", "Unpacks the part packets")?;
+    let pack = with_flags(alloc, "pack", "Packs the part items")?;
+    let unpack = with_flags(alloc, "unpack", "Unpacks the part packets")?;
     let show = with_top(
         alloc,
         "show",
@@ -115,7 +116,7 @@ fn program<'a>(alloc: Global) -> Result<clap::Command<'a>, AllocError>
         .subcommand(prove)
 }
 
-// A command with its flag.
+// A command with the flag `--top`.
 fn with_top<'a>(
     alloc: Global,
     name: &'a str,
@@ -132,6 +133,22 @@ fn with_top<'a>(
     clap::Command::new(alloc, name).about(about).arg(top)
 }
 
+// A command with both flags.
+fn with_flags<'a>(
+    alloc: Global,
+    name: &'a str,
+    about: &'a str,
+) -> Result<clap::Command<'a>, AllocError>
+    ensures app { IfOk result (λ command. app_of command ≡ with_flags name.entry.now) }
+    ensures local { IfOk result (λ command. (fields_of command).has_globals ≡ false) }
+{
+    let context = Arg::new(alloc, "context")
+        .long("context")
+        .help("Prints the last context after the lines")
+        .action(ArgAction::SetTrue);
+    with_top(alloc, name, about)?.arg(context)
+}
+
 // The order in what clap read.
 fn order_in<'a>(matches: &ArgMatches<'a>) -> Option<Order<'a>>
     ensures { option_map asked result ≡ asked_in (subcommand_rows_of matches.now) }
@@ -139,7 +156,22 @@ fn order_in<'a>(matches: &ArgMatches<'a>) -> Option<Order<'a>>
     let (name, flags) = matches.subcommand()?;
     let command = command_of(name)?;
     let top = flags.get_str("top")?;
-    Some(Order { command, top })
+    let shows_context = is_set(flags.get_str("context"));
+    Some(Order {
+        command,
+        top,
+        shows_context,
+    })
+}
+
+// Whether the text of a flag says that it was given.
+fn is_set(text: Option<&str>) -> bool
+    ensures { result ≡ is_set (option_map (λ text. text.now) text.entry) }
+{
+    match text {
+        Some(text) => text == "true",
+        None => false,
+    }
 }
 
 fn command_of(name: &str) -> Option<Command>

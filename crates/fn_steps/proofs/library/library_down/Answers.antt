@@ -1,4 +1,4 @@
-use Rattle.std.proofs.Common.{◌≡◌, ◌∙◌, sym, ap}
+use Rattle.std.proofs.Common.{◌∙◌, sym, ap}
 use Rattle.std.specs.Prelude.{slice_get}
 use Rattle.fn_steps.proofs.Measures.{all_asked}
 use Rattle.fn_steps.proofs.Sides.{down_finds}

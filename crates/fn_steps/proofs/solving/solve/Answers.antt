@@ -1,4 +1,4 @@
-use Rattle.std.proofs.Common.{◌≡◌, ◌∙◌, sym, ap}
+use Rattle.std.proofs.Common.{◌∙◌, ap}
 use Rattle.std.specs.Prelude.{option_map, pos}
 use Rattle.fn_steps.proofs.Equations.{solve_finds}
 use Rattle.fn_steps.proofs.solving.solve.Goals as goal

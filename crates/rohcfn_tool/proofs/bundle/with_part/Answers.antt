@@ -1,5 +1,5 @@
 use Rattle.std.proofs.Common.{◌∙◌, sym}
-use Rattle.rohcfn_tool.proofs.BundleHeld.{held_words, held_profile, held_certificate, held_items, held_packets}
+use Rattle.rohcfn_tool.proofs.BundleHeld.{held_words, held_profile, held_certificate, held_context, held_items, held_packets}
 use Rattle.rohcfn_tool.proofs.bundle.with_part.Goals as goal
 
 pub returns-then-is_none-clause-held : goal.returns-then-is_none-clause-held
@@ -12,7 +12,10 @@ pub returns-then-is_none-3-clause-held : goal.returns-then-is_none-3-clause-held
 returns-then-is_none-3-clause-held c = λ before held. held_certificate c.args.parts before c.args.name.now c.args.text held (sym c.eq-else-eq-2.ensures ∙ c.if-eq-3.true) c.if-is_none-3.ensures
 
 pub returns-then-is_none-4-clause-held : goal.returns-then-is_none-4-clause-held
-returns-then-is_none-4-clause-held c = λ before held. held_items c.args.parts before c.args.name.now c.args.text held (sym c.eq-else-eq-3.ensures ∙ c.if-eq-4.true) c.if-is_none-4.ensures
+returns-then-is_none-4-clause-held c = λ before held. held_context c.args.parts before c.args.name.now c.args.text held (sym c.eq-else-eq-3.ensures ∙ c.if-eq-4.true) c.if-is_none-4.ensures
 
 pub returns-then-is_none-5-clause-held : goal.returns-then-is_none-5-clause-held
-returns-then-is_none-5-clause-held c = λ before held. held_packets c.args.parts before c.args.name.now c.args.text held (sym c.eq-else-eq-4.ensures ∙ c.if-eq-5.true) c.if-is_none-5.ensures
+returns-then-is_none-5-clause-held c = λ before held. held_items c.args.parts before c.args.name.now c.args.text held (sym c.eq-else-eq-4.ensures ∙ c.if-eq-5.true) c.if-is_none-5.ensures
+
+pub returns-then-is_none-6-clause-held : goal.returns-then-is_none-6-clause-held
+returns-then-is_none-6-clause-held c = λ before held. held_packets c.args.parts before c.args.name.now c.args.text held (sym c.eq-else-eq-5.ensures ∙ c.if-eq-6.true) c.if-is_none-6.ensures

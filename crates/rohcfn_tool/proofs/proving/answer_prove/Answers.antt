@@ -1,4 +1,4 @@
-use Rattle.rohcfn_tool.proofs.Checking.{proved_by_profile, proof_refused}
+use Rattle.rohcfn_tool.proofs.Certificates.{proved_by_profile, proof_refused}
 use Rattle.rohcfn_tool.proofs.proving.answer_prove.Goals as goal
 
 pub returns-in-Ok : goal.returns-in-Ok

@@ -1,4 +1,4 @@
-use Rattle.rohcfn_tool.proofs.Checking.{certificate_printed, none_proved_line}
+use Rattle.rohcfn_tool.proofs.Certificates.{certificate_printed, none_proved_line}
 use Rattle.rohcfn_tool.proofs.proving.prove_profile.Goals as goal
 
 pub returns-in_ok-output-in-Ok : goal.returns-in_ok-output-in-Ok

@@ -1,18 +1,23 @@
-use Rattle.rohcfn_tool.specs.Printed.{no_profile}
-use Rattle.rohcfn_tool.proofs.Replying.{refused_order, order_ran, order_shown, order_checked, order_proved}
+use Rattle.std.proofs.Common.{refl}
+use Rattle.rohcfn_tool.specs.Printed.{Answered, AnsweredRun, CheckedOctets, ProvedOctets, ShownBy, no_profile, shown, checked, proved, ran}
+use Rattle.rohcfn_tool.proofs.Replying.{passed_on, refusal_is}
 use Rattle.rohcfn_tool.proofs.replies.answer.Goals as goal
 
 pub returns-in_default : goal.returns-in_default
-returns-in_default c = refused_order _ _ _ _ (no_profile c.in_default.is) c.refusal.ensures
+returns-in_default c = refusal_is (Answered c.args.order.now c.args.parts.now) _ _ c.refusal.result (no_profile c.in_default.is) refl c.refusal.ensures
 
 pub returns-in-Show : goal.returns-in-Show
-returns-in-Show c = order_shown _ _ c.in-Some.profile _ c.in-Some.is c.in-Show.is c.answer_listing.ensures
-
-pub returns-in-Run : goal.returns-in-Run
-returns-in-Run c = order_ran _ _ c.in-Run.direction c.in-Some.profile _ c.in-Some.is c.in-Run.is c.answer_run.ensures
+returns-in-Show c =
+    passed_on (ShownBy c.args.order.now.top.now c.in-Some.profile.now) (Answered c.args.order.now c.args.parts.now) c.answer_listing.result (λ s out h. shown c.in-Some.profile c.in-Some.is c.in-Show.is h) c.answer_listing.ensures
 
 pub returns-in-Check : goal.returns-in-Check
-returns-in-Check c = order_checked _ _ c.in-Some.profile _ c.in-Some.is c.in-Check.is c.answer_check.ensures
+returns-in-Check c =
+    passed_on (CheckedOctets c.args.order.now.top.now c.in-Some.profile.now c.args.parts.now.certificate) (Answered c.args.order.now c.args.parts.now) c.answer_check.result (λ s out h. checked c.in-Some.profile c.in-Some.is c.in-Check.is h) c.answer_check.ensures
 
 pub returns-in-Prove : goal.returns-in-Prove
-returns-in-Prove c = order_proved _ _ c.in-Some.profile _ c.in-Some.is c.in-Prove.is c.answer_prove.ensures
+returns-in-Prove c =
+    passed_on (ProvedOctets c.args.order.now.top.now c.in-Some.profile.now) (Answered c.args.order.now c.args.parts.now) c.answer_prove.result (λ s out h. proved c.in-Some.profile c.in-Some.is c.in-Prove.is h) c.answer_prove.ensures
+
+pub returns-in-Run : goal.returns-in-Run
+returns-in-Run c =
+    passed_on (AnsweredRun c.in-Run.direction c.args.order.now c.in-Some.profile.now c.args.parts.now) (Answered c.args.order.now c.args.parts.now) c.answer_run.result (λ s out h. ran c.in-Some.profile c.in-Run.direction c.in-Some.is c.in-Run.is h) c.answer_run.ensures

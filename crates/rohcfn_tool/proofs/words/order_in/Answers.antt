@@ -1,9 +1,9 @@
-use Rattle.std.proofs.Common.{◌≡◌, ◌∙◌, ap, Some, None, option_map, codes, rules}
+use Rattle.std.proofs.Common.{◌≡◌, ◌∙◌, ap, refl, Some, None, option_map, codes, rules}
 use Rattle.clap.proofs.WalkLemmas.{first_value-rows}
 use Rattle.clap.specs.Words.{found_of, rows_of, subcommand_rows_of}
 use Rattle.clap.specs.declared.parser.matches.ArgMatches.TheViews.{out-ArgMatches}
-use Rattle.rohcfn_tool.specs.Words.{asked}
-use Rattle.rohcfn_tool.proofs.WordsLemmas.{asked_by_parts, subcommand_read}
+use Rattle.rohcfn_tool.specs.Words.{asked, is_set}
+use Rattle.rohcfn_tool.proofs.WordsLemmas.{asked_by_parts, asked_without_top, subcommand_read}
 use Rattle.rohcfn_tool.proofs.words.order_in.Goals as goal
 
 pub returns-in_err-top : goal.returns-in_err-top
@@ -12,10 +12,11 @@ returns-in_err-top c =
     subcommand_read (out-ArgMatches c.args.matches.now).subcommand (Some (c.in_ok-name.name, c.in_ok-name.flags)) c.in_ok-name.ensures.name c.in_ok-name.ensures.rows in
     let none : c.from_residual-in_err-top.result ≡ None = search rules in
     let top = c.in_err-top.ensures ∙ first_value-rows (found_of c.in_ok-name.flags.now) (codes "top") in
-    ap (option_map asked) none ∙ asked_by_parts _ _ _ (Some c.in_ok-command.command) None met c.in_ok-command.ensures top
+    ap (option_map asked) none ∙ asked_without_top _ _ _ (Some c.in_ok-command.command) None met c.in_ok-command.ensures top refl
 
 pub returns : goal.returns
 returns c =
     let met : subcommand_rows_of c.args.matches.now ≡ Some (c.in_ok-name.name.now, rows_of (found_of c.in_ok-name.flags.now)) =
     subcommand_read (out-ArgMatches c.args.matches.now).subcommand (Some (c.in_ok-name.name, c.in_ok-name.flags)) c.in_ok-name.ensures.name c.in_ok-name.ensures.rows in
-    asked_by_parts _ _ _ (Some c.in_ok-command.command) (Some c.in_ok-top.top.now) met c.in_ok-command.ensures (c.in_ok-top.ensures ∙ first_value-rows (found_of c.in_ok-name.flags.now) (codes "top"))
+    let set = c.is_set-shows_context.ensures ∙ ap is_set (c.get_str-2.ensures ∙ first_value-rows (found_of c.in_ok-name.flags.now) (codes "context")) in
+    asked_by_parts _ _ _ (Some c.in_ok-command.command) (Some c.in_ok-top.top.now) c.is_set-shows_context.result met c.in_ok-command.ensures (c.in_ok-top.ensures ∙ first_value-rows (found_of c.in_ok-name.flags.now) (codes "top")) set

@@ -1,10 +1,8 @@
-use Rattle.std.proofs.Common.{◌≡◌, ◌∙◌, sym, ap, subst, ◌<◌, ◌^◌, length}
-use Rattle.std.specs.Prelude.{slice_get, slice_set, Some}
+use Rattle.std.proofs.Common.{◌∙◌, sym, ap, subst, ◌<◌, ◌^◌, length}
+use Rattle.std.specs.Prelude.{slice_get}
 use Rattle.fn_expr.specs.declared.expr.Side.TheVariants.{Uncompressed, Compressed}
-use Rattle.fn_rules.specs.declared.slots.Slot.{Slot}
-use Rattle.fn_rules.specs.Numbers.{slot_numbers}
 use Rattle.fn_level.specs.Joined.{joined_bits}
-use Rattle.fn_level.specs.Level.{bounds_at, whole_numbers}
+use Rattle.fn_level.specs.Level.{whole_numbers}
 use Rattle.fn_level.specs.Sides.{LearnsAt}
 use Rattle.fn_level.proofs.Kept.{short_after, up_to_date_after}
 use Rattle.fn_level.proofs.level.Level.learn.Goals as goal

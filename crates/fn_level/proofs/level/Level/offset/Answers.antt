@@ -1,4 +1,4 @@
-use Rattle.std.proofs.Common.{◌≡◌, ◌∙◌, sym, ap, subst, ◌<◌, ◌^◌, length}
+use Rattle.std.proofs.Common.{◌∙◌, sym, ap, subst, ◌<◌, ◌^◌, length}
 use Rattle.fn_rules.specs.Facts.{before}
 use Rattle.fn_level.specs.Joined.{joined_bits}
 use Rattle.fn_level.specs.Level.{parts_of}

@@ -1,0 +1,42 @@
+-- What a candidate tells of an item.
+use Rattle.std.specs.Prelude.{◌≡◌, ℕ, ◌+◌, ◌<◌, ◌≤◌, Some, slice_get}
+use Rattle.fn_context.specs.Entries.{Entries, bits_at}
+use Rattle.fn_filling.specs.declared.filling.Filling.{Filling}
+use Rattle.fn_filling.specs.declared.filling.Item.{Item}
+use Rattle.fn_filling.specs.Fillings.{item}
+use Rattle.fn_best.specs.Codes.{number}
+use Rattle.fn_best.specs.Packing.{NoneAmong}
+use Rattle.fn_writing.specs.Writing.{IsNumbered, top_site}
+use Rattle.fn_checker.specs.Accepted.{Accepting}
+use Rattle.fn_engine.specs.declared.search.Tried.{Tried}
+use Rattle.fn_engine.specs.declared.search.Tried.TheVariants.{Found, Passed}
+use Rattle.fn_engine.specs.Reading.{Fitting}
+
+-- the filling fits, has the item and the number c, and is the only one
+pub record IsFound (a : Accepting) (ctx : Entries) (it : Item) (c : ℕ) (f : Filling) : Type 0 where
+  pub fits : Fitting a ctx f
+  pub has : item f ≡ it
+  pub number_is : number a.profile.methods a.certificate a.counts f a.profile.top ≡ c
+  pub alone : (g : Filling) → Fitting a ctx g → item g ≡ it → number a.profile.methods a.certificate a.counts g a.profile.top ≡ c → g ≡ f
+
+-- no filling that fits and has the item has one of so many numbers from c on, of which there are so many
+pub record IsPassed (a : Accepting) (ctx : Entries) (it : Item) (c skipped : ℕ) : Type 0 where
+  pub some : 0 < skipped
+  pub within : (n : ℕ) → slice_get a.counts a.profile.top ≡ Some n → c + skipped ≤ n
+  pub none : NoneAmong a.profile.methods a.certificate a.counts a.profile.top (bits_at ctx) it c skipped
+
+abbrev pub IsTried : Accepting → Entries → Item → ℕ → Tried → Type 0
+IsTried a ctx it c (Found f) = IsFound a ctx it c f
+IsTried a ctx it c (Passed skipped) = IsPassed a ctx it c skipped
+
+-- the number is one of the top's candidates
+abbrev pub IsBelow : Accepting → ℕ → Type 0
+IsBelow a c = (n : ℕ) → slice_get a.counts a.profile.top ≡ Some n → c < n
+
+-- of each of the top's numbers, where no other filling that begins the item has it
+abbrev pub Tells : Accepting → Entries → Item → Filling → Tried → Type 0
+Tells a ctx it f t = (c : ℕ) → IsBelow a c → IsNumbered a.profile.methods a.certificate a.counts (bits_at ctx) (top_site a.profile.top it) c f → IsTried a ctx it c t
+
+-- no filling that fits has the item
+abbrev pub NoneHas : Accepting → Entries → Item → Type 0
+NoneHas a ctx it = (f : Filling) → Fitting a ctx f → item f ≡ it → ⊥

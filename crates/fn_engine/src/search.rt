@@ -1,0 +1,128 @@
+//! The search for the best filling for an item, through the numbers of the top's candidates.
+
+ghost use Rattle.std.specs.Prelude.{◌≡◌, ◌≤◌, ◌↔◌, IsTrue, IfOk, IfSome, IfNone, length};
+ghost use Rattle.fn_context.specs.Entries.{bits_at};
+ghost use Rattle.fn_filling.specs.Fillings as sides;
+ghost use Rattle.fn_best.specs.Best.{Best};
+ghost use Rattle.fn_engine.specs.Searching as spec;
+
+use crate::top::{CALL_DEPTH, fits, top_place};
+use fn_bits::{BitsError, Cursor};
+use fn_checker::Accepted;
+use fn_context::Context;
+use fn_filling::{AskedValue, Filling, Item};
+use fn_writer::{WriteFault, write_method};
+use std::alloc::{AllocError, Global};
+
+/// What a candidate tells.
+#[derive(Drop)]
+pub(crate) enum Tried {
+    /// It is the only one of its number that may fit and have the item, and it does.
+    Found(Filling),
+    /// No candidate with one of so many numbers from its own on fits and has the item.
+    Passed(u64),
+}
+
+/// The best filling for an item, or None where no filling that fits has it.
+pub(crate) fn best(
+    alloc: Global,
+    accepted: &Accepted,
+    context: &Context,
+    item: &Item,
+) -> Result<Option<Filling>, AllocError>
+    requires { length item.now.header ≤ 4096 }
+    ensures found { IfOk result (λ o. IfSome o (Best accepted.now.profile.methods accepted.now.certificate accepted.now.profile.top (bits_at context.now) item.now)) }
+    ensures none { IfOk result (λ o. IfNone o (spec.NoneHas accepted.now context.now item.now)) }
+{
+    accepted.keeps();
+    let profile = accepted.profile();
+    profile.keeps();
+    let count = accepted.counts()[profile.top()];
+    let mut number = 0;
+    while number < count {
+        match candidate(alloc, accepted, context, item, number)? {
+            Tried::Found(filling) => return Ok(Some(filling)),
+            Tried::Passed(skipped) => number += skipped,
+        }
+    }
+    Ok(None)
+}
+
+/// What the candidate with this number tells.
+fn candidate(
+    alloc: Global,
+    accepted: &Accepted,
+    context: &Context,
+    item: &Item,
+    number: u64,
+) -> Result<Tried, AllocError>
+    requires short { length item.now.header ≤ 4096 }
+    requires below { spec.IsBelow accepted.now number }
+    ensures { IfOk result (spec.IsTried accepted.now context.now item.now number) }
+{
+    let place = top_place(accepted, context);
+    let source = Cursor::new(&item.header);
+    let asked = item.asked.as_slice();
+    match write_method(CALL_DEPTH, alloc, &place, &source, 0, asked, number) {
+        Ok(filling) => judged(alloc, accepted, context, item, filling),
+        Err(WriteFault::Failed(skipped)) => Ok(Tried::Passed(skipped)),
+        Err(WriteFault::OutOfMemory) => Err(AllocError),
+    }
+}
+
+/// What a filling tells that is the only one which may have the number.
+fn judged(
+    alloc: Global,
+    accepted: &Accepted,
+    context: &Context,
+    item: &Item,
+    filling: Filling,
+) -> Result<Tried, AllocError>
+    requires { length item.now.header ≤ 4096 }
+    ensures { IfOk result (λ t. spec.Tells accepted.now context.now item.now filling t) }
+{
+    if has_item(alloc, item, &filling)? && fits(alloc, accepted, context, &filling)? {
+        Ok(Tried::Found(filling))
+    } else {
+        Ok(Tried::Passed(1))
+    }
+}
+
+/// Whether the filling has the item.
+fn has_item(alloc: Global, item: &Item, filling: &Filling) -> Result<bool, AllocError>
+    requires { length item.now.header ≤ 4096 }
+    ensures { IfOk result (λ b. IsTrue b ↔ (sides.item filling.now ≡ item.now)) }
+{
+    match filling.item(alloc) {
+        Ok(own) => Ok(are_same(&own, item)),
+        Err(BitsError::Full) => Ok(false),
+        Err(BitsError::OutOfMemory) => Err(AllocError),
+    }
+}
+
+fn are_same(one: &Item, other: &Item) -> bool
+    ensures { IsTrue result ↔ (one.now ≡ other.now) }
+{
+    one.header == other.header && have_same(one.asked.as_slice(), other.asked.as_slice())
+}
+
+/// Whether the two lists have the same names with the same bits, in one order.
+fn have_same(values: &[AskedValue], others: &[AskedValue]) -> bool
+    ensures { IsTrue result ↔ (values.now ≡ others.now) }
+{
+    if values.len() != others.len() {
+        return false;
+    }
+    for i in 0..values.len() {
+        if !is_same(&values[i], &others[i]) {
+            return false;
+        }
+    }
+    true
+}
+
+fn is_same(value: &AskedValue, other: &AskedValue) -> bool
+    ensures { IsTrue result ↔ (value.now ≡ other.now) }
+{
+    value.name.as_str() == other.name.as_str() && value.bits == other.bits
+}

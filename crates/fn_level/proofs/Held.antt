@@ -1,0 +1,83 @@
+-- A filling is kept inside a field.
+use Rattle.std.proofs.Common.{◌≡◌, refl, sym, ◌∙◌, ap, subst, ℕ, zero, suc, ◌⊎◌, inl, inr, List, [], ◌∷◌, length, map}
+use Rattle.std.specs.Prelude.{Some, None, slice_get, slice_set, option_map, pos, if◌then◌else◌}
+use Rattle.std.specs.List.{flat_map, list_all}
+use Rattle.std.proofs.lemmas.Option.{same_Some}
+use Rattle.fn_expr.specs.declared.expr.Side.{Side}
+use Rattle.fn_expr.specs.declared.expr.Side.TheVariants.{Uncompressed, Compressed}
+use Rattle.fn_expr.specs.declared.known.Known.{Known}
+use Rattle.fn_normal.specs.declared.profile.Sizes.{Sizes}
+use Rattle.fn_normal.specs.declared.profile.FormatSizes.{FormatSizes}
+use Rattle.fn_normal.specs.declared.profile.Format.{Format}
+use Rattle.fn_bounds.specs.Faults.{side_bounds}
+use Rattle.fn_filling.specs.declared.filling.Filling.{Filling}
+use Rattle.fn_rules.specs.declared.slots.Slot.{Slot}
+use Rattle.fn_rules.specs.Numbers.{LearntLies, slot_numbers, known_of}
+use Rattle.fn_rules.specs.Numbers as rules
+use Rattle.fn_rules.specs.Slots.{has_length, has_bits, side_of_slot, learnt_at, bits_of}
+use Rattle.fn_level.specs.Joined.{narrow}
+use Rattle.fn_level.specs.Level.{IsKept, IsUpToDate, parts_of, joined_numbers}
+use Rattle.fn_level.proofs.Changed.{set_length, set_cases}
+use Rattle.fn_level.proofs.Parts.{side_numbers}
+
+abbrev pub with_inner : Filling → Slot → Slot
+with_inner g s = record { uncompressed = s.uncompressed; compressed = s.compressed; inner = Some g }
+
+module _ (g : Filling) where
+  -- both sides of each field are as they were
+  sides_same : (slots : List Slot) (i : ℕ) (s : Slot) → slice_get slots i ≡ Some s → (j : ℕ) (side : Side) → learnt_at slots j side ≡ learnt_at (slice_set slots i (with_inner g s)) j side
+  sides_same [] i s e j side = absurd (cc)
+  sides_same (t ∷ ts) zero s e zero Uncompressed = ap (λ x. x.uncompressed) (same_Some t s e)
+  sides_same (t ∷ ts) zero s e zero Compressed = ap (λ x. x.compressed) (same_Some t s e)
+  sides_same (t ∷ ts) zero s e (suc j) side = refl
+  sides_same (t ∷ ts) (suc i) s e zero side = refl
+  sides_same (t ∷ ts) (suc i) s e (suc j) side = sides_same ts i s e j side
+
+  -- so are its numbers
+  fields_same : (slots : List Slot) (i : ℕ) (s : Slot) → slice_get slots i ≡ Some s → map slot_numbers slots ≡ map slot_numbers (slice_set slots i (with_inner g s))
+  fields_same [] i s e = absurd (cc)
+  fields_same (t ∷ ts) zero s e = ap (λ x. slot_numbers x ∷ map slot_numbers ts) (same_Some t s e)
+  fields_same (t ∷ ts) (suc i) s e = ap (λ xs. slot_numbers t ∷ xs) (fields_same ts i s e)
+
+  module _ (format : Format) (sizes : FormatSizes) (slots : List Slot) (i : ℕ) (s : Slot) (at : slice_get slots i ≡ Some s) where
+    abbrev slots_now : List Slot
+    slots_now = slice_set slots i (with_inner g s)
+
+    kept_held : (known : Known) → IsKept (record { format = format; sizes = sizes; args = known.parameters; slots = slots }) → IsKept (record { format = format; sizes = sizes; args = known.parameters; slots = slots_now })
+    kept_held known kept = record {
+      placed = kept.placed;
+      count = set_length slots i (with_inner g s) ∙ kept.count;
+      within = λ j x b side at_x at_b. by j x b side at_b (set_cases slots i (with_inner g s) j x at_x);
+    }
+      where
+        same_side : (side : Side) → side_of_slot side s ≡ side_of_slot side (with_inner g s)
+        same_side Uncompressed = refl
+        same_side Compressed = refl
+
+        by : (j : ℕ) (x : Slot) (b : Sizes) (side : Side) → slice_get sizes.fields j ≡ Some b → ((j ≡ i) × (with_inner g s ≡ x)) ⊎ (slice_get slots j ≡ Some x) → LearntLies (side_bounds side b) (side_of_slot side x)
+        by j x b side at_b (inr there) = kept.within j x b side there at_b
+        by j x b side at_b (inl h) =
+            subst (LearntLies (side_bounds side b)) (same_side side ∙ ap (side_of_slot side) h.1) (kept.within i s b side at (ap (slice_get sizes.fields) (sym h.0) ∙ at_b))
+
+    whole_same : (side : Side) → joined_numbers slots side (parts_of format side) ≡ joined_numbers slots_now side (parts_of format side)
+    whole_same side =
+        let fields = parts_of format side in
+        λ k. record {
+          value = option_map pos (if list_all (λ j. has_bits (sides_same slots i s at j side k)) fields then narrow (flat_map (λ j. bits_of (sides_same slots i s at j side k)) fields) else None);
+          length = option_map pos (if list_all (λ j. has_length (sides_same slots i s at j side k)) fields then Some (length (flat_map (λ j. bits_of (sides_same slots i s at j side k)) fields)) else None);
+        }
+
+    pub up_to_date_held : (headers : List ℕ) (known : Known) → IsUpToDate format sizes headers slots known → IsUpToDate format sizes headers slots_now known
+    up_to_date_held headers known was =
+        let kept = kept_held known was.kept in
+        let whole : (side : Side) → rules.whole_numbers format slots side ≡ rules.whole_numbers format slots_now side =
+        λ side. sym (side_numbers format slots was.kept.count side) ∙ (whole_same side ∙ side_numbers format slots_now kept.count side) in
+        record {
+          kept = kept;
+          headers_are = was.headers_are;
+          known_is = was.known_is ∙ (λ k. record {
+            fields = fields_same slots i s at k;
+            whole = record { uncompressed = whole Uncompressed k; compressed = whole Compressed k };
+            parameters = known.parameters;
+          });
+        }

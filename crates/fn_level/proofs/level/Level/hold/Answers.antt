@@ -1,0 +1,23 @@
+use Rattle.std.proofs.Common.{◌≡◌, ◌∙◌, sym, ap, subst, refl, ◌<◌, length}
+use Rattle.std.proofs.lemmas.Option.{slice_get_read}
+use Rattle.std.specs.Prelude.{Some, slice_get, slice_set}
+use Rattle.fn_level.proofs.Held.{with_inner, up_to_date_held}
+use Rattle.fn_level.proofs.level.Level.hold.Goals as goal
+
+here : (c : goal.Joined-index_mut) → slice_get c.self.inside.slots.items c.args.field ≡ Some c.index_mut.result.now
+here c =
+    let xs = c.self.inside.slots.items in
+    slice_get_read xs (length xs) c.args.field c.index_mut.result.now refl (subst (λ z. c.args.field < length z.slots) (sym c.self.view_is) c.requires.within) c.index_mut.ensures.value
+
+pub invariant_of-self : goal.invariant_of-self
+invariant_of-self c = let i = c.self.inside in up_to_date_held c.args.inner i.format.now i.sizes.now i.slots.items c.args.field c.index_mut.result.now (here c) i.headers i.known c.self.invariant
+
+pub returns : goal.returns
+returns c = record {
+  format_is = ap (λ z. z.format) c.self.view_is;
+  sizes_are = ap (λ z. z.sizes) c.self.view_is;
+  args_are = ap (λ z. z.args) c.self.view_is;
+  slot = c.index_mut.result.now;
+  slot_is = ap (λ z. slice_get z.slots c.args.field) (sym c.self.view_is) ∙ here c;
+  slots_are = ap (λ z. slice_set z.slots c.args.field (with_inner c.args.inner c.index_mut.result.now)) c.self.view_is;
+}

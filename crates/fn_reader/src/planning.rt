@@ -1,0 +1,110 @@
+//! The tree and the plans by which a method is read.
+
+ghost use Rattle.std.specs.Prelude.{drop, IfOk, IfErr, IfSome, IfNone, ◌≡◌};
+ghost use Rattle.std.specs.Option.{option_copied};
+ghost use Rattle.fn_context.specs.Entries as contexts;
+ghost use Rattle.fn_rules.specs.Counts as counts;
+ghost use Rattle.fn_rules.specs.Reading.{OneFormat, IsMade};
+ghost use Rattle.fn_rules.specs.Valid as valid;
+ghost use Rattle.fn_walk.specs.Standing.{Stands};
+ghost use Rattle.fn_reader.specs.Reading as spec;
+ghost use Rattle.fn_reader.specs.Walking as walking;
+
+use crate::fault::{Blamed, ReadFault};
+use crate::tree::{Lead, follow};
+use fn_bits::Cursor;
+use fn_cert::{MethodPlans, Plans, Step};
+use fn_filling::Filling;
+use fn_holds::level_fits;
+use fn_level::Level;
+use fn_walk::Place;
+use std::alloc::Global;
+
+/// The format to which the method's tree leads for the bits so many places after the cursor's, by its index. The error is Short or Refused.
+pub(crate) fn picked(
+    place: &Place<'_>,
+    cursor: &Cursor<'_>,
+    from: usize,
+) -> Result<usize, ReadFault>
+    requires stands { Stands place.now }
+    ensures found { IfOk result (OneFormat place.now.accepted.now.profile.methods (contexts.bits_at place.now.context.now) (spec.spot_of place.now (drop from cursor.now.left))) }
+    ensures fault { IfErr result (λ e. spec.Blames e place.now (drop from cursor.now.left)) }
+    ensures few { IfErr result (λ e. spec.AreFew e 0 (drop from cursor.now.left)) }
+{
+    place.accepted.keeps();
+    place.accepted.profile().keeps();
+    place.accepted.certificate().keeps();
+    let nowhere = ReadFault::Refused(Blamed {
+        method: place.method,
+        format: None,
+    });
+    let Some(entry) = entry_at(place.accepted.certificate().methods(), place.method) else {
+        return Err(nowhere);
+    };
+    match follow(entry.tree.as_slice(), place.arguments, cursor, from) {
+        Lead::Format(format) => Ok(format),
+        Lead::Nowhere => Err(nowhere),
+        Lead::CutOff => Err(ReadFault::Short),
+    }
+}
+
+/// What the certificate says of a method.
+fn entry_at(entries: &[Option<MethodPlans>], method: usize) -> Option<&MethodPlans>
+    ensures { option_copied result ≡ counts.entry_at entries.now method }
+{
+    entries.get(method)?.as_ref()
+}
+
+/// The plan by which the format, by its index, is read; none where the method has no such format.
+pub(crate) fn plan_of<'a>(place: &Place<'a>, format: usize) -> Option<&'a [Step]>
+    requires stands { Stands place.now }
+    ensures found { IfSome result (λ steps. walking.IsPlanOf place.now format steps.now) }
+    ensures none { IfNone result (walking.LacksFormat place.now format) }
+{
+    place.accepted.keeps();
+    place.accepted.profile().keeps();
+    let Some(entry) = entry_at(place.accepted.certificate().methods(), place.method) else {
+        return None;
+    };
+    let Some(plans) = plans_at(entry, format) else {
+        return None;
+    };
+    Some(plans.read.as_slice())
+}
+
+/// The plans of a format.
+fn plans_at(entry: &MethodPlans, format: usize) -> Option<&Plans>
+    ensures { option_copied result ≡ valid.plans_at entry.now format }
+{
+    entry.formats.get(format)?.plans.as_ref()
+}
+
+/// The filling of a level of which all is known. The error is Refused, where it doesn't fit, or want of memory.
+pub(crate) fn finished(
+    alloc: Global,
+    place: &Place<'_>,
+    format: usize,
+    level: Level<'_>,
+) -> Result<Filling, ReadFault>
+    requires stands { Stands place.now }
+    ensures made { IfOk result (IsMade format level.entry.format level.entry.slots) }
+    ensures fault { IfErr result (λ e. walking.BlamesEnd e place.now format level.entry) }
+{
+    let refused = ReadFault::Refused(Blamed {
+        method: place.method,
+        format: Some(format),
+    });
+    let Some(filling) = level.into_filling(alloc, format)? else {
+        return Err(refused);
+    };
+    let fits = level_fits(
+        alloc,
+        place.accepted.profile(),
+        place.context,
+        place.method,
+        place.arguments,
+        place.path,
+        &filling,
+    )?;
+    if fits { Ok(filling) } else { Err(refused) }
+}

@@ -1,0 +1,12 @@
+pub mod Offsets
+pub mod Passing
+pub mod Chosen
+pub mod Called
+pub mod Starting
+pub mod Ended
+pub mod Begun
+pub mod Inner
+pub mod Whole
+pub mod Learning
+pub mod Choosing
+pub mod Taken

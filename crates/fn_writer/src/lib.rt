@@ -1,0 +1,13 @@
+//! The walk that writes a filling of a method, by the number of a candidate.
+#![tactic(auto)]
+
+pub use fault::WriteFault;
+pub use writing::write_method;
+
+mod beginning;
+mod calling;
+mod ending;
+pub mod fault;
+mod stepping;
+mod taking;
+pub mod writing;

@@ -1,0 +1,127 @@
+//! A profile with its certificate, or the line of what is wrong with them.
+
+ghost use Rattle.std.specs.Prelude.{◌≡◌, ℕ, List, None, Option, Some, IfOk, string_bytes};
+ghost use Rattle.std.specs.Borrow.{Bor};
+ghost use Rattle.std.specs.Str.{IsUtf8};
+ghost use Rattle.fn_cert.specs.Faults.{Blames};
+ghost use Rattle.fn_profile.specs.Resolved.{Resolved};
+ghost use Rattle.rohcfn_tool.specs.Accepting as spec;
+ghost use Rattle.rohcfn_tool.specs.Verdicts as verdicts;
+
+use crate::bundle::Parts;
+use crate::proving::unproved_line;
+use crate::showing::error_line;
+use crate::verdicts::{error_text, unread_line, verdict_line};
+use fn_bits::LinesError;
+use fn_bits::lines::lines;
+use fn_cert::{Certificate, CertificateError};
+use fn_checker::{Accepted, CheckError, check};
+use fn_names::read;
+use fn_profile::Profile;
+use fn_prover::prove;
+use std::alloc::{AllocError, Global};
+
+/// What is found of a profile and its certificate: both, or the line that refuses them.
+#[derive(Drop)]
+pub(crate) enum Judged {
+    Accepted(Accepted),
+    Refused(String),
+}
+
+/// The certificate of a profile, or the line of why there is none.
+#[derive(Drop)]
+pub(crate) enum Found {
+    Certificate(Certificate),
+    Line(String),
+}
+
+/// The profile that octets stand for with the certificate of the parts, which is made where none is given; or the line of the first fault: of the profile, of the
+/// certificate's text, or of the certificate.
+pub(crate) fn accept(
+    alloc: Global,
+    top: &str,
+    octets: &[u8],
+    parts: &Parts<'_>,
+) -> Result<Judged, AllocError>
+    ensures { IfOk result (spec.JudgesOctets top.now octets.now parts.now.certificate) }
+{
+    match read(alloc, octets, top.as_bytes()) {
+        Ok(profile) => judge(alloc, profile, parts),
+        Err(error) => Ok(Judged::Refused(error_line(alloc, octets, error)?)),
+    }
+}
+
+/// The verdict on a profile with its certificate.
+fn judge(alloc: Global, profile: Profile, parts: &Parts<'_>) -> Result<Judged, AllocError>
+    ensures { IfOk result (spec.IsJudged profile parts.now.certificate) }
+{
+    match find(alloc, &profile, parts)? {
+        Found::Certificate(certificate) => verdict(alloc, profile, certificate),
+        Found::Line(line) => Ok(Judged::Refused(line)),
+    }
+}
+
+/// The certificate that is given for a profile, or the one that is made.
+fn find(alloc: Global, profile: &Profile, parts: &Parts<'_>) -> Result<Found, AllocError>
+    ensures { IfOk result (spec.IsFound profile.now parts.now.certificate) }
+{
+    let Some(octets) = parts.certificate else {
+        return make(alloc, profile);
+    };
+    match str::from_utf8(octets) {
+        Ok(text) => read_text(alloc, profile, text),
+        Err(_) => Ok(Found::Line(broken(alloc, octets)?)),
+    }
+}
+
+/// The certificate that is made for a profile.
+fn make(alloc: Global, profile: &Profile) -> Result<Found, AllocError>
+    ensures { IfOk result (spec.IsFound profile.now None) }
+{
+    match prove(alloc, profile) {
+        Ok(certificate) => Ok(Found::Certificate(certificate)),
+        Err(unproved) => Ok(Found::Line(unproved_line(alloc, profile.methods(), unproved)?)),
+    }
+}
+
+/// The line of octets that are no UTF-8, by their first line that isn't.
+fn broken(alloc: Global, octets: &[u8]) -> Result<String, AllocError>
+    requires { IsUtf8 octets.now → ⊥ }
+    ensures { IfOk result (λ text. string_bytes text ≡ spec.broken_text octets.now) }
+{
+    match lines(alloc, octets) {
+        Ok(_) => unreachable!(),
+        Err(LinesError::NotText { line }) => error_text(alloc, "K1 bad word", line),
+        Err(LinesError::OutOfMemory) => Err(AllocError),
+    }
+}
+
+/// The certificate of a text.
+fn read_text(alloc: Global, profile: &Profile, text: &str) -> Result<Found, AllocError>
+    ensures { (octets : Bor (List ℕ)) → octets.now ≡ text.now → IfOk result (spec.IsFound profile.now (Some octets)) }
+{
+    match fn_cert::read(alloc, profile, text) {
+        Ok(certificate) => Ok(Found::Certificate(certificate)),
+        Err(error) => Ok(Found::Line(unread_line(alloc, error)?)),
+    }
+}
+
+/// The verdict on a profile with this certificate.
+fn verdict(alloc: Global, profile: Profile, certificate: Certificate) -> Result<Judged, AllocError>
+    ensures { IfOk result (spec.IsVerdict profile certificate) }
+{
+    match check(alloc, profile, certificate) {
+        Ok(accepted) => {
+            accepted.keeps();
+            Ok(Judged::Accepted(accepted))
+        }
+        Err(refused) => match refused.error {
+            CheckError::Fault(fault) => Ok(Judged::Refused(verdict_line(
+                alloc,
+                refused.profile.methods(),
+                fault,
+            )?)),
+            CheckError::OutOfMemory => Err(AllocError),
+        },
+    }
+}
