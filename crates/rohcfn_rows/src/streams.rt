@@ -214,7 +214,7 @@ fn tells_usage(rt: HostRuntime) {
         ),
         (["fly", "--top", "plain"].as_slice(), Status::Usage, "'fly'"),
         (
-            ["pack", "--top", "plain", "--context"].as_slice(),
+            ["check", "--top", "plain", "--context"].as_slice(),
             Status::Usage,
             "'--context'",
         ),
