@@ -1,10 +1,11 @@
 #!/usr/bin/env bash
-# Runs each example through the built program and compares what it prints; then the cases of cases/ and of built.py, and certificates with a slip against a second reading.
+# Runs each example and each step of the tutorial through the built program and compares what it prints; then what the pages show, headers of an operating system and
+# back, the cases of cases/ and of built.py, certificates with a slip against a second reading, and round trips and lines of flows against a slow search.
 set -u
 cd "$(dirname "$0")"
 passed=0
 failed=0
-for bundle in *.bundle; do
+for bundle in *.bundle tutorial/*.bundle; do
   expected=${bundle%.bundle}.expected
   if ../bin/rohcfn <"$bundle" | cmp -s - "$expected"; then
     passed=$((passed + 1))
@@ -14,7 +15,10 @@ for bundle in *.bundle; do
   fi
 done
 echo "examples: $passed passed, $failed failed"
+./pages.py || failed=1
+./flows.py line || failed=1
 ./cases.py || failed=1
 ./certificates.py || failed=1
 ./roundtrip.py || failed=1
+./lines.py || failed=1
 [ "$failed" -eq 0 ]

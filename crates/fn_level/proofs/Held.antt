@@ -25,7 +25,7 @@ with_inner g s = record { uncompressed = s.uncompressed; compressed = s.compress
 
 module _ (g : Filling) where
   -- both sides of each field are as they were
-  sides_same : (slots : List Slot) (i : ℕ) (s : Slot) → slice_get slots i ≡ Some s → (j : ℕ) (side : Side) → learnt_at slots j side ≡ learnt_at (slice_set slots i (with_inner g s)) j side
+  pub sides_same : (slots : List Slot) (i : ℕ) (s : Slot) → slice_get slots i ≡ Some s → (j : ℕ) (side : Side) → learnt_at slots j side ≡ learnt_at (slice_set slots i (with_inner g s)) j side
   sides_same [] i s e j side = absurd (cc)
   sides_same (t ∷ ts) zero s e zero Uncompressed = ap (λ x. x.uncompressed) (same_Some t s e)
   sides_same (t ∷ ts) zero s e zero Compressed = ap (λ x. x.compressed) (same_Some t s e)

@@ -6,3 +6,4 @@ pub mod Kept
 pub mod Asked
 pub mod Held
 pub mod Making
+pub mod Advancing

@@ -14,11 +14,13 @@ ghost use Rattle.fn_rules.specs.Numbers as numbers;
 ghost use Rattle.fn_rules.specs.Reading.{IsMade, start_slots, known_numbers, known_sides};
 ghost use Rattle.fn_rules.specs.Slots.{HasSide, learnt_at, knows_all};
 ghost use Rattle.fn_level.specs.Joined as joined;
+ghost use Rattle.fn_level.specs.Fronts.{IsMeasured};
 ghost use Rattle.fn_level.specs.Level as spec;
 ghost use Rattle.fn_level.specs.Sides as sides;
 
 use crate::filling::filling_of;
-use crate::joining::{joined_length, joined_value, joined_whole};
+use crate::fronts::{Front, Fronts, offset_by};
+use crate::joining::joined_whole;
 use crate::numbers::{note, numbers_of};
 use crate::slots::{are_unsent, at_start, bits_at, headers_of, learn_at, length_at};
 use fn_bits::Bits;
@@ -40,13 +42,15 @@ pub struct Level<'a> {
     headers: Items<usize>,
     slots: Vec<Slot>,
     known: Known,
+    fronts: Fronts,
 }
 
 impl<'a> Model for Level<'a> {
     ghost use Rattle.fn_expr.specs.contracts.expr.Expr as expr;
     ghost use Rattle.fn_expr.specs.contracts.expr.Cond as cond;
     ghost use Rattle.fn_filling.specs.contracts.filling.Filling as filling;
-    ghost use Rattle.fn_level.specs.Level.{Reached, IsUpToDate};
+    ghost use Rattle.fn_level.specs.Fronts.{IsInOrder};
+    ghost use Rattle.fn_level.specs.Level.{Reached};
     ghost use Rattle.std.specs.Coded.{codes};
 
     ghost Value = { Reached };
@@ -55,7 +59,7 @@ impl<'a> Model for Level<'a> {
 
     ghost view = { λ l. record { format = l.format.now; sizes = l.sizes.now; args = l.known.parameters; slots = l.slots.items } };
 
-    ghost invariant = { λ l. IsUpToDate l.format.now l.sizes.now l.headers l.slots.items l.known };
+    ghost invariant = { λ l. IsInOrder l.format.now l.sizes.now l.headers l.slots.items l.known l.fronts };
 }
 
 impl<'a> Level<'a> {
@@ -89,6 +93,10 @@ impl<'a> Level<'a> {
             headers,
             slots,
             known,
+            fronts: Fronts {
+                uncompressed: Front::at_first(),
+                compressed: Front::at_first(),
+            },
         }))
     }
 
@@ -134,6 +142,7 @@ impl<'a> Level<'a> {
         if is_learnt {
             note(
                 &mut self.known,
+                &mut self.fronts,
                 self.headers.as_slice(),
                 self.format.listing.as_slice(),
                 self.slots.as_slice(),
@@ -189,8 +198,23 @@ impl<'a> Level<'a> {
     pub fn offset(&self, field: usize, side: Side) -> Option<usize>
         ensures { result ≡ joined.joined_length self.now.slots side (before field (spec.parts_of self.now.format side)) }
     {
-        let parts = self.parts(side);
-        joined_length(self.slots.as_slice(), side, parts_before(parts, field))
+        offset_by(
+            self.front(side),
+            self.slots.as_slice(),
+            side,
+            self.parts(side),
+            field,
+        )
+    }
+
+    /// How far the parts of the side of the whole are known.
+    fn front(&self, side: Side) -> Front
+        ensures { IsMeasured self.now.slots side (spec.parts_of self.now.format side) result }
+    {
+        match side {
+            Side::Uncompressed => self.fronts.uncompressed,
+            Side::Compressed => self.fronts.compressed,
+        }
     }
 
     /// The fields whose sides are joined to that of the whole.
@@ -202,18 +226,6 @@ impl<'a> Level<'a> {
             Side::Compressed => self.format.listing.as_slice(),
         }
     }
-}
-
-/// Those of the fields that stand before the field, all of them if it isn't there.
-fn parts_before(parts: &[usize], field: usize) -> &[usize]
-    ensures { result.now ≡ before field parts.now }
-{
-    for (place, part) in parts.iter().enumerate() {
-        if *part == field {
-            return &parts[..place];
-        }
-    }
-    parts
 }
 
 /// The bounds on the length of a side of the field; none are 0 to 0.

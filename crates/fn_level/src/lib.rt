@@ -4,6 +4,7 @@
 pub use level::Level;
 
 mod filling;
+mod fronts;
 mod joining;
 pub mod level;
 mod numbers;

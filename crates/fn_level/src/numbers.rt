@@ -3,8 +3,10 @@
 ghost use Rattle.std.specs.Prelude.{◌≡◌, ◌<◌, ◌^◌, IfOk, Some, length, map, slice_get, slice_set};
 ghost use Rattle.fn_rules.specs.Numbers as numbers;
 ghost use Rattle.fn_level.specs.Joined.{joined_bits};
+ghost use Rattle.fn_level.specs.Fronts.{IsFront};
 ghost use Rattle.fn_level.specs.Level as spec;
 
+use crate::fronts::{Fronts, go_on};
 use crate::joining::{joined_length, joined_value};
 use crate::side::{bits_of, length_of};
 use fn_expr::{Known, Numbers, Side, SideNumbers};
@@ -35,9 +37,10 @@ pub(crate) fn numbers_of(
     })
 }
 
-/// Brings the numbers up to date with the slot at the index, which alone has changed.
+/// Brings the numbers and the fronts up to date with the slot at the index, which alone has changed.
 pub(crate) fn note(
     known: &mut Known,
+    fronts: &mut Fronts,
     headers: &[usize],
     listing: &[usize],
     slots: &[Slot],
@@ -47,13 +50,30 @@ pub(crate) fn note(
     requires fields { length known.old.fields ≡ length slots.now }
     requires header { length (joined_bits slots.now Side.Uncompressed headers.now) < 2 ^ 31 }
     requires packed { length (joined_bits slots.now Side.Compressed listing.now) < 2 ^ 31 }
+    requires uncompressed { IsFront slots.now Side.Uncompressed headers.now fronts.old.uncompressed known.old.whole.uncompressed }
+    requires compressed { IsFront slots.now Side.Compressed listing.now fronts.old.compressed known.old.whole.compressed }
     ensures fields { (s : Slot) → slice_get slots.now field ≡ Some s → known.new.fields ≡ slice_set known.old.fields field (numbers.slot_numbers s) }
     ensures whole { known.new.whole ≡ spec.whole_numbers slots.now headers.now listing.now }
     ensures parameters { known.new.parameters ≡ known.old.parameters }
+    ensures uncompressed { IsFront slots.now Side.Uncompressed headers.now fronts.new.uncompressed known.new.whole.uncompressed }
+    ensures compressed { IsFront slots.now Side.Compressed listing.now fronts.new.compressed known.new.whole.compressed }
 {
     let slot = slot_numbers(&slots[field]);
     known.fields.set(field, slot);
-    known.whole = whole_numbers(slots, headers, listing);
+    go_on(
+        &mut fronts.uncompressed,
+        &mut known.whole.uncompressed,
+        slots,
+        Side::Uncompressed,
+        headers,
+    );
+    go_on(
+        &mut fronts.compressed,
+        &mut known.whole.compressed,
+        slots,
+        Side::Compressed,
+        listing,
+    );
 }
 
 fn slot_numbers(slot: &Slot) -> SideNumbers

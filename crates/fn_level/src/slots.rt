@@ -4,14 +4,14 @@ ghost use Rattle.std.specs.Prelude.{◌≡◌, ◌<◌, ◌↔◌, ℕ, Bool, Li
 ghost use Rattle.std.specs.Option.{option_copied};
 ghost use Rattle.fn_bounds.specs.Fields.{lists};
 ghost use Rattle.fn_fits.specs.Bounded.{LiesBetween};
-ghost use Rattle.fn_rules.specs.Slots.{HasSide, learnt_at};
+ghost use Rattle.fn_rules.specs.Slots.{HasSide, has_bits, learnt_at};
 ghost use Rattle.fn_rules.specs.Reading.{start_slots};
 ghost use Rattle.fn_level.specs.Sides as spec;
 ghost use Rattle.fn_level.specs.Level.{AreUnsent};
 ghost use Rattle.fn_level.specs.Joined.{header_places};
 ghost use Rattle.fn_filling.specs.Fillings as fillings;
 
-use crate::side::{bits_of, learn, length_of};
+use crate::side::{bits_of, is_whole, learn, length_of};
 use fn_bits::Bits;
 use fn_expr::Side;
 use fn_normal::{Bounds, Field, Format, FormatSizes, Part};
@@ -38,6 +38,19 @@ pub(crate) fn bits_at(slots: &[Slot], field: usize, side: Side) -> Option<&Bits>
     match side {
         Side::Uncompressed => bits_of(&slot.uncompressed),
         Side::Compressed => bits_of(&slot.compressed),
+    }
+}
+
+/// Whether the bits of the side of the field are known.
+pub(crate) fn is_whole_at(slots: &[Slot], field: usize, side: Side) -> bool
+    ensures { result ≡ has_bits (learnt_at slots.now field side) }
+{
+    let Some(slot) = at(slots, field) else {
+        return false;
+    };
+    match side {
+        Side::Uncompressed => is_whole(&slot.uncompressed),
+        Side::Compressed => is_whole(&slot.compressed),
     }
 }
 

@@ -79,7 +79,8 @@ fn plans_at(entry: &MethodPlans, format: usize) -> Option<&Plans>
     entry.formats.get(format)?.plans.as_ref()
 }
 
-/// The filling of a level of which all is known. The error is Refused, where it doesn't fit, or want of memory.
+/// The filling of a level of which all is known. The error is Refused, where it doesn't fit, or want of memory. The level of the top, whose path is empty, is
+/// not judged here: who asks for it judges it as a whole.
 pub(crate) fn finished(
     alloc: Global,
     place: &Place<'_>,
@@ -97,6 +98,9 @@ pub(crate) fn finished(
     let Some(filling) = level.into_filling(alloc, format)? else {
         return Err(refused);
     };
+    if place.path.is_empty() {
+        return Ok(filling);
+    }
     let fits = level_fits(
         alloc,
         place.accepted.profile(),

@@ -1,15 +1,37 @@
--- The words of faults.
-use Rattle.std.specs.Prelude.{ℕ, List, [], ◌++◌, Option, Some, None, codes}
-use Rattle.std.specs.Str.Lossy.{utf8_lossy}
+-- The words of faults (docs/FORMATS.md).
+use Rattle.std.specs.Prelude.{ℕ, List, [], ◌++◌, Option, Some, None, codes, if◌then◌else◌}
 use Rattle.fn_source.specs.declared.span.Span.{Span}
-use Rattle.fn_normal.specs.Words.{word}
+use Rattle.fn_source.specs.declared.fault.FaultKind.{FaultKind}
+use Rattle.fn_source.specs.declared.fault.FaultKind.TheVariants as t
+use Rattle.fn_normal.specs.Words.{is_name, word}
 use Rattle.fn_normal.specs.declared.fault.ProfileFault.{ProfileFault}
 use Rattle.fn_normal.specs.declared.fault.ProfileFaultKind.{ProfileFaultKind}
 use Rattle.fn_normal.specs.declared.fault.ProfileFaultKind.TheVariants as f
 
+-- ---- faults of the text, of its tokens and of its tree
+
+abbrev pub kind_words : FaultKind → List ℕ
+kind_words t.Character = codes "character is not allowed here"
+kind_words t.OpenComment = codes "comment is not closed"
+kind_words t.Large = codes "number or bit text is too large"
+kind_words t.TooLong = codes "text is above 1 MiB"
+kind_words t.NotUtf8 = codes "text is not UTF-8"
+kind_words t.Unexpected = codes "unexpected token"
+kind_words t.Nesting = codes "nesting is above 64"
+kind_words t.EmptyBracket = codes "bracket is empty"
+kind_words t.RepeatedSection = codes "section is repeated"
+kind_words t.MixedRemainder = codes "% needs brackets here"
+kind_words t.TooManyParts = codes "too many parts"
+
+-- ---- faults of names, bounds and constraints
+
+-- a name, and nothing of what is none
+abbrev pub shown : List ℕ → List ℕ
+shown octets = if is_name octets then octets else []
+
 -- a name that a fault shows: a part of the text, or nothing
 abbrev pub named : List ℕ → Option Span → List ℕ
-named octets (Some span) = utf8_lossy (word octets span)
+named octets (Some span) = shown (word octets span)
 named octets None = []
 
 -- the words of a kind with its names

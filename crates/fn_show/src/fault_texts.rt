@@ -3,11 +3,32 @@
 ghost use Rattle.std.specs.Prelude.{◌≡◌, IfOk, string_bytes};
 ghost use Rattle.fn_show.specs.Texts as spec;
 
-use fn_normal::{ProfileFault, ProfileFaultKind, word};
-use fn_source::Span;
+use fn_context::path::is_name;
+use fn_normal::{Name, ProfileFault, ProfileFaultKind, word};
+use fn_source::{FaultKind, Span};
 use std::alloc::{AllocError, Global};
 
-/// The words of a fault's kind with the names that it shows, which are parts of the text. A missing name is empty.
+/// The words of a fault of the text, of its tokens or of its tree (docs/FORMATS.md).
+pub fn kind_text(kind: FaultKind) -> &'static str
+    ensures { result.now ≡ spec.kind_words kind }
+{
+    match kind {
+        FaultKind::Character => "character is not allowed here",
+        FaultKind::OpenComment => "comment is not closed",
+        FaultKind::Large => "number or bit text is too large",
+        FaultKind::TooLong => "text is above 1 MiB",
+        FaultKind::NotUtf8 => "text is not UTF-8",
+        FaultKind::Unexpected => "unexpected token",
+        FaultKind::Nesting => "nesting is above 64",
+        FaultKind::EmptyBracket => "bracket is empty",
+        FaultKind::RepeatedSection => "section is repeated",
+        FaultKind::MixedRemainder => "% needs brackets here",
+        FaultKind::TooManyParts => "too many parts",
+    }
+}
+
+/// The words of a fault's kind with the names that it shows, which are parts of the text. A missing name is empty, and so is a part
+/// that is no name, so that the words are one line.
 pub fn fault_text(alloc: Global, octets: &[u8], fault: &ProfileFault) -> Result<String, AllocError>
     ensures { IfOk result (λ text. string_bytes text ≡ spec.fault_words octets.now fault.now) }
 {
@@ -20,8 +41,19 @@ fn name_text(alloc: Global, octets: &[u8], name: Option<Span>) -> Result<String,
     ensures { IfOk result (λ text. string_bytes text ≡ spec.named octets.now name) }
 {
     match name {
-        Some(span) => String::from_utf8_lossy(alloc, word(octets, span)),
+        Some(span) => shown_name(alloc, word(octets, span)),
         None => Ok(String::new(alloc)),
+    }
+}
+
+fn shown_name(alloc: Global, octets: &[u8]) -> Result<String, AllocError>
+    ensures { IfOk result (λ text. string_bytes text ≡ spec.shown octets.now) }
+{
+    if is_name(octets) {
+        let name = Name::of_octets(alloc, octets)?;
+        String::from_str(alloc, name.as_str())
+    } else {
+        Ok(String::new(alloc))
     }
 }
 

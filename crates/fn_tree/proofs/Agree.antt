@@ -1,5 +1,6 @@
 -- What is read under every rule is read so under fewer, but for the faults of the rules left out.
 use Rattle.std.proofs.Common.{◌≡◌, ◌&&◌, nat_le, ℕ, zero, suc, ◌+◌, ◌<◌, ◌⊎◌, inl, inr, List, length, Option, Some, None, Ok, Err, Bool, true, false, refl, sym, ap, subst, arith}
+use Rattle.fn_source.specs.declared.fault.FaultKind.{FaultKind}
 use Rattle.fn_source.specs.declared.fault.FaultKind.TheVariants as f
 use Rattle.fn_source.specs.declared.token.Kind.{Kind}
 use Rattle.fn_source.specs.declared.token.Kind.TheVariants as k
@@ -13,11 +14,20 @@ use Rattle.fn_tree.specs.declared.progress.Progress.{Progress}
 use Rattle.fn_tree.specs.declared.expr.Counted.{Counted}
 use Rattle.fn_tree.specs.Operators.{operator, is_late, follows, step, start, inside}
 use Rattle.fn_tree.specs.Rules.{Rules, all, nesting, most_operators}
-use Rattle.fn_tree.specs.Refused.{Counts}
 use Rattle.fn_tree.specs.Reading.{Outcome, Reader, and_then, ◌>>=◌, pure, stops, stops_at, refuse, peek, take, either, onward, repeat}
 use Rattle.fn_tree.specs.Expr.{joined, denied, mixed, admit, operation, turn_by, turn, power_by, power, tiers, group, denial, prim_by, flat, nested, prim, whole}
 use Rattle.fn_tree.proofs.Local.{IsLocal, Advances, unroll}
 use Rattle.fn_tree.proofs.Exprs.{turn_advances, local_tiers, local_prim}
+
+-- The rule that the fault speaks of counts.
+abbrev pub Counts : FaultKind → Rules → Type 0
+Counts f.Unexpected r = Unit {0}
+Counts f.EmptyBracket r = Unit {0}
+Counts f.Nesting r = r.deeper ≡ 0
+Counts f.RepeatedSection r = r.repeats ≡ true
+Counts f.MixedRemainder r = r.sums ≡ true
+Counts f.TooManyParts r = r.counts ≡ true
+Counts _ r = ⊥
 
 -- a fault of a rule that doesn't count
 abbrev pub Off : {A : Type 0} → Rules → Outcome A → Type 0

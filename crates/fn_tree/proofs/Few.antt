@@ -1,10 +1,9 @@
 -- What keeps the rules on parts has few of them.
 use Rattle.std.proofs.Common.{◌≡◌, ◌&&◌, ◌||◌, ◌==◌, nat_le, cond, ℕ, zero, suc, ◌+◌, ◌-◌, ◌<◌, ◌≤◌, List, [], ◌∷◌, ◌++◌, length, Bool, true, false, refl, sym, ap, subst, ◌∙◌, append_assoc, arith, length-append}
-use Rattle.std.specs.List.{All, count_by}
+use Rattle.std.specs.List.{AllByRecursion, count_by}
 use Rattle.std.proofs.lemmas.Bool.{leb-false}
 use Rattle.std.proofs.lemmas.List.{append-nil}
 use Rattle.std.proofs.lemmas.List.Sums.{sum_by-append}
-use Rattle.std.proofs.lemmas.List.Elements.{All-nil, All-cons}
 use Rattle.fn_source.specs.declared.span.Span.{Span}
 use Rattle.fn_source.specs.declared.token.Token.{Token}
 use Rattle.fn_source.specs.Kinds.{same_mark}
@@ -18,16 +17,17 @@ use Rattle.fn_tree.specs.declared.counts.Seen.{Seen}
 use Rattle.fn_tree.specs.declared.counts.Tally.{Tally}
 use Rattle.fn_tree.specs.Rules.{all, most_constants, most_methods, most_parameters, most_formats, most_statements}
 use Rattle.fn_tree.specs.Counts.{with_section, unseen, seen_from, seen_in, with_part, tally_from, tally_of}
-use Rattle.fn_tree.specs.Grammar as g
-use Rattle.fn_tree.specs.Grammar.{Many, IsStatement, IsHead, IsSection, IsParameter, IsParameters, IsPart, holds_bound, mark, name_at}
-use Rattle.fn_tree.specs.Limits.{is_format_kind, is_control_kind, is_initial_kind, is_default_kind, WithinPart, is_constant, is_method, FewParts}
+use Rattle.fn_tree.proofs.Strict as g
+use Rattle.fn_tree.specs.Grammar.{holds_bound}
+use Rattle.fn_tree.proofs.Strict.{Many, IsStatement, IsHead, IsSection, IsParameter, IsParameters, IsPart}
+use Rattle.fn_tree.specs.Limits.{is_format_kind, is_control_kind, is_initial_kind, is_default_kind, PartIsOnce, PartIsFew, is_constant, is_method}
 
 -- ---- counts
 
-count_one : {A : Type 0} (p : A → Bool) (xs : List A) (x : A) → count_by p (xs ++ x ∷ []) ≡ count_by p xs + cond (p x) 1 0
+pub count_one : {A : Type 0} (p : A → Bool) (xs : List A) (x : A) → count_by p (xs ++ x ∷ []) ≡ count_by p xs + cond (p x) 1 0
 count_one p xs x = let both = sum_by-append (λ y. cond (p y) 1 0) xs (x ∷ []) in omega (arith, both)
 
-count_first : {A : Type 0} (p : A → Bool) (x : A) (xs : List A) → count_by p (x ∷ xs) ≡ cond (p x) 1 0 + count_by p xs
+pub count_first : {A : Type 0} (p : A → Bool) (x : A) (xs : List A) → count_by p (x ∷ xs) ≡ cond (p x) 1 0 + count_by p xs
 count_first p x xs = let both = sum_by-append (λ y. cond (p y) 1 0) (x ∷ []) xs in omega (arith, both)
 
 -- where each that counts has room, there are few
@@ -45,17 +45,17 @@ module _ {A : Type 0} {X : List A → List Token → List Token → A → Type 0
 
 -- where each has room, the list is short
 module _ {A : Type 0} {X : List A → List Token → List Token → A → Type 0} (most : ℕ) (room : (found : List A) (from to : List Token) (x : A) → X found from to x → length found < most) where
-  short : {found : List A} {from to : List Token} {xs : List A} → Many X found from to xs → length found ≤ most → length (found ++ xs) ≤ most
+  pub short : {found : List A} {from to : List Token} {xs : List A} → Many X found from to xs → length found ≤ most → length (found ++ xs) ≤ most
   short (g.ended {before = found}) h = subst (λ (ys : List A). length ys ≤ most) (sym (append-nil found)) h
   short (g.more {before = found} {from = from} {mid = mid} {x = x} {xs = xs} j js) h =
       let less = room found from mid x j in
       let next : length (found ++ x ∷ []) ≤ most = omega (arith, length-append found (x ∷ [])) in
       subst (λ (ys : List A). length ys ≤ most) (append_assoc found (x ∷ []) xs) (short js next)
 
-each : {A : Type 0} {X : List A → List Token → List Token → A → Type 0} (P : A → Type 0) (holds : (found : List A) (from to : List Token) (x : A) → X found from to x → P x)
-    {found : List A} {from to : List Token} {xs : List A} → Many X found from to xs → All P xs
-each P holds g.ended = All-nil P
-each P holds (g.more {before = found} {from = from} {mid = mid} {x = x} {xs = xs} j js) = All-cons P x xs (holds found from mid x j) (each P holds js)
+pub each : {A : Type 0} {X : List A → List Token → List Token → A → Type 0} (P : A → Type 0) (holds : (found : List A) (from to : List Token) (x : A) → X found from to x → P x)
+    {found : List A} {from to : List Token} {xs : List A} → Many X found from to xs → AllByRecursion P xs
+each P holds g.ended = tt
+each P holds (g.more {before = found} {from = from} {mid = mid} {x = x} {xs = xs} j js) = (holds found from mid x j, each P holds js)
 
 some_left : (n : ℕ) → (true && n == 0) ≡ false → 0 < n
 some_left zero h = absurd cc
@@ -63,17 +63,17 @@ some_left (suc n) h = omega arith
 
 -- ---- sections
 
-kind_left : (kind : SectionKind) (seen : Seen) → (with_section kind seen).formats_left ≡ seen.formats_left - cond (is_format_kind kind) 1 0
+pub kind_left : (kind : SectionKind) (seen : Seen) → (with_section kind seen).formats_left ≡ seen.formats_left - cond (is_format_kind kind) 1 0
 kind_left kinds.Uncompressed seen = omega arith
 kind_left kinds.Control seen = omega arith
 kind_left kinds.Initial seen = omega arith
 kind_left kinds.Default seen = omega arith
 kind_left (kinds.Compressed name) seen = refl
 
-abbrev is_format : Section → Bool
+abbrev pub is_format : Section → Bool
 is_format s = is_format_kind s.kind
 
-formats_left : (seen : Seen) (xs : List Section) → (seen_from seen xs).formats_left ≡ seen.formats_left - count_by is_format xs
+pub formats_left : (seen : Seen) (xs : List Section) → (seen_from seen xs).formats_left ≡ seen.formats_left - count_by is_format xs
 formats_left seen [] = omega arith
 formats_left seen (x ∷ xs) =
     let rest = formats_left (with_section x.kind seen) xs in
@@ -105,21 +105,21 @@ module _ (flag : Seen → Bool) (sets : SectionKind → Bool) (law : (kind : Sec
       let none : count_by (λ s. sets s.kind) (x ∷ xs) ≡ 0 = omega (arith, first, here.0, rest.0) in
       (none, here.1)
 
-control_law : (kind : SectionKind) (seen : Seen) → (with_section kind seen).control ≡ (is_control_kind kind || seen.control)
+pub control_law : (kind : SectionKind) (seen : Seen) → (with_section kind seen).control ≡ (is_control_kind kind || seen.control)
 control_law kinds.Uncompressed seen = refl
 control_law kinds.Control seen = refl
 control_law kinds.Initial seen = refl
 control_law kinds.Default seen = refl
 control_law (kinds.Compressed name) seen = refl
 
-initial_law : (kind : SectionKind) (seen : Seen) → (with_section kind seen).initial ≡ (is_initial_kind kind || seen.initial)
+pub initial_law : (kind : SectionKind) (seen : Seen) → (with_section kind seen).initial ≡ (is_initial_kind kind || seen.initial)
 initial_law kinds.Uncompressed seen = refl
 initial_law kinds.Control seen = refl
 initial_law kinds.Initial seen = refl
 initial_law kinds.Default seen = refl
 initial_law (kinds.Compressed name) seen = refl
 
-default_law : (kind : SectionKind) (seen : Seen) → (with_section kind seen).default ≡ (is_default_kind kind || seen.default)
+pub default_law : (kind : SectionKind) (seen : Seen) → (with_section kind seen).default ≡ (is_default_kind kind || seen.default)
 default_law kinds.Uncompressed seen = refl
 default_law kinds.Control seen = refl
 default_law kinds.Initial seen = refl
@@ -150,7 +150,7 @@ default_room found from to _ (g.section once room g.initial hs) h = absurd cc
 default_room found from to _ (g.section once room g.unnamed hs) h = absurd cc
 default_room found from to _ (g.section once room g.named hs) h = absurd cc
 
-full_false : (most count : ℕ) → (true && nat_le most count) ≡ false → count < most
+pub full_false : (most count : ℕ) → (true && nat_le most count) ≡ false → count < most
 full_false most count h = leb-false most count h
 
 statement_room : (only_bound : Bool) (found : List Item) (from to : List Token) (x : Item) → IsStatement all only_bound found from to x → length found < most_statements
@@ -170,22 +170,27 @@ parameters_short g.no_parameters = omega arith
 parameters_short g.empty_parameters = omega arith
 parameters_short (g.some_parameters hs) = short most_parameters parameter_room hs (omega arith)
 
-part_within : (found : List Part) (from to : List Token) (x : Part) → IsPart all found from to x → WithinPart x
-part_within found _ to _ (g.constant room h) = tt
-part_within found _ to _ (g.method room ps hs s) = record {
-  parameters = parameters_short ps;
-  formats = few is_format most_formats format_room hs (omega arith);
-  statements = each (λ s. length s.items ≤ most_statements) section_short hs;
+pub part_once : (found : List Part) (from to : List Token) (x : Part) → IsPart all found from to x → PartIsOnce x
+part_once found _ to _ (g.constant room h) = tt
+part_once found _ to _ (g.method room ps hs s) = record {
   control = few (λ s. is_control_kind s.kind) 1 control_room hs (omega arith);
   initial = few (λ s. is_initial_kind s.kind) 1 initial_room hs (omega arith);
   default = few (λ s. is_default_kind s.kind) 1 default_room hs (omega arith);
+}
+
+pub part_few : (found : List Part) (from to : List Token) (x : Part) → IsPart all found from to x → PartIsFew x
+part_few found _ to _ (g.constant room h) = tt
+part_few found _ to _ (g.method room ps hs s) = record {
+  parameters = parameters_short ps;
+  formats = few is_format most_formats format_room hs (omega arith);
+  statements = each (λ s. length s.items ≤ most_statements) section_short hs;
 }
 
 part_left : (x : Part) (tally : Tally) → ((with_part x tally).constants_left ≡ tally.constants_left - cond (is_constant x) 1 0) × ((with_part x tally).methods_left ≡ tally.methods_left - cond (is_method x) 1 0)
 part_left (parts.Constant x) tally = (refl, omega arith)
 part_left (parts.Method x) tally = (omega arith, refl)
 
-constants_left : (tally : Tally) (xs : List Part) → (tally_from tally xs).constants_left ≡ tally.constants_left - count_by is_constant xs
+pub constants_left : (tally : Tally) (xs : List Part) → (tally_from tally xs).constants_left ≡ tally.constants_left - count_by is_constant xs
 constants_left tally [] = omega arith
 constants_left tally (x ∷ xs) =
     let rest = constants_left (with_part x tally) xs in
@@ -193,7 +198,7 @@ constants_left tally (x ∷ xs) =
     let first = count_first is_constant x xs in
     omega arith
 
-methods_left : (tally : Tally) (xs : List Part) → (tally_from tally xs).methods_left ≡ tally.methods_left - count_by is_method xs
+pub methods_left : (tally : Tally) (xs : List Part) → (tally_from tally xs).methods_left ≡ tally.methods_left - count_by is_method xs
 methods_left tally [] = omega arith
 methods_left tally (x ∷ xs) =
     let rest = methods_left (with_part x tally) xs in
@@ -209,5 +214,8 @@ method_room : (found : List Part) (from to : List Token) (x : Part) → IsPart a
 method_room found _ to _ (g.constant room j) h = absurd cc
 method_room found _ to _ (g.method room ps hs s) h = let l = some_left (tally_of found).methods_left room in let c = methods_left (tally_of []) found in omega arith
 
-pub few_parts : FewParts
-few_parts tokens file (g.is_file h) = (few is_constant most_constants constant_room h (omega arith), few is_method most_methods method_room h (omega arith), each WithinPart part_within h)
+pub few_constants : {from to : List Token} {xs : List Part} → Many (IsPart all) [] from to xs → count_by is_constant xs ≤ most_constants
+few_constants hs = few is_constant most_constants constant_room hs (omega arith)
+
+pub few_methods : {from to : List Token} {xs : List Part} → Many (IsPart all) [] from to xs → count_by is_method xs ≤ most_methods
+few_methods hs = few is_method most_methods method_room hs (omega arith)

@@ -57,7 +57,7 @@ once_kind k.Name seen h = absurd cc
 once_kind (k.Number n) seen h = absurd cc
 once_kind (k.BitText count value) seen h = absurd cc
 
-once_of : (flag : Bool) (seen : Seen) (ts : List Token) → (flag && repeats (kind_at ts) seen) ≡ true → begins stands_once ts ≡ true
+pub once_of : (flag : Bool) (seen : Seen) (ts : List Token) → (flag && repeats (kind_at ts) seen) ≡ true → begins stands_once ts ≡ true
 once_of false seen ts h = absurd cc
 once_of true seen [] h = absurd cc
 once_of true seen (t ∷ ts) h = once_kind t.kind seen h

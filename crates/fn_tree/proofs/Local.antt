@@ -1,5 +1,5 @@
 -- A reader looks no further than one token past what it took. So what it answers holds whatever follows that token.
-use Rattle.std.proofs.Common.{◌≡◌, ℕ, zero, suc, ◌<◌, ◌≤◌, List, [], ◌∷◌, ◌++◌, length, Option, Some, None, Result, Ok, Err, Bool, true, false, refl, sym, ap, subst, ◌∙◌, append_assoc, arith, length-append, inl, inr}
+use Rattle.std.proofs.Common.{◌≡◌, ◌⊎◌, ℕ, zero, suc, ◌<◌, ◌≤◌, List, [], ◌∷◌, ◌++◌, length, Option, Some, None, Result, Ok, Err, Bool, true, false, refl, sym, ap, subst, ◌∙◌, append_assoc, arith, length-append, inl, inr}
 use Rattle.fn_source.specs.declared.span.Span.{Span}
 use Rattle.fn_source.specs.declared.token.Kind.{Kind}
 use Rattle.fn_source.specs.declared.token.Mark.{Mark}
@@ -12,7 +12,18 @@ use Rattle.fn_source.specs.declared.fault.FaultKind.TheVariants as f
 use Rattle.fn_source.specs.declared.token.Mark.TheVariants as m
 use Rattle.fn_tree.specs.Grammar.{mark, name_at}
 use Rattle.fn_tree.specs.Reading.{Outcome, Reader, and_then, ◌>>=◌, pure, place, kind_at, refusal_of, stops, stops_at, refuse, peek, take, is_next, either, expect, onward, again, repeat}
-use Rattle.fn_tree.specs.Refused.{Stands}
+use Rattle.fn_tree.specs.Refused.{begins, nests, stands_once}
+
+-- where a refused token stands, as far as readers show it alone
+abbrev pub Stood : FaultKind → Place → List Token → List Token → Type 0
+Stood f.Unexpected at front rest = at ≡ place rest
+Stood f.Nesting at front rest = (at ≡ place rest) × (begins nests rest ≡ true)
+Stood f.RepeatedSection at front rest = (at ≡ place rest) × (begins stands_once rest ≡ true)
+Stood f.TooManyParts at front rest = (at ≡ place rest) ⊎ ((name : Span) × (start : List Token) × (front ≡ start ++ name_at name ∷ []) × (at ≡ At name))
+Stood f.EmptyBracket at front rest = (first last : Span) × (start after : List Token)
+    × (front ≡ start ++ mark m.OpenSquare first ∷ []) × (rest ≡ mark m.CloseSquare last ∷ after) × (at ≡ At first)
+Stood f.MixedRemainder at front rest = Unit {0}
+Stood _ at front rest = ⊥
 
 -- the same next token, or no token on both sides
 abbrev pub Alike : List Token → List Token → Type 0
@@ -29,7 +40,7 @@ moved (Err f) other = Err f
 -- the outcome's tokens are these, and so is the place that it names
 abbrev pub Holds : {A : Type 0} → Outcome A → List Token → List Token → Type 0
 Holds (Ok p) front rest = p.1 ≡ rest
-Holds (Err f) front rest = Stands f.kind f.at front rest
+Holds (Err f) front rest = Stood f.kind f.at front rest
 
 pub record Looks {A : Type 0} (p : Reader A) (ts : List Token) (r : Outcome A) : Type 0 where
   pub taken : List Token
@@ -45,7 +56,7 @@ pub Alike-append : (taken rest other : List Token) → Alike rest other → Alik
 Alike-append [] rest other h = h
 Alike-append (t ∷ ts) rest other h = refl
 
-place_alike : (ts us : List Token) → Alike ts us → place us ≡ place ts
+pub place_alike : (ts us : List Token) → Alike ts us → place us ≡ place ts
 place_alike [] [] h = refl
 place_alike [] (u ∷ us) h = absurd h
 place_alike (t ∷ ts) [] h = absurd h
@@ -58,7 +69,7 @@ kind_alike (t ∷ ts) [] h = absurd h
 kind_alike (t ∷ ts) (u ∷ us) h = ap (λ (x : Token). Some x.kind) (sym h)
 
 -- more tokens in front change nothing
-stands_after : (kind : FaultKind) (at : Place) (first front rest : List Token) → Stands kind at front rest → Stands kind at (first ++ front) rest
+stands_after : (kind : FaultKind) (at : Place) (first front rest : List Token) → Stood kind at front rest → Stood kind at (first ++ front) rest
 stands_after f.Unexpected at first front rest h = h
 stands_after f.Nesting at first front rest h = h
 stands_after f.RepeatedSection at first front rest h = h
@@ -93,7 +104,7 @@ pub local_pure : {A : Type 0} (a : A) → IsLocal (pure a)
 local_pure a = record { looks = λ ts. record { taken = []; rest = ts; parts = refl; stands = refl; whatever = λ other h. refl } }
 
 -- a fault that stands at the next token, wherever that is
-pub local_stops : {A : Type 0} (kind : FaultKind) → ((ts : List Token) → Stands kind (place ts) [] ts) → IsLocal (stops {A = A} kind)
+pub local_stops : {A : Type 0} (kind : FaultKind) → ((ts : List Token) → Stood kind (place ts) [] ts) → IsLocal (stops {A = A} kind)
 local_stops kind here = record { looks = λ ts. record { taken = []; rest = ts; parts = refl; stands = here ts; whatever = λ other h. ap (λ (at : Place). Err (refusal_of kind at)) (place_alike ts other h) } }
 
 pub local_mixed_at : {A : Type 0} (at : Span) → IsLocal (stops_at {A = A} f.MixedRemainder at)
@@ -156,7 +167,7 @@ local_peek_at next l = record { looks = λ ts. peek_at ts (l ts) }
           ap (λ (o : Option Kind). next o (inner.taken ++ other)) (kind_alike ts (inner.taken ++ other) alike) ∙ inner.whatever other h;
     }
 
-pub stops_looks : {A : Type 0} (kind : FaultKind) (ts : List Token) → Stands kind (place ts) [] ts → Looks (stops {A = A} kind) ts (Err (refusal_of kind (place ts)))
+pub stops_looks : {A : Type 0} (kind : FaultKind) (ts : List Token) → Stood kind (place ts) [] ts → Looks (stops {A = A} kind) ts (Err (refusal_of kind (place ts)))
 stops_looks kind ts here = record { taken = []; rest = ts; parts = refl; stands = here; whatever = λ other h. ap (λ (at : Place). Err (refusal_of kind at)) (place_alike ts other h) }
 
 -- ---- a reader takes no token back

@@ -8,14 +8,13 @@ use Rattle.fn_source.specs.declared.token.Token.{Token}
 use Rattle.fn_tree.specs.declared.refusal.Refusal.{Refusal}
 use Rattle.fn_source.specs.declared.fault.FaultKind.{FaultKind}
 use Rattle.fn_source.specs.declared.fault.FaultKind.TheVariants as f
-use Rattle.fn_tree.specs.Refused.{Stands}
 use Rattle.fn_tree.specs.declared.refusal.ParseError.{ParseError}
 use Rattle.fn_tree.specs.declared.refusal.ParseError.TheVariants as errors
-use Rattle.fn_tree.specs.Grammar as g
-use Rattle.fn_tree.specs.Grammar.{Many}
+use Rattle.fn_tree.proofs.Strict as g
+use Rattle.fn_tree.proofs.Strict.{Many}
 use Rattle.fn_tree.specs.Reading.{Reader, ◌>>=◌, pure, place, refuse, stops, stops_at, peek, take, expect, either, is_next, kind_at, Fails}
 use Rattle.fn_tree.specs.File.{gather, many}
-use Rattle.fn_tree.proofs.Local.{IsLocal, Advances, rest_is, bind_ok, shrinks, local_pure, local_refuse, local_stops, local_mixed_at, local_peek, local_take, local_bind, local_map, local_either, local_repeat, unroll, no_some, taken_shorter}
+use Rattle.fn_tree.proofs.Local.{Stood, IsLocal, Advances, rest_is, bind_ok, shrinks, local_pure, local_refuse, local_stops, local_mixed_at, local_peek, local_take, local_bind, local_map, local_either, local_repeat, unroll, no_some, taken_shorter}
 
 -- a reader that takes some token
 pub record Consumes {A : Type 0} (p : Reader A) : Type 0 where
@@ -25,7 +24,7 @@ pub record Consumes {A : Type 0} (p : Reader A) : Type 0 where
 pub consumes_refuse : {A : Type 0} → Consumes (refuse {A = A})
 consumes_refuse = record { local = local_refuse; shorter = λ x ts rest e. absurd cc }
 
-pub consumes_stops : {A : Type 0} (kind : FaultKind) → ((ts : List Token) → Stands kind (place ts) [] ts) → Consumes (stops {A = A} kind)
+pub consumes_stops : {A : Type 0} (kind : FaultKind) → ((ts : List Token) → Stood kind (place ts) [] ts) → Consumes (stops {A = A} kind)
 consumes_stops kind here = record { local = local_stops kind here; shorter = λ x ts rest e. absurd cc }
 
 pub consumes_mixed_at : {A : Type 0} (at : Span) → Consumes (stops_at {A = A} f.MixedRemainder at)

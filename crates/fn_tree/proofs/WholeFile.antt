@@ -19,8 +19,9 @@ use Rattle.fn_tree.specs.declared.tree.Part.{Part}
 use Rattle.fn_tree.specs.declared.progress.Progress.{Progress}
 use Rattle.fn_tree.specs.Counts.{seen_in, tally_of}
 use Rattle.fn_tree.specs.Rules.{Rules}
-use Rattle.fn_tree.specs.Grammar as g
-use Rattle.fn_tree.specs.Grammar.{Many, IsExpr, IsWhole, IsNext, IsExprs, IsBracket, IsArguments, IsEncoding, IsBound, IsItem, IsStatement, IsHead, IsSection, IsParameter, IsParameters, IsStop, IsPart, holds_bound, mark, name_at}
+use Rattle.fn_tree.proofs.Strict as g
+use Rattle.fn_tree.specs.Grammar.{mark, name_at}
+use Rattle.fn_tree.proofs.Strict.{Many, IsExpr, IsWhole, IsNext, IsExprs, IsBracket, IsArguments, IsEncoding, IsBound, IsItem, IsStatement, IsHead, IsSection, IsParameter, IsParameters, IsStop, IsPart}
 use Rattle.fn_tree.specs.Reading.{kind_at, is_next, is_there}
 use Rattle.fn_tree.specs.File.{name, limited, next_expr, exprs, variable, lengths, filled, bracket_of, bracket, given, arguments_of, arguments, encoding, field, binding, bound, named_item, enforce, item, any_statement, statement, before, statements, called, format, plain, heading, head_at, section_of, section, sections, next_name, names, declared, parameters_of, parameters, constant_of, constant, stop, method_of, method, part, parts}
 use Rattle.fn_tree.proofs.WholeExpr.{Ends, whole_reads, expect_token}

@@ -1,5 +1,5 @@
 -- What a refusal says of the tokens.
-use Rattle.std.specs.Prelude.{◌≡◌, ℕ, ◌⊎◌, Bool, true, false, List, [], ◌∷◌, ◌++◌}
+use Rattle.std.specs.Prelude.{◌≡◌, ℕ, ◌⊎◌, ◌||◌, Bool, true, false, List, [], ◌∷◌, ◌++◌}
 use Rattle.fn_source.specs.declared.span.Span.{Span}
 use Rattle.fn_source.specs.declared.fault.Fault.{Fault}
 use Rattle.fn_source.specs.declared.fault.FaultKind.{FaultKind}
@@ -15,25 +15,32 @@ use Rattle.fn_tree.specs.declared.refusal.Place.{Place}
 use Rattle.fn_tree.specs.declared.refusal.Place.TheVariants as places
 use Rattle.fn_tree.specs.declared.refusal.Refusal.{Refusal}
 use Rattle.fn_tree.specs.declared.tree.File.{File}
-use Rattle.fn_tree.specs.Grammar.{IsFile, IsText, Parsed, mark, name_at}
+use Rattle.fn_tree.specs.declared.tree.Expr.{Expr}
+use Rattle.fn_tree.specs.Grammar.{IsText, IsExpr, mark, name_at}
+use Rattle.fn_tree.specs.Limits.{IsShallow, IsUnrepeated, IsUnmixed, IsLimited}
 use Rattle.fn_tree.specs.Reading.{place}
-use Rattle.fn_tree.specs.Rules.{Rules}
 
--- The rule that the fault speaks of counts. E10 and E12 speak of the grammar alone, so of every choice of rules.
-abbrev pub Counts : FaultKind → Rules → Type 0
-Counts f.Unexpected r = Unit {0}
-Counts f.EmptyBracket r = Unit {0}
-Counts f.Nesting r = r.deeper ≡ 0
-Counts f.RepeatedSection r = r.repeats ≡ true
-Counts f.MixedRemainder r = r.sums ≡ true
-Counts f.TooManyParts r = r.counts ≡ true
-Counts _ r = ⊥
+-- The file keeps the rule that the fault speaks of. E10 and E12 speak of the grammar alone.
+abbrev pub KeepsRule : FaultKind → File → Type 0
+KeepsRule f.Nesting file = IsShallow file
+KeepsRule f.RepeatedSection file = IsUnrepeated file
+KeepsRule f.MixedRemainder file = IsUnmixed file
+KeepsRule f.TooManyParts file = IsLimited file
+KeepsRule _ file = Unit {0}
 
 -- No text that keeps the fault's rule, whatever others it keeps, begins with the tokens in front and the next one; where
 -- there is no next one, those in front are no such text.
 abbrev pub NoText : FaultKind → List Token → List Token → Type 0
-NoText kind front [] = (r : Rules) → Counts kind r → (file : File) → IsFile r front file → ⊥
-NoText kind front (t ∷ ts) = (r : Rules) → Counts kind r → (more : List Token) (file : File) → IsFile r (front ++ t ∷ more) file → ⊥
+NoText kind front [] = (file : File) → IsText front file → KeepsRule kind file → ⊥
+NoText kind front (t ∷ ts) = (more : List Token) (file : File) → IsText (front ++ t ∷ more) file → KeepsRule kind file → ⊥
+
+-- The tokens that some text begins with: up to and with the one at fault, where a rule beside the grammar forbids it; else
+-- those in front.
+abbrev pub reached : FaultKind → List Token → List Token → List Token
+reached f.Unexpected front rest = front
+reached f.EmptyBracket front rest = front
+reached _ front [] = front
+reached _ front (t ∷ ts) = front ++ t ∷ []
 
 -- the next token is a mark that passes the test
 abbrev pub begins_by : (Mark → Bool) → Kind → Bool
@@ -56,36 +63,81 @@ stands_once m.Initial = true
 stands_once m.Default = true
 stands_once _ = false
 
+-- these tokens are an operand: a number, a name, or what brackets hold
+abbrev pub IsOperand : List Token → Type 0
+IsOperand tokens = (x : Expr) × ((to : List Token) → IsExpr 0 (tokens ++ to) to x)
+
+-- the tokens end with this operator, and an operand in front of it
+pub record EndsIn (which : Mark) (sign : Span) (tokens : List Token) : Type 0 where
+  pub start : List Token
+  pub left : List Token
+  pub parts : tokens ≡ start ++ (left ++ mark which sign ∷ [])
+  pub operand : IsOperand left
+
+-- the tokens end with an operand, and this operator in front of it
+pub record LastOperator (which : Mark) (sign : Span) (tokens : List Token) : Type 0 where
+  pub start : List Token
+  pub right : List Token
+  pub parts : tokens ≡ start ++ right
+  pub operand : IsOperand right
+  pub operator : EndsIn which sign start
+
+abbrev pub is_remainder : Mark → Bool
+is_remainder m.Remainder = true
+is_remainder _ = false
+
+-- one of ^ * / + -
+abbrev pub is_plain : Mark → Bool
+is_plain m.Power = true
+is_plain m.Times = true
+is_plain m.Divide = true
+is_plain m.Plus = true
+is_plain m.Minus = true
+is_plain _ = false
+
+-- what follows the NAME of a constant or a method
+abbrev pub follows_name : Mark → Bool
+follows_name m.Is = true
+follows_name m.Open = true
+follows_name m.OpenBrace = true
+follows_name _ = false
+
+abbrev pub IsThere : List Token → Type 0
+IsThere [] = ⊥
+IsThere (t ∷ ts) = Unit {0}
+
 -- Where a fault stands, if the tokens in front are taken and the rest begins with the one that can't go on: at that
 -- one, which is `(` or `!` (nesting) or the word of a section that may not repeat; at the NAME before it (a constant or
--- method too many); or at the `[` before it (an empty bracket). Where a `%` is refused, `AtPercent` says. No other fault is of the grammar.
+-- method too many), else at that one (another part too many); at the `[` before it (an empty bracket). Where the last
+-- operator is a `%`, another of ^ * / % + - is refused at that `%`; where it is another of these, a `%` is refused itself.
+-- No other fault is of the grammar.
 abbrev pub Stands : FaultKind → Place → List Token → List Token → Type 0
 Stands f.Unexpected at front rest = at ≡ place rest
 Stands f.Nesting at front rest = (at ≡ place rest) × (begins nests rest ≡ true)
 Stands f.RepeatedSection at front rest = (at ≡ place rest) × (begins stands_once rest ≡ true)
-Stands f.TooManyParts at front rest = (at ≡ place rest) ⊎ ((name : Span) × (start : List Token) × (front ≡ start ++ name_at name ∷ []) × (at ≡ places.At name))
+Stands f.TooManyParts at front rest =
+    ((at ≡ place rest) × IsThere rest × ((begins follows_name rest ≡ false) ⊎ ((comma : Span) × (start : List Token) × (front ≡ start ++ mark m.Comma comma ∷ []))))
+    ⊎ ((name : Span) × (start : List Token) × (front ≡ start ++ name_at name ∷ []) × (at ≡ places.At name) × (begins follows_name rest ≡ true))
 Stands f.EmptyBracket at front rest = (first last : Span) × (start after : List Token)
     × (front ≡ start ++ mark m.OpenSquare first ∷ []) × (rest ≡ mark m.CloseSquare last ∷ after) × (at ≡ places.At first)
-Stands f.MixedRemainder at front rest = Unit {0}
+Stands f.MixedRemainder at front rest =
+    ((sign : Span) × (at ≡ places.At sign) × LastOperator m.Remainder sign front × (begins (λ which. is_plain which || is_remainder which) rest ≡ true))
+    ⊎ ((which : Mark) × (sign : Span) × (at ≡ place rest) × LastOperator which sign front × (is_plain which ≡ true) × (begins is_remainder rest ≡ true))
 Stands _ at front rest = ⊥
 
--- one of the tokens is a `%` at this place
-abbrev pub IsPercent : List Token → Span → Type 0
-IsPercent tokens sign = (start after : List Token) × (tokens ≡ start ++ mark m.Remainder sign ∷ after)
+-- some text of the grammar begins with these tokens
+abbrev pub IsBegun : List Token → Type 0
+IsBegun tokens = (more : List Token) × (file : File) × IsText (tokens ++ more) file
 
--- `%` beside another operator is refused at a `%`
-abbrev pub AtPercent : FaultKind → List Token → Place → Type 0
-AtPercent f.MixedRemainder tokens at = (sign : Span) × (at ≡ places.At sign) × IsPercent tokens sign
-AtPercent _ tokens at = Unit {0}
-
--- The tokens in front are taken, and the rest can't go on.
+-- The tokens in front are taken, and the rest can't go on: some text begins with them, and where a rule beside the grammar
+-- is at fault with the next one too, but none that keeps the rule.
 pub record IsRefused (tokens : List Token) (kind : FaultKind) (at : Place) : Type 0 where
   pub front : List Token
   pub rest : List Token
   pub parts : tokens ≡ front ++ rest
+  pub begun : IsBegun (reached kind front rest)
   pub no_text : NoText kind front rest
   pub stands : Stands kind at front rest
-  pub percent : AtPercent kind tokens at
 
 -- the end of the text is a place with no octet
 abbrev pub span_at : ℕ → Place → Span
@@ -102,8 +154,4 @@ Refuses len tokens sources.OutOfMemory = Unit {0}
 
 -- a text has one tree
 abbrev pub OneTree : Type 0
-OneTree = (r : Rules) (tokens : List Token) (a b : File) → IsFile r tokens a → IsFile r tokens b → a ≡ b
-
--- what keeps every rule is a text of the grammar alone
-abbrev pub ParsedIsText : Type 0
-ParsedIsText = (tokens : List Token) (file : File) → Parsed tokens file → IsText tokens file
+OneTree = (tokens : List Token) (a b : File) → IsText tokens a → IsText tokens b → a ≡ b

@@ -1,13 +1,10 @@
 //! A whole text.
 
-ghost use Rattle.std.specs.Prelude.{◌≡◌, ◌⊎◌, List, length, IfOk, IfErr, MatchResult, Ok, Err};
+ghost use Rattle.std.specs.Prelude.{◌≡◌, List, length, IfOk, IfErr, MatchResult};
 ghost use Rattle.fn_source.specs.declared.token.Token.{Token};
-ghost use Rattle.fn_tree.specs.declared.refusal.Refusal.{Refusal};
 ghost use Rattle.fn_tree.specs.declared.tree.File.{File};
-ghost use Rattle.fn_tree.specs.File as read;
-ghost use Rattle.fn_tree.specs.Grammar.{Parsed};
+ghost use Rattle.fn_tree.specs.Limits.{Parsed};
 ghost use Rattle.fn_tree.specs.Refused as refused;
-ghost use Rattle.fn_tree.specs.Rules.{all};
 
 use crate::file::parts;
 use crate::refusal::{ParseError, Place, Refusal};
@@ -39,14 +36,9 @@ pub fn parse(alloc: Global, source: &Source<'_>, tokens: &[Token]) -> Result<Fil
     ensures found { IfOk result (λ file. Parsed tokens.now file) }
     // Tokens with a tree are read as that one, and refused only for want of memory.
     ensures only { (file : File) → Parsed tokens.now file → MatchResult result (λ f. f ≡ file) (λ e. e ≡ SourceError.OutOfMemory) }
-    // No text that keeps the fault's rule begins with the tokens up to and with the one that is refused; at the end, the
-    // tokens are no text.
+    // The tokens in front of the refused one begin a text of the grammar; with it none does that keeps the fault's rule,
+    // but one without that rule does; at the end, the tokens are no text.
     ensures refused { IfErr result (refused.Refuses (length source.now) tokens.now) }
-    // Which fault it is: that of the reading function.
-    ensures exact { MatchResult result
-        (λ f. (rest : List Token) × (read.parts all tokens.now ≡ Ok (f.parts, rest)))
-        (λ e. (refusal : Refusal) → read.parts all tokens.now ≡ Err refusal
-        → (e ≡ SourceError.Fault (refused.fault_of (length source.now) refusal)) ⊎ (e ≡ SourceError.OutOfMemory)) }
 {
     let mut rest = Tokens::new(tokens);
     match parts(alloc, &mut rest) {

@@ -23,7 +23,8 @@ pub(crate) fn plans_of(accepted: &Accepted, method: usize, format: usize) -> Opt
     entry.formats.get(format)?.plans.as_ref()
 }
 
-/// The filling of a level whose plan was followed. The error is Failed or want of memory.
+/// The filling of a level whose plan was followed. The error is Failed or want of memory. The level of the top, whose path is empty, is not judged here: who
+/// asks for it judges it as a whole.
 pub(crate) fn finish(
     alloc: Global,
     accepted: &Accepted,
@@ -41,6 +42,9 @@ pub(crate) fn finish(
     let Some(filling) = level.into_filling(alloc, scene.format)? else {
         return Err(failed);
     };
+    if scene.path.is_empty() {
+        return Ok(filling);
+    }
     if level_fits(
         alloc,
         scene.profile,

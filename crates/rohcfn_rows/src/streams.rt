@@ -1,7 +1,8 @@
 //! A run over readers and writers that give or take few octets, fail or stop.
 
+use rohcfn_tool::counted::Uncounted;
 use rohcfn_tool::program::{Outcome, run};
-use rohcfn_tool::status::Status;
+use rohcfn_tool::status::{Failure, Status};
 use std::alloc::{AllocError, Global};
 use std::io;
 use std::io::{ErrorKind, Read, Write};
@@ -80,12 +81,12 @@ fn with_steps(
     reads: usize,
     writes: usize,
 ) -> (Outcome, Vec<u8>) {
-    let mut source = Source {
+    let mut source = Uncounted(Source {
         left: input,
         step: reads,
         reads: usize::MAX,
         fault: ErrorKind::Other,
-    };
+    });
     let mut sink = Sink {
         taken: Vec::new(alloc),
         step: writes,
@@ -169,8 +170,8 @@ fn refuses_parts(rt: HostRuntime) {
         ),
         (b"===words\n", b"bundle: I4 bad part -\n"),
         (
-            b"=== events\n=== words\n=== words\n",
-            b"bundle: I4 bad part events\n",
+            b"=== event\n=== words\n=== words\n",
+            b"bundle: I4 bad part event\n",
         ),
         (
             b"=== words \npack --top plain\n",
@@ -265,12 +266,12 @@ fn takes_four_mebibytes(rt: HostRuntime) -> Result<(), Fail> {
     let (outcome, taken) = with_steps(alloc, words.as_slice(), input.as_slice(), most, most);
     assert!(rt; outcome.status == Status::Refused);
     assert!(rt; taken.as_slice() == large.as_slice());
-    let mut endless = Endless { given: 0 };
+    let mut endless = Uncounted(Endless { given: 0 });
     let mut written = Vec::new(alloc);
     let outcome = run(alloc, words.as_slice(), &mut endless, &mut written);
     assert!(rt; outcome.status == Status::Refused);
     assert!(rt; written.as_slice() == large.as_slice());
-    assert!(rt; endless.given == 4_194_305, "{}", endless.given);
+    assert!(rt; endless.0.given == 4_194_305, "{}", endless.0.given);
     Ok(())
 }
 
@@ -278,15 +279,18 @@ fn takes_four_mebibytes(rt: HostRuntime) -> Result<(), Fail> {
 fn fails_with_its_reader(rt: HostRuntime) {
     for reads in [0, 1, 5, ROW.len()] {
         for fault in [ErrorKind::Other, ErrorKind::Interrupted] {
-            let mut source = Source {
+            let mut source = Uncounted(Source {
                 left: ROW,
                 step: 1,
                 reads,
                 fault,
-            };
+            });
             let mut written = Vec::new(rt.alloc());
             let outcome = run(rt.alloc(), &[], &mut source, &mut written);
-            assert!(rt; outcome.status == Status::Failed, "at {reads}");
+            assert!(rt;
+                outcome.status == Status::Failed(Failure::Reading),
+                "at {reads}"
+            );
             assert!(rt; outcome.usage.is_none(), "at {reads}");
             assert!(rt; written.is_empty(), "at {reads}");
         }
@@ -302,10 +306,10 @@ fn fails_with_its_writer(rt: HostRuntime) {
             step: 1,
             writes,
         };
-        let mut source = ROW;
+        let mut source = Uncounted(ROW);
         let outcome = run(rt.alloc(), &[], &mut source, &mut sink);
         let wanted = if writes < 10 {
-            Status::Failed
+            Status::Failed(Failure::Writing)
         } else {
             Status::Done
         };
@@ -316,6 +320,6 @@ fn fails_with_its_writer(rt: HostRuntime) {
         );
     }
     let (outcome, taken) = with_steps(rt.alloc(), &[], ROW, 1, 0);
-    assert!(rt; outcome.status == Status::Failed);
+    assert!(rt; outcome.status == Status::Failed(Failure::Writing));
     assert!(rt; taken.is_empty());
 }

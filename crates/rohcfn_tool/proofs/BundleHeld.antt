@@ -25,6 +25,8 @@ module _ (parts : Parts) (before : List Part) (name : List ℕ) (text : Bor (Lis
     context = kept (codes "words") (codes "context") _ e refl held.context;
     items = kept (codes "words") (codes "items") _ e refl held.items;
     packets = kept (codes "words") (codes "packets") _ e refl held.packets;
+    events = kept (codes "words") (codes "events") _ e refl held.events;
+    octets = kept (codes "words") (codes "octets") _ e refl held.octets;
   }
 
   pub held_profile : bytes_eq name (codes "profile") ≡ true → is_some parts.profile ≡ false → HoldsParts (record parts { profile = Some text }) (before ++ named name text.now ∷ [])
@@ -35,6 +37,8 @@ module _ (parts : Parts) (before : List Part) (name : List ℕ) (text : Bor (Lis
     context = kept (codes "profile") (codes "context") _ e refl held.context;
     items = kept (codes "profile") (codes "items") _ e refl held.items;
     packets = kept (codes "profile") (codes "packets") _ e refl held.packets;
+    events = kept (codes "profile") (codes "events") _ e refl held.events;
+    octets = kept (codes "profile") (codes "octets") _ e refl held.octets;
   }
 
   pub held_certificate : bytes_eq name (codes "certificate") ≡ true → is_some parts.certificate ≡ false → HoldsParts (record parts { certificate = Some text }) (before ++ named name text.now ∷ [])
@@ -45,6 +49,8 @@ module _ (parts : Parts) (before : List Part) (name : List ℕ) (text : Bor (Lis
     context = kept (codes "certificate") (codes "context") _ e refl held.context;
     items = kept (codes "certificate") (codes "items") _ e refl held.items;
     packets = kept (codes "certificate") (codes "packets") _ e refl held.packets;
+    events = kept (codes "certificate") (codes "events") _ e refl held.events;
+    octets = kept (codes "certificate") (codes "octets") _ e refl held.octets;
   }
 
   pub held_context : bytes_eq name (codes "context") ≡ true → is_some parts.context ≡ false → HoldsParts (record parts { context = Some text }) (before ++ named name text.now ∷ [])
@@ -55,6 +61,8 @@ module _ (parts : Parts) (before : List Part) (name : List ℕ) (text : Bor (Lis
     context = text_put (codes "context") before (named name text.now) e (no_text parts.context _ none held.context);
     items = kept (codes "context") (codes "items") _ e refl held.items;
     packets = kept (codes "context") (codes "packets") _ e refl held.packets;
+    events = kept (codes "context") (codes "events") _ e refl held.events;
+    octets = kept (codes "context") (codes "octets") _ e refl held.octets;
   }
 
   pub held_items : bytes_eq name (codes "items") ≡ true → is_some parts.items ≡ false → HoldsParts (record parts { items = Some text }) (before ++ named name text.now ∷ [])
@@ -65,6 +73,8 @@ module _ (parts : Parts) (before : List Part) (name : List ℕ) (text : Bor (Lis
     context = kept (codes "items") (codes "context") _ e refl held.context;
     items = text_put (codes "items") before (named name text.now) e (no_text parts.items _ none held.items);
     packets = kept (codes "items") (codes "packets") _ e refl held.packets;
+    events = kept (codes "items") (codes "events") _ e refl held.events;
+    octets = kept (codes "items") (codes "octets") _ e refl held.octets;
   }
 
   pub held_packets : bytes_eq name (codes "packets") ≡ true → is_some parts.packets ≡ false → HoldsParts (record parts { packets = Some text }) (before ++ named name text.now ∷ [])
@@ -75,4 +85,30 @@ module _ (parts : Parts) (before : List Part) (name : List ℕ) (text : Bor (Lis
     context = kept (codes "packets") (codes "context") _ e refl held.context;
     items = kept (codes "packets") (codes "items") _ e refl held.items;
     packets = text_put (codes "packets") before (named name text.now) e (no_text parts.packets _ none held.packets);
+    events = kept (codes "packets") (codes "events") _ e refl held.events;
+    octets = kept (codes "packets") (codes "octets") _ e refl held.octets;
+  }
+
+  pub held_events : bytes_eq name (codes "events") ≡ true → is_some parts.events ≡ false → HoldsParts (record parts { events = Some text }) (before ++ named name text.now ∷ [])
+  held_events e none = record {
+    words = kept (codes "events") (codes "words") _ e refl held.words;
+    profile = kept (codes "events") (codes "profile") _ e refl held.profile;
+    certificate = kept (codes "events") (codes "certificate") _ e refl held.certificate;
+    context = kept (codes "events") (codes "context") _ e refl held.context;
+    items = kept (codes "events") (codes "items") _ e refl held.items;
+    packets = kept (codes "events") (codes "packets") _ e refl held.packets;
+    events = text_put (codes "events") before (named name text.now) e (no_text parts.events _ none held.events);
+    octets = kept (codes "events") (codes "octets") _ e refl held.octets;
+  }
+
+  pub held_octets : bytes_eq name (codes "octets") ≡ true → is_some parts.octets ≡ false → HoldsParts (record parts { octets = Some text }) (before ++ named name text.now ∷ [])
+  held_octets e none = record {
+    words = kept (codes "octets") (codes "words") _ e refl held.words;
+    profile = kept (codes "octets") (codes "profile") _ e refl held.profile;
+    certificate = kept (codes "octets") (codes "certificate") _ e refl held.certificate;
+    context = kept (codes "octets") (codes "context") _ e refl held.context;
+    items = kept (codes "octets") (codes "items") _ e refl held.items;
+    packets = kept (codes "octets") (codes "packets") _ e refl held.packets;
+    events = kept (codes "octets") (codes "events") _ e refl held.events;
+    octets = text_put (codes "octets") before (named name text.now) e (no_text parts.octets _ none held.octets);
   }

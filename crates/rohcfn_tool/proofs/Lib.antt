@@ -1,5 +1,14 @@
+pub mod BundleHeld
+pub mod BundleLines
+pub mod BundleParts
+pub mod BundleSpelled
 pub mod Certificates
+pub mod CountedReads
+pub mod EventWords
+pub mod Flowing
 pub mod InputLines
+pub mod OneLines
+pub mod PartNames
 pub mod ProgramBytes
 pub mod ProgramNames
 pub mod ProgramReplies
@@ -7,7 +16,3 @@ pub mod Replying
 pub mod Stepping
 pub mod WordsLemmas
 pub mod WordsRead
-pub mod BundleHeld
-pub mod BundleLines
-pub mod BundleParts
-pub mod BundleSpelled

@@ -39,9 +39,9 @@ none_refused given input reply short bundle none says = refused_by given input _
 
 told : (given : List (List ℕ)) (input : List ℕ) (words : List (List ℕ)) (status : Status) → length input ≤ most_octets → IsBundle input → words_of given input ≡ Some words → TellsBy words status → Tells given input status
 told given input words Done short bundle is says = (words, record { short = short; bundle = bundle; words = is; nothing = says.0 }, says.1)
-told given input words Usage short bundle is says = (words, record { short = short; bundle = bundle; words = is; nothing = says })
+told given input words Usage short bundle is says = (words, record { short = short; bundle = bundle; words = is; nothing = says.0 }, says.1)
 told given input words Refused short bundle is says = says
-told given input words Failed short bundle is says = says
+told given input words (Failed why) short bundle is says = says
 
 pub replied : (given : List (List ℕ)) (input : List ℕ) (words : List (List ℕ)) (parts : Parts) (reply : Reply) → length input ≤ most_octets → IsBundle input → HoldsParts parts (parts_of input) → words_of given input ≡ Some words → RepliesBy words parts reply → Replies given input reply
 replied given input words parts (Print status output) short bundle holds is says = answered words says.0 parts short bundle is says.1 holds says.2

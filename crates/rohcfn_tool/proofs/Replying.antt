@@ -25,7 +25,7 @@ use Rattle.rohcfn_tool.specs.declared.inputs.BadLine.TheVariants as bad
 use Rattle.rohcfn_tool.specs.declared.words.Direction.{Direction}
 use Rattle.rohcfn_tool.specs.Inputs.{BlamesContext}
 use Rattle.rohcfn_tool.specs.Printed.{AnsweredFor, bad_context, context_line, Holds, IsBadInput, IsEnd, IsFinished, IsRefusal, IsStep, AnsweredIn, Prints, ShownBy, Shows, bad_line, bad_line_text, done, line, fault, listed, no_listing}
-use Rattle.rohcfn_tool.specs.ProfileLines.{IsFaultLine, IsProfileFault, cause_line, text_fault, profile_fault}
+use Rattle.rohcfn_tool.specs.ProfileLines.{IsFaultLine, cause_line, text_fault, text_line, profile_fault}
 
 -- one line that refuses
 pub refusal_is : (P : Status → List ℕ → Type 0) (text written : List ℕ) (r : Result Answer AllocError) → P status.Refused (text ++ 10 ∷ []) → written ≡ text → IfOk r (IsRefusal written) → IfOk r (Holds P)
@@ -41,9 +41,9 @@ passed_on P Q (Ok a) f h = f a.status (string_bytes a.output) h
 
 -- ---- a fault of a profile
 
-pub line_of_text : (top octets : List ℕ) (f : Fault) (r : Result (String Global) AllocError) → IsTextFault octets f → IfOk r (λ text. IsProfileFault octets f (string_bytes text))
+pub line_of_text : (top octets : List ℕ) (f : Fault) (r : Result (String Global) AllocError) → IsTextFault octets f → IfOk r (λ text. string_bytes text ≡ text_line octets f)
     → IfOk r (λ text. IsFaultLine top octets (string_bytes text))
-line_of_text top octets f (Ok text) h is = text_fault f (string_bytes text) h is
+line_of_text top octets f (Ok text) h e = subst (λ x. IsFaultLine top octets x) (sym e) (text_fault f h)
 line_of_text top octets f (Err e) h is = tt
 
 pub line_of_cause : (top octets : List ℕ) (f : ProfileFault) (r : Result (String Global) AllocError) → HasCause octets top f → IfOk r (λ text. string_bytes text ≡ cause_line octets f)
@@ -96,7 +96,7 @@ module _ {X : Type 0} (says : Says X) (faults : Faults X) (shows : Bool) (start 
   printed_fault i d x ctx reached out written o text r h e so step is w g =
       let f = subst (λ (y : Printed). IsStep says faults ctx reached (i + 1) x y) is step in
       let here : drop i inputs ≡ x ∷ drop (i + 1) inputs = drop_more inputs i d h ∙ ap (λ y. y ∷ drop (i + 1) inputs) (sym e) in
-      let last : Prints says faults shows ctx (i + 1) (x ∷ drop (i + 1) inputs) status.Refused (string_bytes text ++ 10 ∷ []) = fault (string_bytes text) f in
+      let last : Prints says faults shows ctx (i + 1) (x ∷ drop (i + 1) inputs) status.Refused (string_bytes text ++ 10 ∷ []) = fault (string_bytes text) f.0 f.1 in
       let whole = so status.Refused (string_bytes text ++ 10 ∷ []) (subst (λ xs. Prints says faults shows ctx (i + 1) xs status.Refused (string_bytes text ++ 10 ∷ [])) (sym here) last) in
       let shaped : Prints says faults shows start 1 inputs status.Refused ((out ++ string_bytes text) ++ 10 ∷ []) = subst (λ o. Prints says faults shows start 1 inputs status.Refused o) (sym (append_assoc out (string_bytes text) (10 ∷ []))) whole in
       refusal_is (Prints says faults shows start 1 inputs) (out ++ string_bytes text) (out ++ written) r shaped (ap (λ t. out ++ t) w) g

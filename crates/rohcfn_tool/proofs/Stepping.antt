@@ -7,7 +7,8 @@ use Rattle.fn_bits.specs.Cursor.{Place}
 use Rattle.fn_bits.specs.Text.{IsText}
 use Rattle.fn_context.specs.Entries.{Entries, overridden}
 use Rattle.fn_normal.specs.declared.profile.Method.{Method}
-use Rattle.fn_profile.specs.Resolved.{Resolved}
+use Rattle.fn_profile.specs.Named.{AreWords}
+use Rattle.fn_profile.specs.Resolved.{IsSound, Resolved}
 use Rattle.fn_filling.specs.declared.filling.Item.{Item}
 use Rattle.fn_filling.specs.declared.filling.AskedValue.{AskedValue}
 use Rattle.fn_filling.specs.Fillings.{item}
@@ -18,7 +19,10 @@ use Rattle.fn_engine.specs.declared.reader.Read.{Read}
 use Rattle.fn_engine.specs.declared.reader.UnpackFault.{UnpackFault}
 use Rattle.fn_engine.specs.declared.writer.Written.{Written}
 use Rattle.rohcfn_tool.specs.declared.printing.Printed.TheVariants as printed
-use Rattle.rohcfn_tool.specs.Printed.{AreValuesText, FaultsPacket, IsItemStep, IsItemText, IsPacketFault, IsPacketStep, IsTaken, IsValueText}
+use Rattle.rohcfn_tool.specs.ItemTexts.{AreValuesText, IsItemText, IsValueText}
+use Rattle.rohcfn_tool.specs.OneLine.{IsLine}
+use Rattle.rohcfn_tool.proofs.OneLines.{packet_faults}
+use Rattle.rohcfn_tool.specs.Printed.{FaultsPacket, IsItemStep, IsPacketFault, IsPacketStep, IsTaken}
 
 -- ---- items
 
@@ -42,9 +46,10 @@ read_step a old new n packet from to r line start is text reached =
     )
 
 pub packet_faulted : (a : Accepting) (ctx : Entries) (n : ℕ) (packet : List Bool) (from : Place) (e : UnpackFault) (p : Resolved) (methods : List Method) (text : List ℕ) → from ≡ record { used = []; left = packet } → reading.Blames e a ctx from.left → p ≡ a.profile → methods ≡ p.methods
-    → IsPacketFault e methods n text → FaultsPacket a ctx n packet text
-packet_faulted a ctx n packet from e p methods text start blames same shown is =
-    (e, subst (reading.Blames e a ctx) (ap (λ (q : Place). q.left) start) blames, subst (λ ms. IsPacketFault e ms n text) (shown ∙ ap (λ (q : Resolved). q.methods) same) is)
+    → IsPacketFault e methods n text → IsSound p → FaultsPacket a ctx n packet text × IsLine text
+packet_faulted a ctx n packet from e p methods text start blames same shown is sound =
+    let words : AreWords methods = subst AreWords (sym shown) sound.words in
+    ((e, subst (reading.Blames e a ctx) (ap (λ (q : Place). q.left) start) blames, subst (λ ms. IsPacketFault e ms n text) (shown ∙ ap (λ (q : Resolved). q.methods) same) is), packet_faults e methods n text words is)
 
 -- ---- the text of an item
 

@@ -11,7 +11,7 @@ use Rattle.clap.specs.declared.parser.matches.SubCommand.{SubCommand}
 use Rattle.rohcfn_tool.specs.declared.words.Command.{Command}
 use Rattle.rohcfn_tool.specs.declared.words.WordsError.{WordsError}
 use Rattle.rohcfn_tool.specs.declared.words.WordsError.TheVariants as error
-use Rattle.rohcfn_tool.specs.Words.{AskHelp, Asked, RefusesError, RefusesWords, asked_by, asked_in, asked_of, asked_unless, command_named, is_set, program}
+use Rattle.rohcfn_tool.specs.Words.{AskHelp, AskJustHelp, Asked, RefusesError, RefusesWords, asked_by, asked_in, asked_of, asked_unless, command_named, is_set, program}
 
 program_is_simple : is_simple program ≡ true
 unfolding program
@@ -32,15 +32,16 @@ subcommand_read (Some b) (Some p) name rows =
     ap Some (λ i. (sym n i, sym r i))
 
 -- what a command's name and the values of its flags ask for
-pub asked_by_parts : (met : Option (List ℕ × List Row)) (name : List ℕ) (rows : List Row) (command : Option Command) (top : Option (List ℕ)) (context : Bool) → met ≡ Some (name, rows) → command ≡ command_named name → top ≡ first_of (codes "top") rows
-    → context ≡ is_set (first_of (codes "context") rows) → asked_by command top context ≡ asked_in met
-asked_by_parts met name rows command top context m c t s = (λ i. asked_by (c i) (t i) (s i)) ∙ sym (ap asked_in m)
+pub asked_by_parts : (met : Option (List ℕ × List Row)) (name : List ℕ) (rows : List Row) (command : Option Command) (receives : Bool) (top : Option (List ℕ)) (context : Bool) → met ≡ Some (name, rows) → command ≡ command_named name receives
+    → receives ≡ is_set (first_of (codes "receive") rows) → top ≡ first_of (codes "top") rows → context ≡ is_set (first_of (codes "context") rows) → asked_by command top context ≡ asked_in met
+asked_by_parts met name rows command receives top context m c r t s = (λ i. asked_by ((c ∙ ap (command_named name) r) i) (t i) (s i)) ∙ sym (ap asked_in m)
 
 -- without the name of a method nothing is asked for
-pub asked_without_top : (met : Option (List ℕ × List Row)) (name : List ℕ) (rows : List Row) (command : Option Command) (top : Option (List ℕ)) → met ≡ Some (name, rows) → command ≡ command_named name → top ≡ first_of (codes "top") rows → top ≡ None → None ≡ asked_in met
-asked_without_top met name rows command top m c t none =
+pub asked_without_top : (met : Option (List ℕ × List Row)) (name : List ℕ) (rows : List Row) (command : Option Command) (receives : Bool) (top : Option (List ℕ)) → met ≡ Some (name, rows) → command ≡ command_named name receives
+    → receives ≡ is_set (first_of (codes "receive") rows) → top ≡ first_of (codes "top") rows → top ≡ None → None ≡ asked_in met
+asked_without_top met name rows command receives top m c r t none =
     let context : Bool = is_set (first_of (codes "context") rows) in
-    no_top command context ∙ (λ i. asked_by command (sym none i) context) ∙ asked_by_parts met name rows command top context m c t refl
+    no_top command context ∙ (λ i. asked_by command (sym none i) context) ∙ asked_by_parts met name rows command receives top context m c r t refl
   where
     no_top : (command : Option Command) (context : Bool) → None ≡ asked_by command None context
     no_top None context = refl
@@ -62,11 +63,27 @@ help_asked : (words : List (List ℕ)) (kind : ErrorKind) → kind ≡ DisplayHe
 unfolding AskHelp
 help_asked words kind e h = subst (λ (k : ErrorKind). IsAmong k (fault_of program words)) e h
 
+-- what is told of words that ask for help alone is help
+only_help : (words : List (List ℕ)) (kind : ErrorKind) → AskJustHelp words → IsAmong kind (fault_of program words) → kind ≡ DisplayHelp
+unfolding AskJustHelp
+only_help words kind just h = of_one (subst (λ (kinds : Kinds). IsAmong kind kinds) just h)
+  where
+    of_one : IsAmong kind (DisplayHelp ∷ []) → kind ≡ DisplayHelp
+    of_one (inl e) = e
+    of_one (inr none) = absurd none
+
+-- of words without a fault none is told
+pub faultless_asks_no_help : (app : App) (words : List (List ℕ)) → app ≡ program → (is_simple_and_free app ≡ true → fault_of app words ≡ []) → ¬ (AskJustHelp words)
+unfolding AskJustHelp
+faultless_asks_no_help app words is none just =
+    let faultless : fault_of program words ≡ [] = ap (λ a. fault_of a words) (sym is) ∙ none (ap is_simple_and_free is ∙ program_is_free) in
+    absurd (let e : [] ≡ DisplayHelp ∷ [] = sym faultless ∙ just in cc)
+
 refused_by : (words : List (List ℕ)) (kind : ErrorKind) (told : WordsError) → (kind ≡ OutOfMemory) ⊎ IsAmong kind (fault_of program words) → RefusesError kind told → RefusesWords words told
 refused_by words kind (error.Help text) (inl e) says = absurd (let h : DisplayHelp ≡ OutOfMemory = sym says ∙ e in cc)
 refused_by words kind (error.Help text) (inr h) says = (faulty_asks_none words _ kind refl h, help_asked words kind says h)
-refused_by words kind (error.Usage text) (inl e) says = absurd (says e)
-refused_by words kind (error.Usage text) (inr h) says = faulty_asks_none words _ kind refl h
+refused_by words kind (error.Usage text) (inl e) says = absurd (says.0 e)
+refused_by words kind (error.Usage text) (inr h) says = (faulty_asks_none words _ kind refl h, λ just. says.1 (only_help words kind just h))
 refused_by words kind error.OutOfMemory h says = tt
 
 pub words_refused : (app : App) (words : List (List ℕ)) (kind : ErrorKind) (told : WordsError) → app ≡ program → (is_simple_and_free app ≡ true → (kind ≡ OutOfMemory) ⊎ IsAmong kind (fault_of app words)) → RefusesError kind told → RefusesWords words told

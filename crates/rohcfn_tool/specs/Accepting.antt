@@ -18,6 +18,7 @@ use Rattle.rohcfn_tool.specs.declared.accepting.Found.{Found}
 use Rattle.rohcfn_tool.specs.declared.accepting.Found.TheVariants as found
 use Rattle.rohcfn_tool.specs.declared.accepting.Judged.{Judged}
 use Rattle.rohcfn_tool.specs.declared.accepting.Judged.TheVariants as judged
+use Rattle.rohcfn_tool.specs.OneLine.{IsLine}
 use Rattle.rohcfn_tool.specs.ProfileLines.{IsFaultLine}
 use Rattle.rohcfn_tool.specs.Provings.{IsUnprovedLine}
 use Rattle.rohcfn_tool.specs.Verdicts.{IsErrorLine, line_of_certificate, verdict_line}
@@ -54,12 +55,12 @@ pub record IsAcceptedOf (p : Resolved) (part : Option (Bor (List ℕ))) (a : Acc
 
 -- ---- by the octets of a profile
 
--- The line of the first fault of a profile or of its certificate.
+-- The line of the first fault of a profile or of its certificate. It is one line.
 pub data RefusesProfile (top profile : List ℕ) (part : Option (Bor (List ℕ))) (text : List ℕ) : Type 0 where
   -- the octets have no normal form
   at_fault : IsFaultLine top profile text → RefusesProfile top profile part text
   -- something is wrong with the certificate of their normal form
-  unaccepted : (p : Resolved) → Reads profile top p → RefusesCertificate p part text → RefusesProfile top profile part text
+  unaccepted : (p : Resolved) → Reads profile top p → RefusesCertificate p part text → IsLine text → RefusesProfile top profile part text
 
 -- the normal form of the octets, with a certificate that is valid for it
 pub record AcceptsProfile (top profile : List ℕ) (part : Option (Bor (List ℕ))) (a : Accepting) : Type 0 where
@@ -71,16 +72,16 @@ pub record AcceptsProfile (top profile : List ℕ) (part : Option (Bor (List ℕ
 
 abbrev pub IsFound : Resolved → Option (Bor (List ℕ)) → Found → Type 0
 IsFound p part (found.Certificate cert) = IsCertificate p part cert
-IsFound p part (found.Line text) = LacksCertificate p part (string_bytes text)
+IsFound p part (found.Line text) = LacksCertificate p part (string_bytes text) × IsLine (string_bytes text)
 
 -- what is found of a profile with this certificate
 abbrev pub IsVerdict : Resolved → Entries → Judged → Type 0
 IsVerdict p cert (judged.Accepted a) = (a.profile ≡ p) × (a.certificate ≡ cert) × Valid p.methods p.sizes p.top cert
-IsVerdict p cert (judged.Refused text) = (fault : CheckFault) × IsRefused p.methods p.sizes p.top cert fault × (string_bytes text ≡ verdict_line p.methods fault)
+IsVerdict p cert (judged.Refused text) = (fault : CheckFault) × IsRefused p.methods p.sizes p.top cert fault × (string_bytes text ≡ verdict_line p.methods fault) × IsLine (string_bytes text)
 
 abbrev pub IsJudged : Resolved → Option (Bor (List ℕ)) → Judged → Type 0
 IsJudged p part (judged.Accepted a) = IsAcceptedOf p part a
-IsJudged p part (judged.Refused text) = RefusesCertificate p part (string_bytes text)
+IsJudged p part (judged.Refused text) = RefusesCertificate p part (string_bytes text) × IsLine (string_bytes text)
 
 abbrev pub JudgesOctets : List ℕ → List ℕ → Option (Bor (List ℕ)) → Judged → Type 0
 JudgesOctets top profile part (judged.Accepted a) = AcceptsProfile top profile part a

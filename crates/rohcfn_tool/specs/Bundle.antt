@@ -61,6 +61,7 @@ front_of input = text_before (full_lines input)
 abbrev pub is_known : List ℕ → Bool
 is_known name = bytes_eq name (codes "words") || bytes_eq name (codes "profile") || bytes_eq name (codes "certificate")
     || bytes_eq name (codes "context") || bytes_eq name (codes "items") || bytes_eq name (codes "packets")
+    || bytes_eq name (codes "events") || bytes_eq name (codes "octets")
 
 -- the text of the first part of that name
 abbrev pub text_named : List ℕ → List Part → Option (List ℕ)
@@ -92,6 +93,8 @@ pub record HoldsParts (held : Parts) (parts : List Part) : Type 0 where
   pub context : option_map (λ text. text.now) held.context ≡ text_named (codes "context") parts
   pub items : option_map (λ text. text.now) held.items ≡ text_named (codes "items") parts
   pub packets : option_map (λ text. text.now) held.packets ≡ text_named (codes "packets") parts
+  pub events : option_map (λ text. text.now) held.events ≡ text_named (codes "events") parts
+  pub octets : option_map (λ text. text.now) held.octets ≡ text_named (codes "octets") parts
 
 -- the part is the first that may not stand after those before it
 pub record IsFirstBad (parts : List Part) (blamed : List ℕ) : Type 0 where

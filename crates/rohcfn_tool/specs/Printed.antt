@@ -10,7 +10,6 @@ use Rattle.fn_names.specs.Readings.{Reads}
 use Rattle.fn_show.specs.Shown as listing
 use Rattle.fn_filling.specs.declared.filling.Filling.{Filling}
 use Rattle.fn_filling.specs.declared.filling.Item.{Item}
-use Rattle.fn_filling.specs.declared.filling.AskedValue.{AskedValue}
 use Rattle.fn_filling.specs.Fillings.{packed, item}
 use Rattle.fn_filling.specs.Entries.{next}
 use Rattle.fn_best.specs.Best.{Best}
@@ -28,29 +27,22 @@ use Rattle.rohcfn_tool.specs.declared.printing.Printed.TheVariants as printed
 use Rattle.rohcfn_tool.specs.declared.status.Answer.{Answer}
 use Rattle.rohcfn_tool.specs.declared.status.Status.{Status}
 use Rattle.rohcfn_tool.specs.declared.status.Status.TheVariants as status
+use Rattle.rohcfn_tool.specs.declared.words.Command.TheVariants as command
 use Rattle.rohcfn_tool.specs.declared.words.Command.TheVariants.{Show, Check, Prove, Run}
 use Rattle.rohcfn_tool.specs.declared.words.Direction.{Direction}
 use Rattle.rohcfn_tool.specs.declared.words.Direction.TheVariants.{Pack, Unpack}
+use Rattle.rohcfn_tool.specs.declared.words.End.{End}
 use Rattle.rohcfn_tool.specs.declared.words.Order.{Order}
 use Rattle.rohcfn_tool.specs.Accepting.{AcceptsProfile, RefusesProfile}
 use Rattle.rohcfn_tool.specs.Inputs.{HasLines, IsBadContext, IsBadLine, IsBits, IsItem, StartsAt}
+use Rattle.rohcfn_tool.specs.OneLine.{IsLine}
+use Rattle.rohcfn_tool.specs.ItemTexts.{IsItemText}
+use Rattle.rohcfn_tool.specs.Lined.{Lined}
 use Rattle.rohcfn_tool.specs.ProfileLines.{IsFaultLine}
 use Rattle.rohcfn_tool.specs.Provings.{ProvedBy}
 use Rattle.rohcfn_tool.specs.Verdicts.{format_name, method_name}
 
 -- ---- the line of an item or a packet
-
--- the value of a field: a blank, its name, an equals sign and the text of its bits
-abbrev pub IsValueText : AskedValue → List ℕ → Type 0
-IsValueText v text = (spelled : List ℕ) × IsText spelled v.bits × (text ≡ codes " " ++ v.name ++ codes "=" ++ spelled)
-
-abbrev pub AreValuesText : List AskedValue → List ℕ → Type 0
-AreValuesText [] text = text ≡ []
-AreValuesText (v ∷ vs) text = (word : List ℕ) × (rest : List ℕ) × IsValueText v word × AreValuesText vs rest × (text ≡ word ++ rest)
-
--- an item: the text of its header, then its values
-abbrev pub IsItemText : Item → List ℕ → Type 0
-IsItemText it text = (front : List ℕ) × (values : List ℕ) × IsText front it.header × AreValuesText it.asked values × (text ≡ front ++ values)
 
 -- an item, and how many bits its packet took
 abbrev pub IsTaken : Item → ℕ → List ℕ → Type 0
@@ -104,12 +96,12 @@ IsEnd false ctx text = text ≡ []
 IsEnd true ctx text = (rest : List ℕ) × IsContextText ctx rest × (text ≡ codes "=== context\n" ++ rest)
 
 -- What is printed for inputs, counted from n, in a context. Each has a line that is that of a filling, whose entries go over the context; the first that is
--- refused has the line of its fault, which is the last.
+-- refused has the line of its fault, which is one line and the last.
 pub data Prints {X : Type 0} (says : Entries → X → Filling → List ℕ → Type 0) (faults : Entries → ℕ → X → List ℕ → Type 0) (shows : Bool) : Entries → ℕ → List X → Status → List ℕ → Type 0 where
   done : {ctx : Entries} {n : ℕ} {text : List ℕ} → IsEnd shows ctx text → Prints says faults shows ctx n [] status.Done text
   line : {ctx : Entries} {n : ℕ} {x : X} {xs : List X} {s : Status} (f : Filling) (text rest : List ℕ) → says ctx x f text → Prints says faults shows (next ctx f) (n + 1) xs s rest
       → Prints says faults shows ctx n (x ∷ xs) s (text ++ 10 ∷ rest)
-  fault : {ctx : Entries} {n : ℕ} {x : X} {xs : List X} (text : List ℕ) → faults ctx n x text → Prints says faults shows ctx n (x ∷ xs) status.Refused (text ++ 10 ∷ [])
+  fault : {ctx : Entries} {n : ℕ} {x : X} {xs : List X} (text : List ℕ) → faults ctx n x text → IsLine text → Prints says faults shows ctx n (x ∷ xs) status.Refused (text ++ 10 ∷ [])
 
 abbrev pub PrintsItems : Accepting → Bool → Entries → ℕ → List Item → Status → List ℕ → Type 0
 PrintsItems a shows = Prints (IsItemLine a) (FaultsItem a) shows
@@ -207,6 +199,8 @@ pub data Answered (order : Order) (parts : Parts) : Status → List ℕ → Type
       → ProvedOctets order.top.now profile.now s output → Answered order parts s output
   ran : {s : Status} {output : List ℕ} (profile : Bor (List ℕ)) (direction : Direction) → parts.profile ≡ Some profile → order.command ≡ Run direction
       → AnsweredRun direction order profile.now parts s output → Answered order parts s output
+  lined : {s : Status} {output : List ℕ} (profile : Bor (List ℕ)) (end : End) → parts.profile ≡ Some profile → order.command ≡ command.Line end
+      → Lined end order.top.now profile.now parts s output → Answered order parts s output
 
 -- ---- the steps
 
@@ -250,10 +244,10 @@ pub record IsFinished (shows : Bool) (ctx : Entries) (lines : List ℕ) (a : Ans
   pub ends : IsEnd shows ctx text
   pub output_is : string_bytes a.output ≡ lines ++ text
 
--- a line for an input, after which the context is the next, or the line of its refusal
+-- a line for an input, after which the context is the next, or the one line of its refusal
 abbrev pub IsStep : {X : Type 0} → (Entries → X → Filling → List ℕ → Type 0) → (Entries → ℕ → X → List ℕ → Type 0) → Entries → Entries → ℕ → X → Printed → Type 0
 IsStep says faults old new n x (printed.Line text) = (f : Filling) × says old x f (string_bytes text) × (new ≡ next old f)
-IsStep says faults old new n x (printed.Fault text) = faults old n x (string_bytes text)
+IsStep says faults old new n x (printed.Fault text) = faults old n x (string_bytes text) × IsLine (string_bytes text)
 
 abbrev pub IsItemStep : Accepting → Entries → Entries → ℕ → Item → Printed → Type 0
 IsItemStep a old new n it = IsStep (IsItemLine a) (FaultsItem a) old new n it

@@ -4,9 +4,10 @@ use Rattle.std.specs.Str.{is_utf8}
 use Rattle.std.specs.Str.Lines.{lines}
 use Rattle.std.specs.List.{slice_split}
 use Rattle.std.specs.Io.KnownBytes.{Appends, Keeps}
+pub use Rattle.rohcfn_tool.specs.Counted.{most_octets}
 use Rattle.rohcfn_tool.specs.Bundle.{BlamesPart, HoldsParts, IsBundle, parts_of, text_named}
 use Rattle.rohcfn_tool.specs.Printed.{Answered}
-use Rattle.rohcfn_tool.specs.Words.{AskHelp, asked, asked_of}
+use Rattle.rohcfn_tool.specs.Words.{AskHelp, AskJustHelp, asked, asked_of}
 use Rattle.rohcfn_tool.specs.declared.bundle.BadPart.{BadPart}
 use Rattle.rohcfn_tool.specs.declared.bundle.BadPart.TheVariants.{Front, Named}
 use Rattle.rohcfn_tool.specs.declared.bundle.Parts.{Parts}
@@ -18,10 +19,6 @@ use Rattle.rohcfn_tool.specs.declared.program.Reply.TheVariants.{Print, Tell}
 use Rattle.rohcfn_tool.specs.declared.status.Status.{Status}
 use Rattle.rohcfn_tool.specs.declared.status.Status.TheVariants.{Done, Refused, Usage, Failed}
 use Rattle.rohcfn_tool.specs.declared.words.Order.{Order}
-
--- 4 MiB
-abbrev pub most_octets : ℕ
-most_octets = 4194304
 
 abbrev pub large_line : List ℕ
 large_line = codes "bundle: I6 above 4 MiB" ++ 10 ∷ []
@@ -78,18 +75,19 @@ abbrev pub BeginsPrint : List (List ℕ) → List ℕ → List ℕ → Type 0
 BeginsPrint given input sent = (sent ≡ [])
     ⊎ ((status : Status) × (rest : List ℕ) × RunPrints given input status (sent ++ rest))
 
--- the call is refused, and nothing is written; help is asked for where the status is that of a run that is done
+-- the call is refused, and nothing is written: help is asked for where the status is that of a run that is done, and not for help alone where it is that of a
+-- usage fault
 abbrev pub Tells : List (List ℕ) → List ℕ → Status → Type 0
 Tells given input Done = (words : List (List ℕ)) × AsksNothing given input words × AskHelp words
-Tells given input Usage = (words : List (List ℕ)) × AsksNothing given input words
+Tells given input Usage = (words : List (List ℕ)) × AsksNothing given input words × ¬ (AskJustHelp words)
 Tells given input Refused = ⊥
-Tells given input Failed = ⊥
+Tells given input (Failed why) = ⊥
 
 -- what a run does to the known bytes of its writer: it prints, or tells the person who called and
 -- writes nothing, or fails and has then written the front of what may be printed
 abbrev pub Gives : {Told : Type 0} → List (List ℕ) → List ℕ → Status → Option Told → Option (List ℕ) → Option (List ℕ) → Type 0
 Gives given input status (Some text) old new = Tells given input status × Keeps old new
-Gives given input Failed None old new = (sent : List ℕ) × BeginsPrint given input sent × Appends old new sent
+Gives given input (Failed why) None old new = (sent : List ℕ) × BeginsPrint given input sent × Appends old new sent
 Gives given input status None old new = (output : List ℕ) × RunPrints given input status output × Appends old new output
 
 abbrev pub RunGives : List (List ℕ) → List ℕ → Outcome → Option (List ℕ) → Option (List ℕ) → Type 0
@@ -113,9 +111,9 @@ Replies given input (Tell status text) = Tells given input status
 -- the words ask for nothing, or for help
 abbrev pub TellsBy : List (List ℕ) → Status → Type 0
 TellsBy words Done = (asked_of words ≡ None) × AskHelp words
-TellsBy words Usage = asked_of words ≡ None
+TellsBy words Usage = (asked_of words ≡ None) × ¬ (AskJustHelp words)
 TellsBy words Refused = ⊥
-TellsBy words Failed = ⊥
+TellsBy words (Failed why) = ⊥
 
 -- what the reply to words and parts is
 abbrev pub RepliesBy : List (List ℕ) → Parts → Reply → Type 0

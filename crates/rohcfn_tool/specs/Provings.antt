@@ -12,6 +12,7 @@ use Rattle.fn_prover.specs.declared.unproved.Unproved.TheVariants.{NoPlan, NoTre
 use Rattle.rohcfn_tool.specs.declared.status.Answer.{Answer}
 use Rattle.rohcfn_tool.specs.declared.status.Status.{Status}
 use Rattle.rohcfn_tool.specs.declared.status.Status.TheVariants as status
+use Rattle.rohcfn_tool.specs.OneLine.{IsLine}
 use Rattle.rohcfn_tool.specs.Verdicts.{names, method_name, format_name, field_name, direction_word}
 
 -- a side of a field of a format, after a blank
@@ -35,8 +36,8 @@ IsUnprovedLine methods OutOfMemory text = ⊥
 
 -- What is answered to `prove`, by the profile.
 pub data ProvedBy (p : Resolved) : Status → List ℕ → Type 0 where
-  -- no certificate is made
-  unproved : (why : Unproved) (text : List ℕ) → IsUnproved p why → IsUnprovedLine p.methods why text → ProvedBy p status.Refused (text ++ 10 ∷ [])
+  -- no certificate is made, and one line says why
+  unproved : (why : Unproved) (text : List ℕ) → IsUnproved p why → IsUnprovedLine p.methods why text → IsLine text → ProvedBy p status.Refused (text ++ 10 ∷ [])
   -- the text of the one that is
   printed : (cert : Entries) → IsProved p cert → ProvedBy p status.Done (certificate_text cert)
 

@@ -7,8 +7,10 @@ use Rattle.clap.specs.declared.builder.action.ArgAction.TheVariants.{SetTrue}
 use Rattle.clap.specs.declared.error.kind.ErrorKind.{ErrorKind}
 use Rattle.clap.specs.declared.error.kind.ErrorKind.TheVariants.{DisplayHelp, OutOfMemory}
 use Rattle.rohcfn_tool.specs.declared.words.Command.{Command}
-use Rattle.rohcfn_tool.specs.declared.words.Command.TheVariants.{Show, Check, Prove, Run}
+use Rattle.rohcfn_tool.specs.declared.words.Command.TheVariants.{Show, Check, Prove, Run, Line}
 use Rattle.rohcfn_tool.specs.declared.words.Direction.TheVariants.{Pack, Unpack}
+use Rattle.rohcfn_tool.specs.declared.words.End.{End}
+use Rattle.rohcfn_tool.specs.declared.words.End.TheVariants.{Sending, Receiving}
 use Rattle.rohcfn_tool.specs.declared.words.Order.{Order}
 use Rattle.rohcfn_tool.specs.declared.words.WordsError.{WordsError}
 use Rattle.rohcfn_tool.specs.declared.words.WordsError.TheVariants as error
@@ -28,12 +30,22 @@ context_flag = record (new_rule (codes "context")) {
   action = Some SetTrue;
 }
 
--- a command of that name with the first flag, and with both
+-- `--receive`, likewise
+abbrev pub receive_flag : Rule
+receive_flag = record (new_rule (codes "receive")) {
+  long = Some (codes "receive");
+  action = Some SetTrue;
+}
+
+-- a command of that name with the first flag, and with one more
 abbrev pub with_top : List ℕ → App
 with_top name = with_rule (new_app name) top_flag
 
 abbrev pub with_flags : List ℕ → App
 with_flags name = with_rule (with_top name) context_flag
+
+abbrev pub with_receive : List ℕ → App
+with_receive name = with_rule (with_top name) receive_flag
 
 -- the program's own command line: no name before the words, and one of the commands has to be there
 abbrev pub bare_program : App
@@ -42,8 +54,8 @@ bare_program = on_top (λ top. record top { no_binary_name = true; subcommand_re
 
 -- with its commands
 unfoldable pub program : App
-program = with_subcommand (with_subcommand (with_subcommand (with_subcommand (with_subcommand bare_program (with_flags (codes "pack")).top)
-    (with_flags (codes "unpack")).top) (with_top (codes "show")).top) (with_top (codes "check")).top) (with_top (codes "prove")).top
+program = with_subcommand (with_subcommand (with_subcommand (with_subcommand (with_subcommand (with_subcommand bare_program (with_flags (codes "pack")).top)
+    (with_flags (codes "unpack")).top) (with_top (codes "show")).top) (with_top (codes "check")).top) (with_top (codes "prove")).top) (with_receive (codes "line")).top
 
 -- a command, the name of a method, and whether the last context is printed
 pub record Asked : Type 0 where
@@ -54,12 +66,18 @@ pub record Asked : Type 0 where
 abbrev pub asked : Order → Asked
 asked order = record { command = order.command; top = order.top.now; shows_context = order.shows_context }
 
-abbrev pub command_named : List ℕ → Option Command
-command_named name = if bytes_eq name (codes "pack") then Some (Run Pack)
+-- the end of a line: the receiving one, where that is asked for
+abbrev pub end_at : Bool → End
+end_at receives = if receives then Receiving else Sending
+
+-- a command by its name, and by whether the receiving end is asked for
+abbrev pub command_named : List ℕ → Bool → Option Command
+command_named name receives = if bytes_eq name (codes "pack") then Some (Run Pack)
     else (if bytes_eq name (codes "unpack") then Some (Run Unpack)
     else (if bytes_eq name (codes "show") then Some Show
     else (if bytes_eq name (codes "check") then Some Check
-    else (if bytes_eq name (codes "prove") then Some Prove else None))))
+    else (if bytes_eq name (codes "prove") then Some Prove
+    else (if bytes_eq name (codes "line") then Some (Line (end_at receives)) else None)))))
 
 -- the flag was given
 abbrev pub is_set : Option (List ℕ) → Bool
@@ -74,7 +92,7 @@ asked_by (Some command) (Some top) context = Some (record { command = command; t
 -- a command's name, and the values of its flags
 abbrev pub asked_in : Option (List ℕ × List Row) → Option Asked
 asked_in None = None
-asked_in (Some met) = asked_by (command_named met.0) (first_of (codes "top") met.1) (is_set (first_of (codes "context") met.1))
+asked_in (Some met) = asked_by (command_named met.0 (is_set (first_of (codes "receive") met.1))) (first_of (codes "top") met.1) (is_set (first_of (codes "context") met.1))
 
 -- words with a fault ask for nothing
 abbrev pub asked_unless : Kinds → Option (List ℕ × List Row) → Option Asked
@@ -89,16 +107,20 @@ asked_of words = asked_unless (fault_of program words) (subcommand_of program wo
 unfoldable pub AskHelp : List (List ℕ) → Type 0
 AskHelp words = IsAmong DisplayHelp (fault_of program words)
 
+-- they ask for help, and no other fault may be told of them
+unfoldable pub AskJustHelp : List (List ℕ) → Type 0
+AskJustHelp words = fault_of program words ≡ DisplayHelp ∷ []
+
 -- why words are refused: they ask for help, or for nothing
 abbrev pub RefusesWords : List (List ℕ) → WordsError → Type 0
 RefusesWords words (error.Help text) = (asked_of words ≡ None) × AskHelp words
-RefusesWords words (error.Usage text) = asked_of words ≡ None
+RefusesWords words (error.Usage text) = (asked_of words ≡ None) × ¬ (AskJustHelp words)
 RefusesWords words error.OutOfMemory = Unit {0}
 
 -- what clap's kind of refusal is to the caller
 abbrev pub RefusesError : ErrorKind → WordsError → Type 0
 RefusesError kind (error.Help text) = kind ≡ DisplayHelp
-RefusesError kind (error.Usage text) = kind ≢ OutOfMemory
+RefusesError kind (error.Usage text) = (kind ≢ OutOfMemory) × (kind ≢ DisplayHelp)
 RefusesError kind error.OutOfMemory = Unit {0}
 
 -- what some words ask for, written out
@@ -110,7 +132,13 @@ pub record ReadsWords : Type 0 where
   pub prove : asked_of (codes "prove" ∷ codes "--top" ∷ codes "plain" ∷ []) ≡ Some (record { command = Prove; top = codes "plain"; shows_context = false })
   pub pack_context : asked_of (codes "pack" ∷ codes "--top" ∷ codes "plain" ∷ codes "--context" ∷ []) ≡ Some (record { command = Run Pack; top = codes "plain"; shows_context = true })
   pub show_context : asked_of (codes "show" ∷ codes "--top" ∷ codes "plain" ∷ codes "--context" ∷ []) ≡ None
+  pub line : asked_of (codes "line" ∷ codes "--top" ∷ codes "plain" ∷ []) ≡ Some (record { command = Line Sending; top = codes "plain"; shows_context = false })
+  pub line_receive : asked_of (codes "line" ∷ codes "--top" ∷ codes "plain" ∷ codes "--receive" ∷ []) ≡ Some (record { command = Line Receiving; top = codes "plain"; shows_context = false })
+  pub pack_receive : asked_of (codes "pack" ∷ codes "--top" ∷ codes "plain" ∷ codes "--receive" ∷ []) ≡ None
+  pub line_context : asked_of (codes "line" ∷ codes "--top" ∷ codes "plain" ∷ codes "--context" ∷ []) ≡ None
   pub no_top : asked_of (codes "pack" ∷ []) ≡ None
   pub no_command : asked_of [] ≡ None
   pub other_flag : asked_of (codes "pack" ∷ codes "--top" ∷ codes "plain" ∷ codes "--fly" ∷ []) ≡ None
-  pub help : AskHelp (codes "--help" ∷ [])
+  pub help : AskJustHelp (codes "--help" ∷ [])
+  pub command_help : AskJustHelp (codes "pack" ∷ codes "--help" ∷ [])
+  pub help_command : AskHelp (codes "help" ∷ [])

@@ -80,7 +80,10 @@ fn make(alloc: Global, profile: &Profile) -> Result<Found, AllocError>
 {
     match prove(alloc, profile) {
         Ok(certificate) => Ok(Found::Certificate(certificate)),
-        Err(unproved) => Ok(Found::Line(unproved_line(alloc, profile.methods(), unproved)?)),
+        Err(unproved) => {
+            profile.keeps();
+            Ok(Found::Line(unproved_line(alloc, profile.methods(), unproved)?))
+        }
     }
 }
 
@@ -116,11 +119,11 @@ fn verdict(alloc: Global, profile: Profile, certificate: Certificate) -> Result<
             Ok(Judged::Accepted(accepted))
         }
         Err(refused) => match refused.error {
-            CheckError::Fault(fault) => Ok(Judged::Refused(verdict_line(
-                alloc,
-                refused.profile.methods(),
-                fault,
-            )?)),
+            CheckError::Fault(fault) => {
+                refused.profile.keeps();
+                let methods = refused.profile.methods();
+                Ok(Judged::Refused(verdict_line(alloc, methods, fault)?))
+            }
             CheckError::OutOfMemory => Err(AllocError),
         },
     }

@@ -12,6 +12,8 @@ pub struct Parts<'a> {
     pub context: Option<&'a [u8]>,
     pub items: Option<&'a [u8]>,
     pub packets: Option<&'a [u8]>,
+    pub events: Option<&'a [u8]>,
+    pub octets: Option<&'a [u8]>,
 }
 
 /// What makes an input no bundle, the first in its order.
@@ -37,6 +39,10 @@ const ITEMS: &[u8] = b"items";
 
 const PACKETS: &[u8] = b"packets";
 
+const EVENTS: &[u8] = b"events";
+
+const OCTETS: &[u8] = b"octets";
+
 /// The parts of an input: a line that begins with three equals signs and a blank has the name of a
 /// part, whose text goes on up to the next such line. Takes no memory, and time by the input's length.
 pub fn split(input: &[u8]) -> Result<Parts<'_>, BadPart<'_>>
@@ -55,6 +61,8 @@ pub fn split(input: &[u8]) -> Result<Parts<'_>, BadPart<'_>>
         context: None,
         items: None,
         packets: None,
+        events: None,
+        octets: None,
     };
     while !rest.is_empty() {
         let heading = first_line(rest);
@@ -111,6 +119,16 @@ fn with_part<'a>(parts: Parts<'a>, name: &[u8], text: &'a [u8]) -> Option<Parts<
     } else if name == PACKETS && parts.packets.is_none() {
         Some(Parts {
             packets: Some(text),
+            ..parts
+        })
+    } else if name == EVENTS && parts.events.is_none() {
+        Some(Parts {
+            events: Some(text),
+            ..parts
+        })
+    } else if name == OCTETS && parts.octets.is_none() {
+        Some(Parts {
+            octets: Some(text),
             ..parts
         })
     } else {

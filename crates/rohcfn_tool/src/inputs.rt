@@ -6,7 +6,7 @@ ghost use Rattle.std.specs.Str.{IsUtf8};
 ghost use Rattle.fn_bits.specs.Lines.{BlamesLines};
 ghost use Rattle.fn_filling.specs.declared.filling.AskedValue.{AskedValue};
 ghost use Rattle.fn_filling.specs.declared.filling.Item.{Item};
-ghost use Rattle.rohcfn_tool.specs.Inputs.{BlamesBroken, BlamesContext, BlamesLine, HasLines, IsBits, IsItem, IsValue, StartsAt};
+ghost use Rattle.rohcfn_tool.specs.Inputs.{AreItemWords, BlamesBroken, BlamesContext, BlamesLine, HasLines, IsBits, IsItem, IsValue, StartsAt};
 
 use crate::bundle::Parts;
 use fn_bits::Bits;
@@ -117,7 +117,7 @@ fn broken_line(alloc: Global, octets: &[u8]) -> BadLine
     }
 }
 
-fn bad_line_of(error: LinesError) -> BadLine
+pub(crate) fn bad_line_of(error: LinesError) -> BadLine
     ensures { (octets : List ℕ) → BlamesLines error octets → BlamesBroken result octets }
 {
     match error {
@@ -140,7 +140,15 @@ fn read_item(alloc: Global, line: &str) -> Result<Option<Item>, AllocError>
     ensures none { IfOk result (λ o. IfNone o ((it : Item) → IsItem line.now it → ⊥)) }
 {
     let words = pieces(alloc, line)?;
-    let [header, values @ ..] = words.as_slice() else {
+    item_of(alloc, words.as_slice())
+}
+
+/// The item of words, or `None` where they are none.
+pub(crate) fn item_of(alloc: Global, words: &[&str]) -> Result<Option<Item>, AllocError>
+    ensures found { IfOk result (λ o. IfSome o (AreItemWords (map (λ word. word.now) words.now))) }
+    ensures none { IfOk result (λ o. IfNone o ((it : Item) → AreItemWords (map (λ word. word.now) words.now) it → ⊥)) }
+{
+    let [header, values @ ..] = words else {
         return Ok(None);
     };
     let Some(header) = read_bits(alloc, header)? else {

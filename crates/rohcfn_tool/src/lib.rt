@@ -3,7 +3,10 @@
 
 pub mod accepting;
 pub mod bundle;
+pub mod counted;
+pub mod events;
 pub mod inputs;
+pub mod lined;
 pub mod printing;
 pub mod program;
 pub mod proving;

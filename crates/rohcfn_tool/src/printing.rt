@@ -1,6 +1,8 @@
 //! The lines for items and packets.
 
 ghost use Rattle.std.specs.Prelude.{◌≡◌, ◌∷◌, ◌++◌, [], true, IfOk, OnOk, codes, decimal, string_bytes};
+ghost use Rattle.rohcfn_tool.specs.OneLine.{IsLine};
+ghost use Rattle.rohcfn_tool.specs.ItemTexts.{IsItemText, IsValueText};
 ghost use Rattle.rohcfn_tool.specs.Printed as spec;
 
 use crate::status::{Answer, Status};
@@ -65,7 +67,7 @@ pub(crate) fn unpack_all(
     finish(alloc, shows, output, &context)
 }
 
-fn push_line(output: &mut String, line: &str) -> Result<(), AllocError>
+pub(crate) fn push_line(output: &mut String, line: &str) -> Result<(), AllocError>
     ensures { OnOk result (string_bytes output.new ≡ string_bytes output.old ++ line.now ++ 10 ∷ []) }
 {
     output.push_str(line)?;
@@ -147,14 +149,24 @@ fn pack_one(
 
 /// The line of a refused item.
 fn item_fault(alloc: Global, number: usize, fault: PackFault) -> Result<String, AllocError>
-    ensures { IfOk result (λ text. spec.IsItemFault fault number (string_bytes text)) }
+    ensures says { IfOk result (λ text. spec.IsItemFault fault number (string_bytes text)) }
+    ensures line { IfOk result (λ text. IsLine (string_bytes text)) }
 {
     match fault {
-        PackFault::HeaderLength => format!(in alloc; "item {number}: F1 HeaderLength"),
-        PackFault::Asked(name) => asked_line(alloc, number, name.as_str()),
-        PackFault::NoFormat => format!(in alloc; "item {number}: F3 NoFormat"),
+        PackFault::HeaderLength => plain_line(alloc, number, ": F1 HeaderLength"),
+        PackFault::Asked(name) => {
+            name.keeps();
+            asked_line(alloc, number, name.as_str())
+        }
+        PackFault::NoFormat => plain_line(alloc, number, ": F3 NoFormat"),
         PackFault::OutOfMemory => Err(AllocError),
     }
+}
+
+fn plain_line(alloc: Global, number: usize, words: &str) -> Result<String, AllocError>
+    ensures { IfOk result (λ text. string_bytes text ≡ codes "item " ++ decimal number ++ words.now) }
+{
+    format!(in alloc; "item {number}{words}")
 }
 
 fn asked_line(alloc: Global, number: usize, name: &str) -> Result<String, AllocError>
@@ -190,7 +202,9 @@ fn unpack_one(
             Ok(Printed::Line(line))
         }
         Err(fault) => {
-            let methods = accepted.profile().methods();
+            let profile = accepted.profile();
+            profile.keeps();
+            let methods = profile.methods();
             Ok(Printed::Fault(packet_fault(alloc, methods, number, fault)?))
         }
     }
@@ -211,8 +225,8 @@ fn took_words(alloc: Global, item: &str, bits: usize) -> Result<String, AllocErr
 }
 
 /// The text of an item: its header, then each value after a blank.
-fn item_text(alloc: Global, item: &Item) -> Result<String, AllocError>
-    ensures { IfOk result (λ text. spec.IsItemText item.now (string_bytes text)) }
+pub(crate) fn item_text(alloc: Global, item: &Item) -> Result<String, AllocError>
+    ensures { IfOk result (λ text. IsItemText item.now (string_bytes text)) }
 {
     let mut text = item.header.print_text(alloc)?;
     for value in item.asked.as_slice() {
@@ -224,7 +238,7 @@ fn item_text(alloc: Global, item: &Item) -> Result<String, AllocError>
 
 /// The value of a field, after a blank.
 fn value_text(alloc: Global, value: &AskedValue) -> Result<String, AllocError>
-    ensures { IfOk result (λ text. spec.IsValueText value.now (string_bytes text)) }
+    ensures { IfOk result (λ text. IsValueText value.now (string_bytes text)) }
 {
     let bits = value.bits.print_text(alloc)?;
     value_words(alloc, value.name.as_str(), bits.as_str())

@@ -3,15 +3,17 @@ ghost use Rattle.std.specs.Prelude.{◌≡◌, ◌==◌, filter, not, ◌+◌, �
 ghost use Rattle.std.specs.List.{slice_split};
 ghost use Rattle.std.specs.Str.Lines.{lines};
 ghost use Rattle.std.specs.Io.KnownBytes.{Appends, Consumes, IsAtEnd};
+ghost use Rattle.rohcfn_tool.specs.Counted.{IsSoFar};
 ghost use Rattle.rohcfn_tool.specs.Program.{IsInput, IsShortInput, large_line, RefusesBy, Replies, RepliesBy, RunGives, bad_part_line, most_octets, shown_name, words_in};
 
 use crate::bundle::{BadPart, Parts, split};
+use crate::counted::CountedRead;
 use crate::inputs::pieces;
 use crate::replies::answer;
-use crate::status::{Answer, Status};
+use crate::status::{Answer, Failure, Status};
 use crate::words::{WordsError, read_order};
 use std::alloc::{AllocError, Global};
-use std::io::{Read, Write};
+use std::io::Write;
 
 /// How a run ended, and the text for the person who called, of a usage fault or a request for help.
 #[derive(Drop)]
@@ -34,32 +36,23 @@ enum Reply {
     Tell(Status, String),
 }
 
-// A read failed, or memory was refused.
-#[derive(Drop)]
-struct Stopped;
-
-impl From<AllocError> for Stopped {
-    fn from(_error: AllocError) -> Stopped {
-        Stopped
-    }
-}
-
 const LIMIT: usize = 4_194_304;
 
 const CHUNK: usize = 65_536;
 
 /// Runs the program on the words that follow its name, or with none on those of its input.
 ///
-/// It reads until the reader ends, fails in any way, or has given 4 MiB and one octet, and writes
-/// until all is written, a write fails or takes nothing. The clause speaks of a reader and a writer
-/// whose bytes are known. That the status is `Failed` only where a read or a write failed, a write
-/// took nothing or memory was refused is not said here; nor is the text of `usage`.
-pub fn run<R: Read, W: Write>(
+/// It reads until the reader ends, fails in any way, or has given 4 MiB and one octet, and asks it no more then
+/// (`CountedRead`); it writes until all is written, a write fails or takes nothing. The clause speaks of a reader
+/// and a writer whose bytes are known. That the status is `Failed` only where a read or a write failed, a write
+/// took nothing or memory was refused, and which of these it names, is not said here; nor is the text of `usage`.
+pub fn run<R: CountedRead, W: Write>(
     alloc: Global,
     words: &[&str],
     reader: &mut R,
     writer: &mut W,
 ) -> Outcome
+    requires { IsSoFar (R.account reader.old) 0 }
     ensures { IfSome (R.remaining reader.old) (λ input. RunGives (map (λ word. word.now) words.entry.now) input result (W.contents writer.old) (W.contents writer.new)) }
 {
     match reply_from(alloc, words, reader) {
@@ -71,7 +64,7 @@ pub fn run<R: Read, W: Write>(
                 }
             } else {
                 Outcome {
-                    status: Status::Failed,
+                    status: Status::Failed(Failure::Writing),
                     usage: None,
                 }
             }
@@ -80,8 +73,8 @@ pub fn run<R: Read, W: Write>(
             status,
             usage: Some(text),
         },
-        Err(_stopped) => Outcome {
-            status: Status::Failed,
+        Err(failure) => Outcome {
+            status: Status::Failed(failure),
             usage: None,
         },
     }
@@ -89,7 +82,12 @@ pub fn run<R: Read, W: Write>(
 
 // Reads the input, and makes the reply to it.
 #[tactic(auto, using(crate::proofs::ProgramReplies::large_refused))]
-fn reply_from<R: Read>(alloc: Global, words: &[&str], reader: &mut R) -> Result<Reply, Stopped>
+fn reply_from<R: CountedRead>(
+    alloc: Global,
+    words: &[&str],
+    reader: &mut R,
+) -> Result<Reply, Failure>
+    requires { IsSoFar (R.account reader.old) 0 }
     ensures { IfSome (R.remaining reader.old) (λ input. IfOk result (λ reply. Replies (map (λ word. word.now) words.entry.now) input reply)) }
 {
     match read_input(alloc, reader)? {
@@ -107,7 +105,8 @@ fn refused_input(alloc: Global) -> Result<Reply, AllocError>
 }
 
 // Reads until the reader ends, or has given more than the program takes.
-fn read_input<R: Read>(alloc: Global, reader: &mut R) -> Result<Input, Stopped>
+fn read_input<R: CountedRead>(alloc: Global, reader: &mut R) -> Result<Input, Failure>
+    requires { IsSoFar (R.account reader.old) 0 }
     ensures all { IfSome (R.remaining reader.old) (λ all. IfOk result (λ input. IsInput all input)) }
     ensures short { IfOk result IsShortInput }
 {
@@ -128,24 +127,26 @@ fn zeros(alloc: Global, count: usize) -> Result<Vec<u8>, AllocError>
 }
 
 // One read, of no more than what the program takes and one octet. Whether the reader goes on.
-fn read_more<R: Read>(
+fn read_more<R: CountedRead>(
     reader: &mut R,
     chunk: &mut [u8],
     input: &mut Vec<u8>,
-) -> Result<bool, Stopped>
+) -> Result<bool, Failure>
     requires room { 0 < length chunk.old }
     requires short { vec_len input.old ≤ most_octets }
+    requires counted { IsSoFar (R.account reader.old) (vec_len input.old) }
     ensures grows { IfOk result (λ goes_on. (got : List ℕ) × (input.new.items ≡ input.old.items ++ got) × Consumes (R.remaining reader.old) (R.remaining reader.new) got) }
     ensures goes_on { IfOk result (λ goes_on. goes_on ≡ true → vec_len input.old < vec_len input.new) }
     ensures ends { IfOk result (λ goes_on. goes_on ≡ false → (vec_len input.new ≡ vec_len input.old) × IsAtEnd (R.remaining reader.new)) }
+    ensures counted { IfOk result (λ goes_on. goes_on ≡ true → IsSoFar (R.account reader.new) (vec_len input.new)) }
 {
     let room = chunk.len().min(LIMIT + 1 - input.len());
-    match reader.read(&mut chunk[..room]) {
+    match reader.read_next(&mut chunk[..room]) {
         Ok(count) => {
             input.extend_from_slice(&chunk[..count])?;
             Ok(count != 0)
         }
-        Err(_fault) => Err(Stopped),
+        Err(_fault) => Err(Failure::Reading),
     }
 }
 

@@ -43,6 +43,7 @@ fn prove_profile(alloc: Global, profile: &Profile) -> Result<Answer, AllocError>
             })
         }
         Err(unproved) => {
+            profile.keeps();
             let line = unproved_line(alloc, profile.methods(), unproved)?;
             refusal(alloc, line.as_str())
         }

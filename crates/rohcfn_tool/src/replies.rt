@@ -1,11 +1,13 @@
 //! What is printed for an order and the parts of the input.
 
 ghost use Rattle.std.specs.Prelude.{◌≡◌, ◌++◌, IfOk, codes, decimal, string_bytes};
+ghost use Rattle.rohcfn_tool.specs.FaultLaws.{AreOneLine};
 ghost use Rattle.rohcfn_tool.specs.Printed as spec;
 
 use crate::accepting::{Judged, accept};
 use crate::bundle::Parts;
 use crate::inputs::{BadLine, read_context, read_items, read_packets};
+use crate::lined::answer_line;
 use crate::printing::{pack_all, unpack_all};
 use crate::proving::answer_prove;
 use crate::showing::answer_listing;
@@ -15,11 +17,11 @@ use fn_checker::Accepted;
 use fn_context::Context;
 use std::alloc::{AllocError, Global};
 
-/// What is printed for an order: the listing of a profile, the verdict on a certificate, a certificate, a line for each item or packet up to the first refusal, or the
-/// one line of another fault.
+/// What is printed for an order: the listing of a profile, the verdict on a certificate, a certificate, a line for each item or packet up to the first refusal, the
+/// octets and items of a line of flows, or the one line of another fault.
 ///
-/// The order of faults: the missing part `profile`, another missing part, the profile, its certificate, a line of the context, a line of the items or packets,
-/// and then each item or packet.
+/// The order of faults: the missing part `profile`, another missing part, the profile, its certificate, a line of the context, a line of the items, packets or events
+/// or octets that are no hex, and then each item, packet or event.
 pub fn answer(alloc: Global, order: &Order<'_>, parts: &Parts<'_>) -> Result<Answer, AllocError>
     ensures { IfOk result (spec.Answers order.now parts.now) }
 {
@@ -31,6 +33,7 @@ pub fn answer(alloc: Global, order: &Order<'_>, parts: &Parts<'_>) -> Result<Ans
         Command::Check => answer_check(alloc, order.top, profile, parts),
         Command::Prove => answer_prove(alloc, order.top, profile),
         Command::Run(direction) => answer_run(alloc, direction, order, profile, parts),
+        Command::Line(end) => answer_line(alloc, end, order.top, profile, parts),
     }
 }
 
@@ -171,6 +174,12 @@ fn answer_packets(
         Err(BadLine::OutOfMemory) => Err(AllocError),
     }
 }
+
+/// A law of fault lines: each is one line, without a line feed.
+#[tactic(auto, using(crate::proofs::PartNames::are_one_line))]
+pub fn faults_are_lines()
+    ensures { AreOneLine }
+{}
 
 /// One line, and the status of a refusal.
 pub(crate) fn refusal(alloc: Global, line: &str) -> Result<Answer, AllocError>

@@ -4,14 +4,14 @@ ghost use Rattle.std.specs.Prelude.{◌≡◌, ℕ, List, ◌++◌, IfOk, codes,
 ghost use Rattle.fn_names.specs.Readings.{Refuses};
 ghost use Rattle.fn_show.specs.Shown as listing;
 ghost use Rattle.rohcfn_tool.specs.Printed.{Shows};
-ghost use Rattle.rohcfn_tool.specs.ProfileLines.{IsFaultLine, IsProfileFault, cause_line};
+ghost use Rattle.rohcfn_tool.specs.ProfileLines.{IsFaultLine, cause_line, text_line};
 
 use crate::replies::refusal;
 use crate::status::{Answer, Status};
 use fn_names::{ReadError, read};
 use fn_normal::ProfileFault;
 use fn_profile::Profile;
-use fn_show::{fault_text, show};
+use fn_show::{fault_text, kind_text, show};
 use fn_source::{Fault, line_column};
 use std::alloc::{AllocError, Global};
 
@@ -51,7 +51,7 @@ pub(crate) fn error_line(
     ensures { (top : List ℕ) → Refuses octets.now top error → IfOk result (λ text. IsFaultLine top octets.now (string_bytes text)) }
 {
     match error {
-        ReadError::Text(fault) => profile_line(alloc, octets, fault),
+        ReadError::Text(fault) => text_line(alloc, octets, fault),
         ReadError::Profile(fault) => cause_line(alloc, octets, &fault),
         ReadError::OutOfMemory => Err(AllocError),
     }
@@ -68,15 +68,14 @@ fn cause_line(alloc: Global, octets: &[u8], fault: &ProfileFault) -> Result<Stri
     fault_line(alloc, line, column, code, words.as_str())
 }
 
-/// A fault of the profile, at its line and column.
-fn profile_line(alloc: Global, octets: &[u8], fault: Fault) -> Result<String, AllocError>
-    ensures { IfOk result (λ text. IsProfileFault octets.now fault (string_bytes text)) }
+/// A fault of the text, of its tokens or of its tree, at its line and column.
+fn text_line(alloc: Global, octets: &[u8], fault: Fault) -> Result<String, AllocError>
+    ensures { IfOk result (λ text. string_bytes text ≡ text_line octets.now fault) }
 {
     let place = line_column(octets, fault.at.from);
     let (line, column) = (place.line, place.column);
     let code = fault.kind.code();
-    let words = fault.kind.to_string(alloc)?;
-    fault_line(alloc, line, column, code, words.as_str())
+    fault_line(alloc, line, column, code, kind_text(fault.kind))
 }
 
 /// The line of a fault with its code and its words.

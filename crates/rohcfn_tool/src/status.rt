@@ -1,6 +1,47 @@
 //! How a run of the program ended.
 ghost use Rattle.std.specs.Prelude.{◌≡◌};
 
+use std::alloc::AllocError;
+use std::fmt;
+
+/// What failed in a run.
+#[derive(Clone, Copy, PartialEq, Eq)]
+pub enum Failure {
+    /// A read of the input.
+    Reading,
+    /// A write of the output, or one that took nothing.
+    Writing,
+    /// A growth: memory was refused.
+    Memory,
+}
+
+impl From<AllocError> for Failure {
+    ghost use Rattle.std.specs.Prelude.{◌≡◌};
+    ghost use Rattle.rohcfn_tool.specs.declared.status.Failure.TheVariants.{Memory};
+
+    ghost from_gives = { λ _ failure. failure ≡ Memory };
+
+    fn from(_error: AllocError) -> Failure {
+        Failure::Memory
+    }
+}
+
+/// The words of a failure, in one line without a line feed.
+impl fmt::Display for Failure {
+    ghost use Rattle.std.specs.Prelude.{Some};
+    ghost use Rattle.rohcfn_tool.specs.Status.{failure_words};
+
+    ghost output = { λ failure. Some (failure_words failure) };
+
+    fn fmt<W: fmt::Write>(&self, f: &mut fmt::Formatter<W>) -> fmt::Result {
+        match self {
+            Failure::Reading => f.write_str("reading the input failed"),
+            Failure::Writing => f.write_str("writing the output failed"),
+            Failure::Memory => f.write_str("out of memory"),
+        }
+    }
+}
+
 /// What the program exits with.
 #[derive(Clone, Copy, PartialEq, Eq)]
 pub enum Status {
@@ -11,7 +52,7 @@ pub enum Status {
     /// The words ask for nothing.
     Usage,
     /// A read or a write failed, a write took nothing, or memory was refused.
-    Failed,
+    Failed(Failure),
 }
 
 impl Status {
@@ -25,7 +66,7 @@ impl Status {
             Status::Done => 0,
             Status::Refused => 1,
             Status::Usage => 2,
-            Status::Failed => 3,
+            Status::Failed(_) => 3,
         }
     }
 }

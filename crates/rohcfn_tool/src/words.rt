@@ -2,7 +2,7 @@
 ghost use Rattle.std.specs.Prelude.{◌≡◌, ◌↔◌, None, Some, false, map, IfOk, IfErr, option_map};
 ghost use Rattle.clap.specs.Words.{app_of, kind_of, subcommand_rows_of};
 ghost use Rattle.clap.specs.declared.builder.command.Command.TheViews.{out-Command as fields_of};
-ghost use Rattle.rohcfn_tool.specs.Words.{ReadsWords, RefusesError, RefusesWords, asked, asked_in, asked_of, command_named, is_set, program, with_flags, with_top};
+ghost use Rattle.rohcfn_tool.specs.Words.{ReadsWords, RefusesError, RefusesWords, asked, asked_in, asked_of, command_named, end_at, is_set, program, with_flags, with_receive, with_top};
 
 use clap::error::ErrorKind;
 use clap::{Arg, ArgAction, ArgMatches};
@@ -20,6 +20,17 @@ pub enum Command {
     Prove,
     /// Turns lines into lines by the part `profile`.
     Run(Direction),
+    /// Sends or receives packets of several flows on one line, by the part `profile`.
+    Line(End),
+}
+
+/// An end of a line of flows.
+#[derive(Clone, Copy, PartialEq, Eq)]
+pub enum End {
+    /// Sends the part `events`.
+    Sending,
+    /// Receives the part `octets`.
+    Receiving,
 }
 
 /// From which lines to which.
@@ -60,11 +71,12 @@ impl From<AllocError> for WordsError {
     }
 }
 
-/// Reads the words that follow the program's name: a command, `pack`, `unpack`, `show`, `check` or `prove`, and
-/// its flags: `--top NAME`, and for `pack` and `unpack` also `--context`.
+/// Reads the words that follow the program's name: a command, `pack`, `unpack`, `show`, `check`, `prove` or `line`, and
+/// its flags: `--top NAME`, for `pack` and `unpack` also `--context`, and for `line` also `--receive`.
 ///
 /// The clauses say it by clap's own account of a command line (`asked_of`), on which clap's parse is
-/// proved exact. They say nothing of the text, and not which usage fault it tells.
+/// proved exact. Words that ask for help alone are no usage fault. The clauses say nothing of the text, and not
+/// which usage fault it tells.
 pub fn read_order<'a>(alloc: Global, words: &'a [&'a str]) -> Result<Order<'a>, WordsError>
     ensures order { IfOk result (λ order. asked_of (map (λ word. word.now) words.entry.now) ≡ Some (asked order)) }
     ensures refused { IfErr result (λ error. RefusesWords (map (λ word. word.now) words.entry.now) error) }
@@ -73,7 +85,7 @@ pub fn read_order<'a>(alloc: Global, words: &'a [&'a str]) -> Result<Order<'a>, 
     match command.try_get_matches_from(words) {
         Ok(matches) => match order_in(&matches) {
             Some(order) => Ok(order),
-            None => Err(WordsError::Usage(String::from_str(alloc, NO_ORDER)?)),
+            None => Err(WordsError::Usage(format!(in alloc; "{NO_ORDER}\n{INPUT}")?)),
         },
         Err(error) => Err(refusal(alloc, &error)?),
     }
@@ -86,6 +98,22 @@ pub fn words_written_out()
 {}
 
 const NO_ORDER: &str = "error: a command and --top NAME are needed\n";
+
+// What goes in and comes out, with an example for each command. It ends each text for the person who called.
+const INPUT: &str = "\
+A bundle is read from standard input: parts, each after a line `=== PART`. For example:
+
+  rohcfn show --top plain <BUNDLE            profile > the methods, bounds and constraints
+  rohcfn prove --top plain <BUNDLE           profile > a certificate
+  rohcfn check --top plain <BUNDLE           profile > `accepted`
+  rohcfn pack --top plain <BUNDLE            profile, items > a line of bits for each item
+  rohcfn unpack --top plain <BUNDLE          profile, packets > the item of each packet
+  rohcfn line --top plain <BUNDLE            profile, events > octets in hex, then `FLOW ITEM` lines
+  rohcfn line --top plain --receive <BUNDLE  profile, octets > `FLOW ITEM` lines
+
+The parts certificate and context may be there as well. Without words the program takes those of
+the part words. Each format, and the lines of faults: docs/FORMATS.md.
+";
 
 // The program's command line.
 fn program<'a>(alloc: Global) -> Result<clap::Command<'a>, AllocError>
@@ -104,8 +132,10 @@ fn program<'a>(alloc: Global) -> Result<clap::Command<'a>, AllocError>
         "Checks the part certificate against the part profile",
     )?;
     let prove = with_top(alloc, "prove", "Makes a certificate for the part profile")?;
+    let line = with_receive(alloc, "line", "Sends the part events on a line of flows")?;
     clap::Command::new(alloc, "rohcfn")
         .about("Packs and unpacks headers by a profile in the ROHC formal notation")
+        .after_help(INPUT)
         .bin_name("rohcfn")?
         .no_binary_name(true)
         .subcommand_required(true)
@@ -113,7 +143,8 @@ fn program<'a>(alloc: Global) -> Result<clap::Command<'a>, AllocError>
         .subcommand(unpack)?
         .subcommand(show)?
         .subcommand(check)?
-        .subcommand(prove)
+        .subcommand(prove)?
+        .subcommand(line)
 }
 
 // A command with the flag `--top`.
@@ -130,7 +161,10 @@ fn with_top<'a>(
         .value_name("NAME")
         .help("The method at which a header starts")
         .required(true);
-    clap::Command::new(alloc, name).about(about).arg(top)
+    clap::Command::new(alloc, name)
+        .about(about)
+        .after_help(INPUT)
+        .arg(top)
 }
 
 // A command with both flags.
@@ -149,12 +183,29 @@ fn with_flags<'a>(
     with_top(alloc, name, about)?.arg(context)
 }
 
+// A command with the flags `--top` and `--receive`.
+fn with_receive<'a>(
+    alloc: Global,
+    name: &'a str,
+    about: &'a str,
+) -> Result<clap::Command<'a>, AllocError>
+    ensures app { IfOk result (λ command. app_of command ≡ with_receive name.entry.now) }
+    ensures local { IfOk result (λ command. (fields_of command).has_globals ≡ false) }
+{
+    let receive = Arg::new(alloc, "receive")
+        .long("receive")
+        .help("Receives the part octets instead")
+        .action(ArgAction::SetTrue);
+    with_top(alloc, name, about)?.arg(receive)
+}
+
 // The order in what clap read.
 fn order_in<'a>(matches: &ArgMatches<'a>) -> Option<Order<'a>>
     ensures { option_map asked result ≡ asked_in (subcommand_rows_of matches.now) }
 {
     let (name, flags) = matches.subcommand()?;
-    let command = command_of(name)?;
+    let receives = is_set(flags.get_str("receive"));
+    let command = command_of(name, receives)?;
     let top = flags.get_str("top")?;
     let shows_context = is_set(flags.get_str("context"));
     Some(Order {
@@ -174,8 +225,8 @@ fn is_set(text: Option<&str>) -> bool
     }
 }
 
-fn command_of(name: &str) -> Option<Command>
-    ensures { result ≡ command_named name.now }
+fn command_of(name: &str, receives: bool) -> Option<Command>
+    ensures { result ≡ command_named name.now receives }
 {
     if name == "pack" {
         Some(Command::Run(Direction::Pack))
@@ -187,8 +238,20 @@ fn command_of(name: &str) -> Option<Command>
         Some(Command::Check)
     } else if name == "prove" {
         Some(Command::Prove)
+    } else if name == "line" {
+        Some(Command::Line(end_of(receives)))
     } else {
         None
+    }
+}
+
+fn end_of(receives: bool) -> End
+    ensures { result ≡ end_at receives }
+{
+    if receives {
+        End::Receiving
+    } else {
+        End::Sending
     }
 }
 
@@ -200,9 +263,10 @@ fn refusal(alloc: Global, error: &clap::Error) -> Result<WordsError, AllocError>
     if kind == ErrorKind::OutOfMemory {
         return Ok(WordsError::OutOfMemory);
     }
-    let text = format!(in alloc; "{error}")?;
     if kind == ErrorKind::DisplayHelp {
+        let text = format!(in alloc; "{error}")?;
         return Ok(WordsError::Help(text));
     }
+    let text = format!(in alloc; "{error}\n{INPUT}")?;
     Ok(WordsError::Usage(text))
 }

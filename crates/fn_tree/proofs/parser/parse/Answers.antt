@@ -12,9 +12,6 @@ returns-in-Ok-clause-found c = found_file c.args.tokens.now c.parts.new.tokens c
 pub returns-in-Ok-clause-only : goal.returns-in-Ok-clause-only
 returns-in-Ok-clause-only c = only_file c.args.tokens.now c.parts.new.tokens c.in-Ok.parts (rw c.new-rest.ensures at c.in-Ok.ensures)
 
-pub returns-in-Ok-clause-exact : goal.returns-in-Ok-clause-exact
-returns-in-Ok-clause-exact c = (c.parts.new.tokens, rw c.new-rest.ensures at c.in-Ok.ensures)
-
 pub returns-in-Refused-clause-only : goal.returns-in-Refused-clause-only
 returns-in-Refused-clause-only c =
     let failed : Fails c.in-Err.error (parts all c.args.tokens.now) = rw c.new-rest.ensures at c.in-Err.ensures in

@@ -7,4 +7,4 @@ pub returns-in-Ok : goal.returns-in-Ok
 returns-in-Ok c = made refl c.in-Ok.ensures.proved
 
 pub returns-in_ok-unproved_line-in-Err : goal.returns-in_ok-unproved_line-in-Err
-returns-in_ok-unproved_line-in-Err c = none_made _ c.in-Err.unproved _ _ c.in-Err.ensures.unproved c.methods.ensures c.in_ok-unproved_line-in-Err.ensures
+returns-in_ok-unproved_line-in-Err c = none_made _ c.in-Err.unproved _ _ c.in-Err.ensures.unproved c.methods.ensures c.in_ok-unproved_line-in-Err.ensures c.keeps.ensures

@@ -8,7 +8,7 @@ use Rattle.rohcfn_tool.proofs.bundle.split.Goals as goal
 pub loop-rest-init : goal.loop-rest-init
 loop-rest-init c = record {
   begins = c.cut_at_heading.ensures.begins;
-  parts = ([], c.cut_at_heading.ensures.parts, none, record { words = refl; profile = refl; certificate = refl; context = refl; items = refl; packets = refl });
+  parts = ([], c.cut_at_heading.ensures.parts, none, record { words = refl; profile = refl; certificate = refl; context = refl; items = refl; packets = refl; events = refl; octets = refl });
 }
 
 pub returns-in-None-clause-bad : goal.returns-in-None-clause-bad

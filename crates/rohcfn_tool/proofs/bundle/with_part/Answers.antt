@@ -1,5 +1,5 @@
 use Rattle.std.proofs.Common.{◌∙◌, sym}
-use Rattle.rohcfn_tool.proofs.BundleHeld.{held_words, held_profile, held_certificate, held_context, held_items, held_packets}
+use Rattle.rohcfn_tool.proofs.BundleHeld.{held_words, held_profile, held_certificate, held_context, held_items, held_packets, held_events, held_octets}
 use Rattle.rohcfn_tool.proofs.bundle.with_part.Goals as goal
 
 pub returns-then-is_none-clause-held : goal.returns-then-is_none-clause-held
@@ -19,3 +19,9 @@ returns-then-is_none-5-clause-held c = λ before held. held_items c.args.parts b
 
 pub returns-then-is_none-6-clause-held : goal.returns-then-is_none-6-clause-held
 returns-then-is_none-6-clause-held c = λ before held. held_packets c.args.parts before c.args.name.now c.args.text held (sym c.eq-else-eq-5.ensures ∙ c.if-eq-6.true) c.if-is_none-6.ensures
+
+pub returns-then-is_none-7-clause-held : goal.returns-then-is_none-7-clause-held
+returns-then-is_none-7-clause-held c = λ before held. held_events c.args.parts before c.args.name.now c.args.text held (sym c.eq-else-eq-6.ensures ∙ c.if-eq-7.true) c.if-is_none-7.ensures
+
+pub returns-then-is_none-8-clause-held : goal.returns-then-is_none-8-clause-held
+returns-then-is_none-8-clause-held c = λ before held. held_octets c.args.parts before c.args.name.now c.args.text held (sym c.eq-else-eq-7.ensures ∙ c.if-eq-8.true) c.if-is_none-8.ensures

@@ -7,4 +7,4 @@ returns-in-Ok c =
 
 pub returns : goal.returns
 returns c =
-    packet_faulted c.args.accepted.now c.args.context.now c.args.number c.args.packet.now _ c.in-Err.fault _ _ _ c.new-cursor.ensures c.in-Err.ensures.fault c.profile.ensures c.methods-methods.ensures c.in_ok-packet_fault-in-Err.ensures
+    packet_faulted c.args.accepted.now c.args.context.now c.args.number c.args.packet.now _ c.in-Err.fault _ _ _ c.new-cursor.ensures c.in-Err.ensures.fault c.profile-profile.ensures c.methods-methods.ensures c.in_ok-packet_fault-in-Err.ensures c.keeps.ensures

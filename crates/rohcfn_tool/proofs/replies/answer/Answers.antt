@@ -1,5 +1,6 @@
 use Rattle.std.proofs.Common.{refl}
-use Rattle.rohcfn_tool.specs.Printed.{Answered, AnsweredRun, CheckedOctets, ProvedOctets, ShownBy, no_profile, shown, checked, proved, ran}
+use Rattle.rohcfn_tool.specs.Lined.{Lined}
+use Rattle.rohcfn_tool.specs.Printed.{Answered, AnsweredRun, CheckedOctets, ProvedOctets, ShownBy, no_profile, shown, checked, proved, ran, lined}
 use Rattle.rohcfn_tool.proofs.Replying.{passed_on, refusal_is}
 use Rattle.rohcfn_tool.proofs.replies.answer.Goals as goal
 
@@ -21,3 +22,7 @@ returns-in-Prove c =
 pub returns-in-Run : goal.returns-in-Run
 returns-in-Run c =
     passed_on (AnsweredRun c.in-Run.direction c.args.order.now c.in-Some.profile.now c.args.parts.now) (Answered c.args.order.now c.args.parts.now) c.answer_run.result (λ s out h. ran c.in-Some.profile c.in-Run.direction c.in-Some.is c.in-Run.is h) c.answer_run.ensures
+
+pub returns-in-Line : goal.returns-in-Line
+returns-in-Line c =
+    passed_on (Lined c.in-Line.end c.args.order.now.top.now c.in-Some.profile.now c.args.parts.now) (Answered c.args.order.now c.args.parts.now) c.answer_line.result (λ s out h. lined c.in-Some.profile c.in-Line.end c.in-Some.is c.in-Line.is h) c.answer_line.ensures

@@ -12,11 +12,14 @@ returns-in_err-top c =
     subcommand_read (out-ArgMatches c.args.matches.now).subcommand (Some (c.in_ok-name.name, c.in_ok-name.flags)) c.in_ok-name.ensures.name c.in_ok-name.ensures.rows in
     let none : c.from_residual-in_err-top.result ≡ None = search rules in
     let top = c.in_err-top.ensures ∙ first_value-rows (found_of c.in_ok-name.flags.now) (codes "top") in
-    ap (option_map asked) none ∙ asked_without_top _ _ _ (Some c.in_ok-command.command) None met c.in_ok-command.ensures top refl
+    let receives = c.is_set-receives.ensures ∙ ap is_set (c.get_str.ensures ∙ first_value-rows (found_of c.in_ok-name.flags.now) (codes "receive")) in
+    ap (option_map asked) none ∙ asked_without_top _ _ _ (Some c.in_ok-command.command) c.is_set-receives.result None met c.in_ok-command.ensures receives top refl
 
 pub returns : goal.returns
 returns c =
     let met : subcommand_rows_of c.args.matches.now ≡ Some (c.in_ok-name.name.now, rows_of (found_of c.in_ok-name.flags.now)) =
     subcommand_read (out-ArgMatches c.args.matches.now).subcommand (Some (c.in_ok-name.name, c.in_ok-name.flags)) c.in_ok-name.ensures.name c.in_ok-name.ensures.rows in
-    let set = c.is_set-shows_context.ensures ∙ ap is_set (c.get_str-2.ensures ∙ first_value-rows (found_of c.in_ok-name.flags.now) (codes "context")) in
-    asked_by_parts _ _ _ (Some c.in_ok-command.command) (Some c.in_ok-top.top.now) c.is_set-shows_context.result met c.in_ok-command.ensures (c.in_ok-top.ensures ∙ first_value-rows (found_of c.in_ok-name.flags.now) (codes "top")) set
+    let receives = c.is_set-receives.ensures ∙ ap is_set (c.get_str.ensures ∙ first_value-rows (found_of c.in_ok-name.flags.now) (codes "receive")) in
+    let set = c.is_set-shows_context.ensures ∙ ap is_set (c.get_str-3.ensures ∙ first_value-rows (found_of c.in_ok-name.flags.now) (codes "context")) in
+    asked_by_parts _ _ _ (Some c.in_ok-command.command) c.is_set-receives.result (Some c.in_ok-top.top.now) c.is_set-shows_context.result met c.in_ok-command.ensures receives
+    (c.in_ok-top.ensures ∙ first_value-rows (found_of c.in_ok-name.flags.now) (codes "top")) set

@@ -1,7 +1,9 @@
 use Rattle.std.proofs.Common.{◌≡◌, ◌∙◌, sym, ap, subst, refl, ◌<◌, length}
 use Rattle.std.proofs.lemmas.Option.{slice_get_read}
 use Rattle.std.specs.Prelude.{Some, slice_get, slice_set}
-use Rattle.fn_level.proofs.Held.{with_inner, up_to_date_held}
+use Rattle.fn_expr.specs.declared.expr.Side.TheVariants.{Uncompressed, Compressed}
+use Rattle.fn_level.proofs.Advancing.{front_same}
+use Rattle.fn_level.proofs.Held.{with_inner, sides_same, up_to_date_held}
 use Rattle.fn_level.proofs.level.Level.hold.Goals as goal
 
 here : (c : goal.Joined-index_mut) → slice_get c.self.inside.slots.items c.args.field ≡ Some c.index_mut.result.now
@@ -10,7 +12,17 @@ here c =
     slice_get_read xs (length xs) c.args.field c.index_mut.result.now refl (subst (λ z. c.args.field < length z.slots) (sym c.self.view_is) c.requires.within) c.index_mut.ensures.value
 
 pub invariant_of-self : goal.invariant_of-self
-invariant_of-self c = let i = c.self.inside in up_to_date_held c.args.inner i.format.now i.sizes.now i.slots.items c.args.field c.index_mut.result.now (here c) i.headers i.known c.self.invariant
+invariant_of-self c =
+    let i = c.self.inside in
+    let old = i.slots.items in
+    let slot = c.index_mut.result.now in
+    let new = slice_set old c.args.field (with_inner c.args.inner slot) in
+    let same = sides_same c.args.inner old c.args.field slot (here c) in
+    record {
+      numbers = up_to_date_held c.args.inner i.format.now i.sizes.now old c.args.field slot (here c) i.headers i.known c.self.invariant.numbers;
+      uncompressed = front_same old new same Uncompressed i.headers i.fronts.uncompressed i.known.whole.uncompressed c.self.invariant.uncompressed;
+      compressed = front_same old new same Compressed i.format.now.listing i.fronts.compressed i.known.whole.compressed c.self.invariant.compressed;
+    }
 
 pub returns : goal.returns
 returns c = record {

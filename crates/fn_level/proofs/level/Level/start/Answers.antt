@@ -2,7 +2,8 @@ use Rattle.std.proofs.Common.{◌∙◌, refl, sym, ap, subst, ◌<◌, ◌^◌,
 use Rattle.fn_expr.specs.declared.expr.Side.TheVariants.{Uncompressed, Compressed}
 use Rattle.fn_rules.specs.Numbers.{slot_numbers}
 use Rattle.fn_level.specs.Joined.{header_places, joined_bits}
-use Rattle.fn_level.specs.Level.{IsPlaced, whole_numbers}
+use Rattle.fn_level.specs.Level.{IsPlaced, joined_numbers, whole_numbers}
+use Rattle.fn_level.proofs.Advancing.{front_first}
 use Rattle.fn_level.proofs.Kept.{start_short, start_up_to_date}
 use Rattle.fn_level.proofs.level.Level.start.Goals as goal
 
@@ -28,4 +29,13 @@ invariant_of-result c =
     let placed = subst (IsPlaced c.args.format.now c.args.sizes.now) (sym (ap (λ k. k.parameters) known)) c.requires in
     let fields = ap (λ k. k.fields) known ∙ ap (map slot_numbers) slots in
     let whole = ap (λ k. k.whole) known ∙ (λ j. whole_numbers (slots j) (c.as_slice-2.ensures j) (c.as_slice-3.ensures j)) in
-    start_up_to_date c.args.format.now c.args.sizes.now c.in_ok-headers.headers c.in_ok-slots.slots.items c.in_ok-known.known placed (c.if-not-are_unsent.ensures.0 refl) headers c.in_ok-slots.ensures fields whole
+    let uncompressed = ap (λ k. k.whole.uncompressed) known ∙ (λ j. joined_numbers (slots j) Uncompressed (c.as_slice-2.ensures j)) in
+    let compressed = ap (λ k. k.whole.compressed) known ∙ (λ j. joined_numbers (slots j) Compressed (c.as_slice-3.ensures j)) in
+    let one = c.at_first.ensures in
+    let two = c.at_first-2.ensures in
+    let numbers = start_up_to_date c.args.format.now c.args.sizes.now c.in_ok-headers.headers c.in_ok-slots.slots.items c.in_ok-known.known placed (c.if-not-are_unsent.ensures.0 refl) headers c.in_ok-slots.ensures fields whole in
+    record {
+      numbers = numbers;
+      uncompressed = front_first _ Uncompressed _ c.at_first.result _ (ap (λ f. f.measured) one) (ap (λ f. f.length) one) (ap (λ f. f.whole) one) uncompressed;
+      compressed = front_first _ Compressed _ c.at_first-2.result _ (ap (λ f. f.measured) two) (ap (λ f. f.length) two) (ap (λ f. f.whole) two) compressed;
+    }

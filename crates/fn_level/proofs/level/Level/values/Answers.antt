@@ -14,7 +14,7 @@ pub values_of-requires : goal.values_of-requires
 values_of-requires c = λ n e at.
     let i = c.self.inside in
     let asked = subst (λ z. IsAsked z.format e) (sym c.self.view_is) (c.requires.asked n e at) in
-    ranged i.format.now i.sizes.now i.headers i.slots.items i.known c.self.invariant e asked
+    ranged i.format.now i.sizes.now i.headers i.slots.items i.known c.self.invariant.numbers e asked
 
 pub returns : goal.returns
 returns c =
@@ -26,6 +26,6 @@ returns c =
           (λ o is known.
           let asked : (n : ℕ) (e : Expr) → slice_get es n ≡ Some e → IsAsked i.format.now e = λ n e at. subst (λ z. IsAsked z.format e) (sym c.self.view_is) (c.requires.asked n e at) in
           let here = subst (λ z. knows_all z.format z.slots (inputs_of_all z.format es) ≡ true) (sym c.self.view_is) known in
-          is ∙ (shown_each i.format.now i.sizes.now i.headers i.slots.items i.known c.self.invariant es asked here ∙ ap (λ z. vals (known_numbers z.format z.slots z.args) es) c.self.view_is))
+          is ∙ (shown_each i.format.now i.sizes.now i.headers i.slots.items i.known c.self.invariant.numbers es asked here ∙ ap (λ z. vals (known_numbers z.format z.slots z.args) es) c.self.view_is))
           c.values_of.ensures;
     }

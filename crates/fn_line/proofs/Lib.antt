@@ -1,0 +1,11 @@
+pub mod Octets
+pub mod Cases
+pub mod Hearings
+pub mod Flows
+pub mod Faults
+pub mod Sends
+pub mod Bitwise
+pub mod Trying
+pub mod Begun
+pub mod Whole
+pub mod Keeping

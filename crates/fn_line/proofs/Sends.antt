@@ -1,0 +1,68 @@
+-- What a sender puts on the line.
+use Rattle.std.proofs.Common.{◌≡◌, ◌∙◌, refl, sym, ap, subst, ℕ, ◌<◌, List, [], ◌∷◌, ◌++◌, length, get_or, arith}
+use Rattle.std.specs.Prelude.{slice_get, slice_set, Some, None, Result, Ok, Err, OnOk, IfErr}
+use Rattle.std.proofs.lemmas.Option.{slice_get-get_or}
+use Rattle.fn_context.specs.Entries.{Entries}
+use Rattle.fn_filling.specs.declared.filling.Item.{Item}
+use Rattle.fn_filling.specs.Entries.{next}
+use Rattle.fn_checker.specs.Accepted.{Accepting}
+use Rattle.fn_engine.specs.declared.writer.PackFault.{PackFault}
+use Rattle.fn_engine.specs.Writing as writing
+use Rattle.fn_line.specs.Lines.{Contexts, reset_octet, Puts, Line, sent, emptied, ended, puts_on}
+use Rattle.fn_line.specs.Lines.Act.{Send, Reset}
+use Rattle.fn_line.specs.States.{Sending, IsPut, IsUnsent}
+use Rattle.fn_line.specs.Steps.{IsPacked}
+
+pub on_ok_more : {A E P Q : Type 0} (r : Result A E) → (P → Q) → OnOk r P → OnOk r Q
+on_ok_more (Ok x) f h = f h
+on_ok_more (Err e) f h = tt
+
+pub if_err_more : {A E : Type 0} (P Q : E → Type 0) (r : Result A E) → ((e : E) → P e → Q e) → IfErr r P → IfErr r Q
+if_err_more P Q (Ok x) f h = tt
+if_err_more P Q (Err e) f h = f e h
+
+pub reset_put : (p : Accepting) (s : Contexts) (old : Sending) (flow place flows : ℕ) (new : Entries) → length s ≡ flows → flow < flows → place ≡ flow → new ≡ [] → record { accepted = p; contexts = s } ≡ old →
+    IsPut old (record { accepted = p; contexts = slice_set s place new }) (record { flow = flow; act = Reset }) (reset_octet flows flow ∷ [])
+reset_put p s old flow place flows new n below same empty is =
+    subst (λ o. IsPut o (record { accepted = p; contexts = slice_set s place new }) (record { flow = flow; act = Reset }) (reset_octet flows flow ∷ [])) is
+    (subst (λ x. IsPut (record { accepted = p; contexts = s }) (record { accepted = p; contexts = slice_set s place x }) (record { flow = flow; act = Reset }) (reset_octet flows flow ∷ [])) (sym empty)
+    (subst (λ k. IsPut (record { accepted = p; contexts = s }) (record { accepted = p; contexts = slice_set s k [] }) (record { flow = flow; act = Reset }) (reset_octet flows flow ∷ [])) (sym same) base))
+  where
+    there : slice_get s flow ≡ Some (get_or s flow [])
+    there = slice_get-get_or s flow [] (omega arith)
+
+    puts : Puts p (length s) flow (get_or s flow []) Reset (record { flow = flow; octets = reset_octet flows flow ∷ []; filling = None }) []
+    puts = subst (λ k. Puts p (length s) flow (get_or s flow []) Reset (record { flow = flow; octets = reset_octet k flow ∷ []; filling = None }) []) n emptied
+
+    base : IsPut (record { accepted = p; contexts = s }) (record { accepted = p; contexts = slice_set s flow [] }) (record { flow = flow; act = Reset }) (reset_octet flows flow ∷ [])
+    base = record {
+      accepted_is = refl;
+      packet = record { flow = flow; octets = reset_octet flows flow ∷ []; filling = None };
+      line = puts_on (get_or s flow []) [] there puts ended;
+      octets_are = refl;
+    }
+
+pub send_put : (p : Accepting) (s : Contexts) (old : Sending) (flow place number : ℕ) (ctx new : Entries) (it : Item) (before after : List ℕ) → slice_get s place ≡ Some ctx → place ≡ flow → number ≡ flow →
+    record { accepted = p; contexts = s } ≡ old → IsPacked p ctx new number it before after →
+    (octets : List ℕ) × IsPut old (record { accepted = p; contexts = slice_set s place new }) (record { flow = flow; act = Send it }) octets × (after ≡ before ++ octets)
+send_put p s old flow place number ctx new it before after there same numbered is packed =
+    (flow ∷ packed.octets, put, packed.after_is ∙ ap (λ k. before ++ k ∷ packed.octets) numbered)
+  where
+    at_flow : slice_get s flow ≡ Some ctx
+    at_flow = ap (slice_get s) (sym same) ∙ there
+
+    line : Line p s (record { flow = flow; act = Send it } ∷ []) (record { flow = flow; octets = flow ∷ packed.octets; filling = Some packed.filling } ∷ []) (slice_set s place new)
+    line =
+        subst (λ t. Line p s (record { flow = flow; act = Send it } ∷ []) (record { flow = flow; octets = flow ∷ packed.octets; filling = Some packed.filling } ∷ []) t)
+        (ap (λ k. slice_set s k (next ctx packed.filling)) (sym same) ∙ ap (slice_set s place) (sym packed.next_is))
+        (puts_on ctx (next ctx packed.filling) at_flow (sent packed.filling packed.octets packed.best packed.holds) ended)
+
+    put : IsPut old (record { accepted = p; contexts = slice_set s place new }) (record { flow = flow; act = Send it }) (flow ∷ packed.octets)
+    put =
+        subst (λ o. IsPut o (record { accepted = p; contexts = slice_set s place new }) (record { flow = flow; act = Send it }) (flow ∷ packed.octets)) is
+        (record { accepted_is = refl; packet = record { flow = flow; octets = flow ∷ packed.octets; filling = Some packed.filling }; line = line; octets_are = refl })
+
+pub send_fault : (p : Accepting) (s : Contexts) (old : Sending) (flow place : ℕ) (ctx : Entries) (it : Item) (e : PackFault) → slice_get s place ≡ Some ctx → place ≡ flow → record { accepted = p; contexts = s } ≡ old →
+    writing.Blames e p ctx it → IsUnsent old flow it e
+send_fault p s old flow place ctx it e there same is blames =
+    subst (λ o. IsUnsent o flow it e) is (record { ctx = ctx; context_is = ap (slice_get s) (sym same) ∙ there; blames = blames })

@@ -1,0 +1,201 @@
+-- What is sent is heard.
+use Rattle.std.proofs.Common.{◌≡◌, ◌∙◌, refl, sym, ap, subst, ℕ, ◌+◌, ◌<◌, List, [], ◌∷◌, ◌++◌, length, take, map, get_or, arith, append_assoc}
+use Rattle.std.specs.Prelude.{Option, None, Some, slice_get}
+use Rattle.std.specs.List.{flat_map}
+use Rattle.std.specs.Option.{option_map}
+use Rattle.std.proofs.lemmas.List.{take_more, take-map, map-append, append-nil}
+use Rattle.std.proofs.lemmas.Option.{slice_get-map, slice_get-get_or}
+use Rattle.std.proofs.lemmas.Grind.{flat_map-append}
+use Rattle.fn_fits.specs.Fronts.{Det}
+use Rattle.fn_checker.specs.Accepted.{Accepting}
+use Rattle.fn_filling.specs.declared.filling.Item.{Item}
+use Rattle.fn_engine.specs.declared.writer.PackFault.{PackFault}
+use Rattle.fn_engine.specs.declared.writer.PackFault.TheVariants.{HeaderLength, Asked, NoFormat}
+use Rattle.fn_engine.specs.declared.writer.PackFault.TheVariants as pack
+use Rattle.fn_engine.specs.Writing as writing
+use Rattle.fn_line.specs.Lines.{Contexts, Packet, Line, ended, octets_of, no_entries}
+use Rattle.fn_line.specs.Lines as lines
+use Rattle.fn_line.specs.Lines.Act.{Send}
+use Rattle.fn_line.specs.Hearing.{Found, Heard}
+use Rattle.fn_line.specs.Laws.{items_sent}
+use Rattle.fn_line.specs.States.{Sending, Receiving, IsPut, IsUnsent, Hears, Stops, Fails, FailsIn, end_of}
+use Rattle.fn_line.specs.declared.fault.LineFault.{LineFault}
+use Rattle.fn_line.specs.declared.fault.LineFault.TheVariants.{FlowOctet, RefusedPacket, Padding, Ended, OutOfMemory}
+use Rattle.fn_line.proofs.Flows.{lines_join, line_is_heard}
+use Rattle.fn_line.proofs.Hearings.{heard_join, heard_once}
+use Rattle.fn_line.proofs.Faults.{no_fault}
+use Rattle.fn_line.specs.declared.runs.Event.{Event}
+use Rattle.fn_line.specs.declared.runs.Event.TheVariants as event
+use Rattle.fn_line.specs.Runs.{event_of, ArePut, IsStopped, BlamesEvent, BlamesRun, run_fault, IsRun, IsWhole, IsCut, IsReceived}
+
+pub none_put : (s : Sending) (before : List ℕ) → ArePut s s [] before before
+none_put s before = record { accepted_is = refl; packets = []; line = ended; after_is = sym (append-nil before) }
+
+pub one_put : (old mid new : Sending) (events : List Event) (i : ℕ) (e : Event) (before here after octets : List ℕ) → i < length events → e ≡ get_or events i e → ArePut old mid (map event_of (take i events)) before here →
+    IsPut mid new (event_of e) octets → after ≡ here ++ octets → ArePut old new (map event_of (take (i + 1) events)) before after
+one_put old mid new events i e before here after octets within is puts one after_is =
+    let grown : take (i + 1) events ≡ take i events ++ e ∷ [] = take_more events i e within ∙ ap (λ x. take i events ++ x ∷ []) (sym is) in
+    let es : map event_of (take i events) ++ event_of e ∷ [] ≡ map event_of (take (i + 1) events) = sym (map-append event_of (take i events) (e ∷ [])) ∙ ap (map event_of) (sym grown) in
+    let one_line : Line old.accepted mid.contexts (event_of e ∷ []) (one.packet ∷ []) new.contexts = subst (λ p. Line p mid.contexts (event_of e ∷ []) (one.packet ∷ []) new.contexts) puts.accepted_is one.line in
+    let joined : Line old.accepted old.contexts (map event_of (take i events) ++ event_of e ∷ []) (puts.packets ++ one.packet ∷ []) new.contexts =
+    lines_join old.accepted old.contexts mid.contexts new.contexts (map event_of (take i events)) (event_of e ∷ []) puts.packets (one.packet ∷ []) puts.line one_line in
+    let out : octets_of (puts.packets ++ one.packet ∷ []) ≡ octets_of puts.packets ++ octets = flat_map-append (λ o. o.octets) puts.packets (one.packet ∷ []) ∙ ap (λ z. octets_of puts.packets ++ z) (append-nil one.packet.octets ∙ sym one.octets_are) in
+    record {
+      accepted_is = one.accepted_is ∙ puts.accepted_is;
+      packets = puts.packets ++ one.packet ∷ [];
+      line = subst (λ l. Line old.accepted old.contexts l (puts.packets ++ one.packet ∷ []) new.contexts) es joined;
+      after_is = after_is ∙ ap (λ z. z ++ octets) puts.after_is ∙ append_assoc before (octets_of puts.packets) octets ∙ ap (λ z. before ++ z) (sym out);
+    }
+
+-- a new sender's octets, heard by a new receiver
+pub is_run : (p : Accepting) → Det p.profile.methods p.profile.top → (old new : Sending) (from to : Receiving) (es : List lines.Event) (octets : List ℕ) (before found items : Found) → old ≡ record { accepted = p; contexts = no_entries } →
+    from ≡ record { accepted = p; contexts = no_entries; rest = []; fault = None } → ArePut old new es [] octets → Hears from to octets found → before ≡ [] → items ≡ before ++ found → IsRun p es octets items
+is_run p d old new from to es octets before found items starts begins puts hears none items_are =
+    let line : Line p no_entries es puts.packets new.contexts = subst (λ (o : Sending). Line o.accepted o.contexts es puts.packets new.contexts) starts puts.line in
+    let heard : Heard p no_entries octets found to.rest to.contexts = subst (λ (r : Receiving). Heard r.accepted r.contexts (r.rest ++ octets) found to.rest to.contexts) begins hears.heard in
+    let whole : Heard p no_entries (octets_of puts.packets) (items_sent es) [] new.contexts = line_is_heard p no_entries new.contexts es puts.packets line in
+    let known : Heard p no_entries (octets_of puts.packets) found to.rest to.contexts = subst (λ o. Heard p no_entries o found to.rest to.contexts) puts.after_is heard in
+    let same = heard_once p d no_entries to.contexts new.contexts (octets_of puts.packets) to.rest [] found (items_sent es) known whole in
+    record { packets = puts.packets; contexts = new.contexts; line = line; octets_are = puts.after_is; items_are = items_are ∙ ap (λ z. z ++ found) none ∙ same.items }
+
+-- no fault but want of memory comes
+pub no_line_fault : (p : Accepting) → Det p.profile.methods p.profile.top → (old new : Sending) (from to : Receiving) (es : List lines.Event) (octets : List ℕ) (found : Found) (e : LineFault) → old ≡ record { accepted = p; contexts = no_entries } →
+    from ≡ record { accepted = p; contexts = no_entries; rest = []; fault = None } → ArePut old new es [] octets → Fails from to octets found e → e ≡ OutOfMemory
+no_line_fault p d old new from to es octets found e starts begins puts fails =
+    let line : Line p no_entries es puts.packets new.contexts = subst (λ (o : Sending). Line o.accepted o.contexts es puts.packets new.contexts) starts puts.line in
+    let whole : Heard p no_entries (octets_of puts.packets) (items_sent es) [] new.contexts = line_is_heard p no_entries new.contexts es puts.packets line in
+    let stops : Stops (record { accepted = p; contexts = no_entries; rest = []; fault = None }) octets found e = subst (λ (r : Receiving). FailsIn r.fault r octets found e) begins fails.comes in
+    no_fault p d no_entries new.contexts stops.contexts (octets_of puts.packets) stops.before stops.rest stops.after stops.octet (items_sent es) found e whole (sym puts.after_is ∙ stops.piece_is) stops.heard stops.blames
+
+-- nothing is left at the end
+pub no_end : (p : Accepting) → Det p.profile.methods p.profile.top → (old new : Sending) (from to : Receiving) (es : List lines.Event) (octets : List ℕ) (found : Found) (e : LineFault) → old ≡ record { accepted = p; contexts = no_entries } →
+    from ≡ record { accepted = p; contexts = no_entries; rest = []; fault = None } → ArePut old new es [] octets → Hears from to octets found → end_of to.fault to.rest ≡ Some e → ⊥
+no_end p d old new from to es octets found e starts begins puts hears ends =
+    let line : Line p no_entries es puts.packets new.contexts = subst (λ (o : Sending). Line o.accepted o.contexts es puts.packets new.contexts) starts puts.line in
+    let heard : Heard p no_entries octets found to.rest to.contexts = subst (λ (r : Receiving). Heard r.accepted r.contexts (r.rest ++ octets) found to.rest to.contexts) begins hears.heard in
+    let whole : Heard p no_entries (octets_of puts.packets) (items_sent es) [] new.contexts = line_is_heard p no_entries new.contexts es puts.packets line in
+    let known : Heard p no_entries (octets_of puts.packets) found to.rest to.contexts = subst (λ o. Heard p no_entries o found to.rest to.contexts) puts.after_is heard in
+    let same = heard_once p d no_entries to.contexts new.contexts (octets_of puts.packets) to.rest [] found (items_sent es) known whole in
+    let never : end_of None [] ≡ Some e = ap (λ r. end_of None r) (sym same.rests) ∙ ap (λ f. end_of f to.rest) (sym hears.well) ∙ ends in
+    cc
+
+-- ---- the event that is refused
+
+unsent_at : (old : Sending) (mid : Sending) (flow : ℕ) (it : Item) (fault : PackFault) → mid.accepted ≡ old.accepted → IsUnsent mid flow it fault → IsUnsent (record { accepted = old.accepted; contexts = mid.contexts }) flow it fault
+unsent_at old mid flow it fault same u = record { ctx = u.ctx; context_is = u.context_is; blames = subst (λ p. writing.Blames fault p u.ctx it) same u.blames }
+
+stopped_at : (old mid : Sending) (es : List lines.Event) (n flow : ℕ) (it : Item) (before here : List ℕ) (fault : PackFault) → ArePut old mid (take n es) before here →
+    slice_get es n ≡ Some (record { flow = flow; act = Send it }) → IsUnsent mid flow it fault → IsStopped old.accepted old.contexts es n fault
+stopped_at old mid es n flow it before here fault puts event_is u =
+    record { packets = puts.packets; contexts = mid.contexts; flow = flow; item = it; line = puts.line; event_is = event_is; unsent = unsent_at old mid flow it fault puts.accepted_is u }
+
+pub blames_run : (old mid : Sending) (events : List Event) (i : ℕ) (e : Event) (before here : List ℕ) (fault : PackFault) → i < length events → e ≡ get_or events i e → ArePut old mid (map event_of (take i events)) before here →
+    BlamesEvent fault mid e → BlamesRun (run_fault i fault) old.accepted old.contexts (map event_of events)
+blames_run old mid events i e before here fault within is puts b = by e fault is b
+  where
+    so_far : ArePut old mid (take i (map event_of events)) before here
+    so_far = subst (λ l. ArePut old mid l before here) (sym (take-map event_of i events)) puts
+
+    at : (x : Event) → x ≡ get_or events i x → slice_get (map event_of events) i ≡ Some (event_of x)
+    at x same = slice_get-map event_of events i ∙ ap (option_map event_of) (slice_get-get_or events i x within ∙ ap Some (sym same))
+
+    by : (x : Event) (f : PackFault) → x ≡ get_or events i x → BlamesEvent f mid x → BlamesRun (run_fault i f) old.accepted old.contexts (map event_of events)
+    by (event.Send flow it) HeaderLength same u = stopped_at old mid (map event_of events) i flow it before here HeaderLength so_far (at (event.Send flow it) same) u
+    by (event.Send flow it) (Asked name) same u = stopped_at old mid (map event_of events) i flow it before here (Asked name) so_far (at (event.Send flow it) same) u
+    by (event.Send flow it) NoFormat same u = stopped_at old mid (map event_of events) i flow it before here NoFormat so_far (at (event.Send flow it) same) u
+    by (event.Send flow it) pack.OutOfMemory same u = tt
+    by (event.Reset flow) HeaderLength same u = absurd (cc)
+    by (event.Reset flow) (Asked name) same u = absurd (cc)
+    by (event.Reset flow) NoFormat same u = absurd (cc)
+    by (event.Reset flow) pack.OutOfMemory same u = tt
+
+-- ---- all octets
+
+whole_is : (p : Accepting) (octets : List ℕ) (items : Found) (e : LineFault) (w : IsWhole p octets items (Some e)) (rest : List ℕ) → end_of None rest ≡ Some e → IsReceived p octets items (Some e)
+whole_is p octets items Ended w rest h = w
+whole_is p octets items FlowOctet w [] h = absurd (cc)
+whole_is p octets items FlowOctet w (x ∷ rest) h = absurd (cc)
+whole_is p octets items RefusedPacket w [] h = absurd (cc)
+whole_is p octets items RefusedPacket w (x ∷ rest) h = absurd (cc)
+whole_is p octets items Padding w [] h = absurd (cc)
+whole_is p octets items Padding w (x ∷ rest) h = absurd (cc)
+whole_is p octets items OutOfMemory w [] h = absurd (cc)
+whole_is p octets items OutOfMemory w (x ∷ rest) h = absurd (cc)
+
+-- a new receiver heard all octets
+pub received : (p : Accepting) (from to : Receiving) (octets : List ℕ) (before found items : Found) (o : Option LineFault) → from ≡ record { accepted = p; contexts = no_entries; rest = []; fault = None } → Hears from to octets found →
+    before ≡ [] → items ≡ before ++ found → end_of to.fault to.rest ≡ o → IsReceived p octets items o
+received p from to octets before found items o begins hears none items_are ends = by o ends
+  where
+    heard : Heard p no_entries octets items to.rest to.contexts
+    heard =
+        subst (λ f. Heard p no_entries octets f to.rest to.contexts) (sym (items_are ∙ ap (λ z. z ++ found) none))
+        (subst (λ (r : Receiving). Heard r.accepted r.contexts (r.rest ++ octets) found to.rest to.contexts) begins hears.heard)
+
+    by : (q : Option LineFault) → end_of to.fault to.rest ≡ q → IsReceived p octets items q
+    by None h = record { rest = to.rest; contexts = to.contexts; heard = heard; end_is = ap (λ f. end_of f to.rest) (sym hears.well) ∙ h }
+    by (Some e) h =
+        let end_is : end_of None to.rest ≡ Some e = ap (λ f. end_of f to.rest) (sym hears.well) ∙ h in
+        whole_is p octets items e (record { rest = to.rest; contexts = to.contexts; heard = heard; end_is = end_is }) to.rest end_is
+
+cut_is : (p : Accepting) (octets : List ℕ) (found items : Found) (e : LineFault) → Stops (record { accepted = p; contexts = no_entries; rest = []; fault = None }) octets found e → items ≡ found → IsCut p octets items e
+cut_is p octets found items e s same = record {
+  before = s.before;
+  octet = s.octet;
+  after = s.after;
+  rest = s.rest;
+  contexts = s.contexts;
+  octets_are = s.piece_is;
+  heard = subst (λ f. Heard p no_entries s.before f s.rest s.contexts) (sym same) s.heard;
+  blames = s.blames;
+}
+
+-- a fault came
+pub received_fault : (p : Accepting) (from to : Receiving) (octets : List ℕ) (before found items : Found) (e : LineFault) → from ≡ record { accepted = p; contexts = no_entries; rest = []; fault = None } → Fails from to octets found e →
+    before ≡ [] → items ≡ before ++ found → (e ≡ OutOfMemory → ⊥) → IsReceived p octets items (Some e)
+received_fault p from to octets before found items e begins fails none items_are other = by e stops other
+  where
+    stops : Stops (record { accepted = p; contexts = no_entries; rest = []; fault = None }) octets found e
+    stops = subst (λ (r : Receiving). FailsIn r.fault r octets found e) begins fails.comes
+
+    same : items ≡ found
+    same = items_are ∙ ap (λ z. z ++ found) none
+
+    by : (x : LineFault) → Stops (record { accepted = p; contexts = no_entries; rest = []; fault = None }) octets found x → (x ≡ OutOfMemory → ⊥) → IsReceived p octets items (Some x)
+    by FlowOctet s n = cut_is p octets found items FlowOctet s same
+    by RefusedPacket s n = cut_is p octets found items RefusedPacket s same
+    by Padding s n = cut_is p octets found items Padding s same
+    by Ended s n = absurd s.blames
+    by OutOfMemory s n = absurd (n refl)
+
+-- ---- pieces
+
+pub hears_join : (old mid new : Receiving) (piece more : List ℕ) (found later : Found) → Hears old mid piece found → Hears mid new more later → Hears old new (piece ++ more) (found ++ later)
+hears_join old mid new piece more found later a b =
+    let b_heard : Heard old.accepted mid.contexts (mid.rest ++ more) later new.rest new.contexts = subst (λ p. Heard p mid.contexts (mid.rest ++ more) later new.rest new.contexts) a.accepted_is b.heard in
+    let joined : Heard old.accepted old.contexts ((old.rest ++ piece) ++ more) (found ++ later) new.rest new.contexts =
+    heard_join old.accepted old.contexts mid.contexts new.contexts (old.rest ++ piece) more mid.rest new.rest found later a.heard b_heard in
+    record {
+      accepted_is = b.accepted_is ∙ a.accepted_is;
+      well_before = a.well_before;
+      well = b.well;
+      heard = subst (λ o. Heard old.accepted old.contexts o (found ++ later) new.rest new.contexts) (append_assoc old.rest piece more) joined;
+    }
+
+-- so many pieces so far; before the first, nothing happened
+pub data Fed (old : Receiving) (before : Found) : ℕ → List ℕ → Receiving → Found → Type 0 where
+  not_yet : Fed old before 0 [] old before
+  fed : {octets : List ℕ} {new : Receiving} {after : Found} (n : ℕ) (found : Found) → after ≡ before ++ found → Hears old new octets found → Fed old before (n + 1) octets new after
+
+pub fed_more : (old mid new : Receiving) (n : ℕ) (octets piece : List ℕ) (before here after found : Found) → Fed old before n octets mid here → Hears mid new piece found → after ≡ here ++ found → Fed old before (n + 1) (octets ++ piece) new after
+fed_more old mid new n octets piece before here after found not_yet h e = fed 0 found e h
+fed_more old mid new n octets piece before here after found (fed m so_far here_is hears) h e =
+    fed (m + 1) (so_far ++ found) (e ∙ ap (λ z. z ++ found) here_is ∙ append_assoc before so_far found) (hears_join old mid new octets piece so_far found hears h)
+
+pub fed_parts : {old new : Receiving} {before after : Found} {n : ℕ} {octets : List ℕ} → Fed old before n octets new after → 0 < n → (found : Found) × (after ≡ before ++ found) × Hears old new octets found
+fed_parts not_yet some = absurd (omega arith)
+fed_parts (fed m found e h) some = (found, e, h)
+
+pub taken_more : {X : Type 0} (f : X → List ℕ) (xs : List X) (i : ℕ) (x : X) → i < length xs → x ≡ get_or xs i x → flat_map f (take (i + 1) xs) ≡ flat_map f (take i xs) ++ f x
+taken_more f xs i x within is =
+    ap (flat_map f) (take_more xs i x within) ∙ flat_map-append f (take i xs) (get_or xs i x ∷ []) ∙ ap (λ z. flat_map f (take i xs) ++ z) (append-nil (f (get_or xs i x)) ∙ ap f (sym is))

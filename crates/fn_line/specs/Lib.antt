@@ -1,0 +1,6 @@
+pub mod Lines
+pub mod Hearing
+pub mod States
+pub mod Laws
+pub mod Steps
+pub mod Runs

@@ -1,0 +1,160 @@
+//! Whole runs of a line: what is sent is heard.
+
+ghost use Rattle.std.specs.Prelude.{◌≡◌, ◌<◌, ◌++◌, ℕ, List, map, length, IfOk, IfErr, OnOk};
+ghost use Rattle.std.specs.List.{flat_map};
+ghost use Rattle.fn_line.specs.Hearing.{Found};
+ghost use Rattle.fn_line.specs.Lines.{no_entries};
+ghost use Rattle.fn_line.specs.States.{IsPut, Hears};
+ghost use Rattle.fn_line.specs.Runs.{event_of, ArePut, IsRun, IsReceived, BlamesRun, BlamesEvent, run_fault};
+
+use crate::fault::LineFault;
+use crate::flow::Flow;
+use crate::receiver::Receiver;
+use crate::sender::Sender;
+use fn_checker::Accepted;
+use fn_engine::PackFault;
+use fn_filling::Item;
+use std::alloc::{AllocError, Global};
+
+/// What is asked of a line.
+#[derive(Drop)]
+pub enum Event {
+    Send(Flow, Item),
+    Reset(Flow),
+}
+
+/// Why the events of a run are not all put on the line.
+#[derive(Drop)]
+pub enum RunFault {
+    /// The event at this index, from 0, is refused; those before it were put on the line.
+    Refused(usize, PackFault),
+    OutOfMemory,
+}
+
+impl From<AllocError> for RunFault {
+    ghost use Rattle.std.specs.Prelude.{◌≡◌};
+    ghost use Rattle.fn_line.specs.declared.runs.RunFault.TheVariants.{OutOfMemory};
+
+    ghost from_gives = { λ _ e. e ≡ OutOfMemory };
+
+    fn from(_error: AllocError) -> RunFault {
+        RunFault::OutOfMemory
+    }
+}
+
+/// What is put on a line, and what is heard of it.
+#[derive(Drop)]
+pub struct Sent {
+    pub octets: Vec<u8>,
+    pub items: Vec<(Flow, Item)>,
+}
+
+/// What is received of octets: items with their flows, and the fault that ends them, if there is one.
+#[derive(Drop)]
+pub struct Received {
+    pub items: Vec<(Flow, Item)>,
+    pub fault: Option<LineFault>,
+}
+
+/// Puts one event on the line.
+fn put(sender: &mut Sender<'_>, event: &Event, out: &mut Vec<u8>) -> Result<(), PackFault>
+    ensures ok { OnOk result ((octets : List ℕ) × IsPut sender.old sender.new (event_of event.now) octets × (out.new.items ≡ out.old.items ++ octets)) }
+    ensures fault { IfErr result (λ e. BlamesEvent e sender.old event.now) }
+{
+    match event {
+        Event::Send(flow, item) => sender.send(*flow, item, out),
+        Event::Reset(flow) => match sender.reset(*flow, out) {
+            Ok(()) => Ok(()),
+            Err(_) => Err(PackFault::OutOfMemory),
+        },
+    }
+}
+
+/// Puts events on the line, up to the first that is refused.
+pub fn put_all(sender: &mut Sender<'_>, events: &[Event], out: &mut Vec<u8>) -> Result<(), RunFault>
+    ensures ok { OnOk result (ArePut sender.old sender.new (map event_of events.now) out.old.items out.new.items) }
+    ensures fault { IfErr result (λ e. BlamesRun e sender.old.accepted sender.old.contexts (map event_of events.now)) }
+{
+    for (i, event) in events.iter().enumerate() {
+        match put(sender, event, out) {
+            Ok(()) => {}
+            Err(fault) => return Err(refused_at(i, fault)),
+        }
+    }
+    Ok(())
+}
+
+/// The fault of a run at an event.
+fn refused_at(index: usize, fault: PackFault) -> RunFault
+    ensures { result ≡ run_fault index fault }
+{
+    match fault {
+        PackFault::OutOfMemory => RunFault::OutOfMemory,
+        _ => RunFault::Refused(index, fault),
+    }
+}
+
+/// Gives a receiver the pieces of a line, one after the other. It hears what it would hear of them all at once.
+pub fn feed_all(
+    receiver: &mut Receiver<'_>,
+    pieces: &[Vec<u8>],
+    out: &mut Vec<(Flow, Item)>,
+) -> Result<(), LineFault>
+    ensures ok { OnOk result (0 < length pieces.now → (found : Found) × (out.new.items ≡ out.old.items ++ found) × Hears receiver.old receiver.new (flat_map (λ p. p.items) pieces.now) found) }
+{
+    for piece in pieces {
+        receiver.feed(piece, out)?;
+    }
+    Ok(())
+}
+
+/// The octets of all events on a new line, and the items that a new receiver hears of them. The octets are a line of the events,
+/// and the items are those that were sent. A fault is that of the first event that is refused.
+pub fn run(alloc: Global, accepted: &Accepted, events: &[Event]) -> Result<Sent, RunFault>
+    ensures ok { IfOk result (λ r. IsRun accepted.now (map event_of events.now) r.octets.items r.items.items) }
+    ensures fault { IfErr result (λ e. BlamesRun e accepted.now no_entries (map event_of events.now)) }
+{
+    accepted.determinate();
+    let mut octets = Vec::new(alloc);
+    let mut sender = Sender::new(alloc, accepted)?;
+    match put_all(&mut sender, events, &mut octets) {
+        Ok(()) => {}
+        Err(fault) => return Err(fault),
+    }
+    let mut items = Vec::new(alloc);
+    let mut receiver = Receiver::new(alloc, accepted)?;
+    match receiver.feed(&octets, &mut items) {
+        Ok(()) => match receiver.finish() {
+            Ok(()) => Ok(Sent { octets, items }),
+            Err(_) => unreachable!(),
+        },
+        Err(fault) => match fault {
+            LineFault::OutOfMemory => Err(RunFault::OutOfMemory),
+            _ => unreachable!(),
+        },
+    }
+}
+
+/// What a new receiver hears of all octets of a line, and at their end.
+pub fn receive(alloc: Global, accepted: &Accepted, octets: &[u8]) -> Result<Received, AllocError>
+    ensures { IfOk result (λ r. IsReceived accepted.now octets.now r.items.items r.fault) }
+{
+    let mut items = Vec::new(alloc);
+    let mut receiver = Receiver::new(alloc, accepted)?;
+    match receiver.feed(octets, &mut items) {
+        Ok(()) => match receiver.finish() {
+            Ok(()) => Ok(Received { items, fault: None }),
+            Err(fault) => Ok(Received {
+                items,
+                fault: Some(fault),
+            }),
+        },
+        Err(fault) => match fault {
+            LineFault::OutOfMemory => Err(AllocError),
+            _ => Ok(Received {
+                items,
+                fault: Some(fault),
+            }),
+        },
+    }
+}

@@ -1,0 +1,108 @@
+//! The sending end of a line.
+
+ghost use Rattle.std.specs.Prelude.{◌≡◌, ◌<◌, List, ℕ, ◌++◌, length, IfOk, IfErr, OnOk, OnErr};
+ghost use Rattle.fn_engine.specs.Writing as writing;
+ghost use Rattle.fn_line.specs.Lines.{no_entries};
+ghost use Rattle.fn_line.specs.Lines.Act.{Send, Reset};
+ghost use Rattle.fn_line.specs.States.{IsPut, IsUnsent};
+ghost use Rattle.fn_line.specs.Steps.{IsPacked};
+
+use crate::flow::{Flow, no_contexts};
+use fn_checker::Accepted;
+use fn_context::Context;
+use fn_engine::{PackFault, pack};
+use fn_filling::Item;
+use std::alloc::{AllocError, Global};
+use std::marker::Model;
+
+/// The sending end: it packs the items of each flow in the flow's context.
+#[derive(Drop)]
+pub struct Sender<'a> {
+    alloc: Global,
+    accepted: &'a Accepted,
+    contexts: Vec<Context>,
+}
+
+impl<'a> Model for Sender<'a> {
+    ghost use Rattle.std.specs.Prelude.{◌≡◌, length};
+    ghost use Rattle.fn_line.specs.Lines.{flow_count};
+    ghost use Rattle.fn_line.specs.States.{Sending};
+    ghost use Rattle.fn_expr.specs.contracts.expr.Expr as expr;
+    ghost use Rattle.fn_expr.specs.contracts.expr.Cond as cond;
+    ghost use Rattle.std.specs.Coded.{codes};
+
+    ghost Value = { Sending };
+
+    ghost coded = { Prim.hlevel (codes, expr.the_row.coded, cond.the_row.coded) };
+
+    ghost view = { λ s. record { accepted = s.accepted.now; contexts = s.contexts.items } };
+
+    ghost invariant = { λ s. length s.contexts.items ≡ flow_count };
+}
+
+impl<'a> Sender<'a> {
+    /// All contexts are empty.
+    pub fn new(alloc: Global, accepted: &'a Accepted) -> Result<Sender<'a>, AllocError>
+        ensures { IfOk result (λ s. s ≡ record { accepted = accepted.now; contexts = no_entries }) }
+    {
+        Ok(Sender {
+            alloc,
+            accepted,
+            contexts: no_contexts(alloc)?,
+        })
+    }
+
+    /// Packs an item in the flow's context, and adds the packet to the octets. A refusal is that of `pack`, and changes neither
+    /// the sender nor the octets.
+    pub fn send(&mut self, flow: Flow, item: &Item, out: &mut Vec<u8>) -> Result<(), PackFault>
+        ensures ok { OnOk result ((octets : List ℕ) × IsPut self.old self.new (record { flow = flow; act = Send item.now }) octets × (out.new.items ≡ out.old.items ++ octets)) }
+        ensures err { OnErr result ((self.new ≡ self.old) × (out.new.items ≡ out.old.items)) }
+        ensures fault { IfErr result (IsUnsent self.old flow item.now) }
+    {
+        let number = flow.number();
+        let context = &mut self.contexts[usize::from(number)];
+        put_packet(self.alloc, self.accepted, context, number, item, out)
+    }
+
+    /// Empties the flow's context, and adds the reset's octet to the octets. Where memory runs out neither changes.
+    pub fn reset(&mut self, flow: Flow, out: &mut Vec<u8>) -> Result<(), AllocError>
+        ensures ok { OnOk result ((octets : List ℕ) × IsPut self.old self.new (record { flow = flow; act = Reset }) octets × (out.new.items ≡ out.old.items ++ octets)) }
+        ensures err { OnErr result ((self.new ≡ self.old) × (out.new.items ≡ out.old.items)) }
+    {
+        out.push(flow.reset_octet())?;
+        self.contexts[usize::from(flow.number())] = Context::new(self.alloc);
+        Ok(())
+    }
+}
+
+/// Adds the packet of an item to the octets, after the flow's octet, and moves the context on. A refusal changes neither.
+///
+/// All room is made before anything changes.
+fn put_packet(
+    alloc: Global,
+    accepted: &Accepted,
+    context: &mut Context,
+    flow: u8,
+    item: &Item,
+    out: &mut Vec<u8>,
+) -> Result<(), PackFault>
+    ensures ok { OnOk result (IsPacked accepted.now context.old context.new flow item.now out.old.items out.new.items) }
+    ensures err { OnErr result ((context.new ≡ context.old) × (out.new.items ≡ out.old.items)) }
+    ensures fault { IfErr result (λ e. writing.Blames e accepted.now context.old item.now) }
+{
+    let written = match pack(alloc, accepted, context, item) {
+        Ok(written) => written,
+        Err(fault) => return Err(fault),
+    };
+    let mut octets = written.packed.to_octets(alloc)?;
+    match octets.insert(0, flow) {
+        Ok(()) => {}
+        Err(_) => return Err(PackFault::OutOfMemory),
+    }
+    out.reserve(octets.len())?;
+    context.replace(written.entries)?;
+    match out.extend_from_slice(&octets) {
+        Ok(()) => Ok(()),
+        Err(_) => unreachable!(),
+    }
+}

@@ -1,0 +1,106 @@
+-- What is printed for a line of flows.
+use Rattle.std.proofs.Common.{◌≡◌, ℕ, ◌+◌, ◌<◌, ◌≤◌, List, [], ◌∷◌, ◌++◌, length, drop, get_or, refl, ap, sym, ◌∙◌, subst, append_assoc}
+use Rattle.std.specs.Prelude.{Option, Some, None, Result, Ok, Err, IfOk, String, codes, decimal, map, string_bytes}
+use Rattle.std.specs.Global.{Global}
+use Rattle.std.specs.declared.alloc.AllocError.{AllocError}
+use Rattle.std.proofs.lemmas.List.{append-nil, drop_more, drop_all}
+use Rattle.hex.specs.Hex.{encode_lower}
+use Rattle.fn_filling.specs.declared.filling.Item.{Item}
+use Rattle.fn_checker.specs.Accepted.{Accepting}
+use Rattle.fn_engine.specs.declared.writer.PackFault.{PackFault}
+use Rattle.fn_line.specs.Lines.{no_entries}
+use Rattle.fn_line.specs.Hearing.{Found}
+use Rattle.fn_line.specs.Runs.{BlamesRun, IsReceived, IsRun, event_of}
+use Rattle.fn_line.specs.declared.fault.LineFault.{LineFault}
+use Rattle.fn_line.specs.declared.runs.Event.{Event}
+use Rattle.fn_line.specs.declared.runs.RunFault.{RunFault}
+use Rattle.fn_line.specs.declared.runs.RunFault.TheVariants as run
+use Rattle.rohcfn_tool.specs.declared.status.Answer.{Answer}
+use Rattle.rohcfn_tool.specs.declared.status.Status.{Status}
+use Rattle.rohcfn_tool.specs.declared.status.Status.TheVariants as status
+use Rattle.rohcfn_tool.specs.Events.{IsEvent}
+use Rattle.rohcfn_tool.specs.Inputs.{IsBadLine}
+use Rattle.rohcfn_tool.specs.Lined.{AnsweredEvents, AreItemLines, IsEventFault, IsItemPushed, IsPushed, IsRefusedBy, IsSentPrinted, PrintsReceived, PrintsSent, all_received, all_sent, bad_event, bad_event_text, one_refused, up_to_fault}
+use Rattle.rohcfn_tool.specs.Printed.{Holds, IsRefusal}
+use Rattle.rohcfn_tool.proofs.Replying.{refusal_is}
+
+-- events of which a line can't be read
+pub bad_events_are : (a : Accepting) (input : List ℕ) (n m : ℕ) (written : List ℕ) (r : Result Answer AllocError) → IsBadLine IsEvent input n → written ≡ bad_event_text m → m ≡ n → IfOk r (IsRefusal written)
+    → IfOk r (Holds (AnsweredEvents a input))
+bad_events_are a input n m written r is same number g =
+    refusal_is (AnsweredEvents a input) (bad_event_text n) written r (bad_event n is) (same ∙ ap bad_event_text number) g
+
+-- an event that is refused
+pub refused_event_is : (a : Accepting) (events : List Event) (fault : RunFault) (n k : ℕ) (e : PackFault) (text written : List ℕ) (r : Result Answer AllocError) → BlamesRun fault a no_entries (map event_of events) → fault ≡ run.Refused n e
+    → IsEventFault e k text → k ≡ n + 1 → written ≡ text → IfOk r (IsRefusal written) → IfOk r (Holds (PrintsSent a events))
+refused_event_is a events fault n k e text written r blames is spelled number shown g =
+    let stopped = subst (λ (x : RunFault). BlamesRun x a no_entries (map event_of events)) is blames in
+    refusal_is (PrintsSent a events) text written r (one_refused n e text stopped (subst (λ m. IsEventFault e m text) number spelled)) shown g
+
+-- what is sent
+pub sent_printed : (a : Accepting) (events : List Event) (octets : List ℕ) (found : Found) (r : Result Answer AllocError) → IsRun a (map event_of events) octets found → IfOk r (IsSentPrinted octets found) → IfOk r (Holds (PrintsSent a events))
+sent_printed a events octets found (Err e) is h = tt
+sent_printed a events octets found (Ok answer) is h =
+    let out : (encode_lower octets ++ 10 ∷ []) ++ h.pushed.lines ≡ encode_lower octets ++ 10 ∷ h.pushed.lines = append_assoc (encode_lower octets) (10 ∷ []) h.pushed.lines in
+    let whole : PrintsSent a events status.Done (string_bytes answer.output) = subst (PrintsSent a events status.Done) (sym (h.pushed.after_is ∙ out)) (all_sent octets found h.pushed.lines is h.pushed.spelled) in
+    subst (λ (s : Status). PrintsSent a events s (string_bytes answer.output)) (sym h.status_is) whole
+
+pub sent_lines : (octets : List ℕ) (found items : Found) (start : List ℕ) (output : String Global) → items ≡ found → start ≡ encode_lower octets ++ 10 ∷ [] → IsPushed items start (string_bytes output)
+    → IsSentPrinted octets found record { status = status.Done; output = output }
+sent_lines octets found items start output same is h = record {
+  status_is = refl;
+  pushed = subst (λ f. IsPushed f (encode_lower octets ++ 10 ∷ []) (string_bytes output)) same (subst (λ s. IsPushed items s (string_bytes output)) is h);
+}
+
+-- what is received
+pub received_lines : (a : Accepting) (octets start : List ℕ) (found shown : Found) (fault : Option LineFault) (output : String Global) → IsReceived a octets found fault → fault ≡ None → shown ≡ found → start ≡ [] → IsPushed shown start (string_bytes output)
+    → PrintsReceived a octets status.Done (string_bytes output)
+received_lines a octets start found shown fault output is none same empty h =
+    let here : IsReceived a octets found None = subst (IsReceived a octets found) none is in
+    let lines : AreItemLines found h.lines = subst (λ f. AreItemLines f h.lines) same h.spelled in
+    subst (PrintsReceived a octets status.Done) (sym (h.after_is ∙ ap (λ s. s ++ h.lines) empty)) (all_received found h.lines here lines)
+
+pub fault_lines : (a : Accepting) (octets start lines : List ℕ) (found shown : Found) (fault : Option LineFault) (e : LineFault) (r : Result Answer AllocError) → IsReceived a octets found fault → fault ≡ Some e → shown ≡ found → start ≡ [] → IsPushed shown start lines
+    → IfOk r (IsRefusedBy lines e) → IfOk r (Holds (PrintsReceived a octets))
+fault_lines a octets start lines found shown fault e (Err x) is some same empty h g = tt
+fault_lines a octets start lines found shown fault e (Ok answer) is some same empty h g =
+    let here : IsReceived a octets found (Some e) = subst (IsReceived a octets found) some is in
+    let spelled : AreItemLines found h.lines = subst (λ f. AreItemLines f h.lines) same h.spelled in
+    let out : string_bytes answer.output ≡ h.lines ++ g.line ++ 10 ∷ [] = g.output_is ∙ ap (λ l. l ++ g.line ++ 10 ∷ []) (h.after_is ∙ ap (λ s. s ++ h.lines) empty) in
+    let whole : PrintsReceived a octets status.Refused (string_bytes answer.output) = subst (PrintsReceived a octets status.Refused) (sym out) (up_to_fault found h.lines e g.line here spelled g.spelled) in
+    subst (λ (s : Status). PrintsReceived a octets s (string_bytes answer.output)) (sym g.status_is) whole
+
+-- ---- items, one after the other
+
+-- the lines so far and those of what is left are all lines
+pub record PushedSoFar (found : Found) (i : ℕ) (before here : List ℕ) : Type 0 where
+  pub lines : List ℕ
+  pub here_is : here ≡ before ++ lines
+  pub more : (rest : List ℕ) → AreItemLines (drop i found) rest → AreItemLines found (lines ++ rest)
+
+pub none_pushed : (found : Found) (before : List ℕ) → PushedSoFar found 0 before before
+none_pushed found before = record { lines = []; here_is = sym (append-nil before); more = λ rest h. h }
+
+moved : (a b d s w t : List ℕ) → a ++ b ++ d ++ s ++ w ++ t ≡ a ++ (b ++ (d ++ s ++ w ++ t))
+moved a b d s w t = simp append_assoc
+
+joined : (d s w rest : List ℕ) → (d ++ s ++ w ++ 10 ∷ []) ++ rest ≡ d ++ s ++ w ++ 10 ∷ rest
+joined d s w rest = simp append_assoc
+
+pub one_pushed : (found : Found) (i : ℕ) (d x : ℕ × Item) (before here after : List ℕ) → i < length found → x ≡ get_or found i d → PushedSoFar found i before here → IsItemPushed x.0 x.1 here after → PushedSoFar found (i + 1) before after
+one_pushed found i d x before here after inside at so_far one =
+    let line : List ℕ = decimal x.0 ++ codes " " ++ one.words ++ 10 ∷ [] in
+    let left : drop i found ≡ x ∷ drop (i + 1) found = drop_more found i d inside ∙ ap (λ y. y ∷ drop (i + 1) found) (sym at) in
+    record {
+      lines = so_far.lines ++ line;
+      here_is = one.after_is ∙ ap (λ h. h ++ decimal x.0 ++ codes " " ++ one.words ++ 10 ∷ []) so_far.here_is ∙ moved before so_far.lines (decimal x.0) (codes " ") one.words (10 ∷ []);
+      more = λ rest h.
+          let shown : AreItemLines (x ∷ drop (i + 1) found) (line ++ rest) = (one.words, rest, one.spelled, h, joined (decimal x.0) (codes " ") one.words rest) in
+          let here : AreItemLines (drop i found) (line ++ rest) = subst (λ xs. AreItemLines xs (line ++ rest)) (sym left) shown in
+          subst (AreItemLines found) (sym (append_assoc so_far.lines line rest)) (so_far.more (line ++ rest) here);
+    }
+
+pub all_pushed : (found : Found) (i : ℕ) (before after : List ℕ) → length found ≤ i → PushedSoFar found i before after → IsPushed found before after
+all_pushed found i before after whole so_far =
+    let none : AreItemLines (drop i found) [] = subst (λ xs. AreItemLines xs []) (sym (drop_all i found whole)) refl in
+    record { lines = so_far.lines; spelled = subst (AreItemLines found) (append-nil so_far.lines) (so_far.more [] none); after_is = so_far.here_is }

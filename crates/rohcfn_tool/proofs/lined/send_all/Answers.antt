@@ -1,0 +1,10 @@
+use Rattle.std.proofs.Common.{rules}
+use Rattle.rohcfn_tool.proofs.Flowing.{refused_event_is, sent_printed}
+use Rattle.rohcfn_tool.proofs.lined.send_all.Goals as goal
+
+pub returns-in-Ok : goal.returns-in-Ok
+returns-in-Ok c = sent_printed c.args.accepted.now c.args.events.now _ _ c.print_sent.result c.in-Ok.ensures.ok c.print_sent.ensures
+
+pub returns-in_ok-line-in-Err-Refused : goal.returns-in_ok-line-in-Err-Refused
+returns-in_ok-line-in-Err-Refused c =
+    refused_event_is c.args.accepted.now c.args.events.now c.in-Err-Refused.field-0 c.in-Err-Refused.index _ c.in-Err-Refused.fault _ _ c.refusal.result c.in-Err-Refused.ensures.fault c.in-Err-Refused.field-0-is c.in_ok-line-in-Err-Refused.ensures (search rules) c.as_str.ensures.value c.refusal.ensures

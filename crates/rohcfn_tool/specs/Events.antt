@@ -1,0 +1,43 @@
+-- The lines of events, and octets in hex.
+use Rattle.std.specs.Prelude.{◌≡◌, ◌==◌, ◌<◌, ℕ, List, [], ◌∷◌, codes, decimal, filter, not, Ok}
+use Rattle.std.specs.List.{slice_split}
+use Rattle.hex.specs.Hex.{decode_of}
+use Rattle.fn_source.specs.Lexical.{is_space}
+use Rattle.fn_filling.specs.declared.filling.Item.{Item}
+use Rattle.fn_line.specs.Lines.{flow_count}
+use Rattle.fn_line.specs.declared.runs.Event.{Event}
+use Rattle.fn_line.specs.declared.runs.Event.TheVariants.{Send, Reset}
+use Rattle.rohcfn_tool.specs.Inputs.{AreItemWords}
+
+-- the word is the number of a flow
+pub record IsFlow (word : List ℕ) (flow : ℕ) : Type 0 where
+  pub below : flow < flow_count
+  pub spelled : word ≡ decimal flow
+
+-- a flow, and then the words of an item
+abbrev pub AreSendWords : List (List ℕ) → ℕ → Item → Type 0
+AreSendWords [] flow it = ⊥
+AreSendWords (word ∷ words) flow it = IsFlow word flow × AreItemWords words it
+
+-- a flow, and nothing else
+abbrev pub AreResetWords : List (List ℕ) → ℕ → Type 0
+AreResetWords [] flow = ⊥
+AreResetWords (word ∷ words) flow = IsFlow word flow × (words ≡ [])
+
+-- `send`, a flow and an item; or `reset` and a flow
+abbrev pub AreEventWords : List (List ℕ) → Event → Type 0
+AreEventWords [] e = ⊥
+AreEventWords (word ∷ words) (Send flow it) = (word ≡ codes "send") × AreSendWords words flow it
+AreEventWords (word ∷ words) (Reset flow) = (word ≡ codes "reset") × AreResetWords words flow
+
+-- the line is read as this event: its words are those between the blanks
+abbrev pub IsEvent : List ℕ → Event → Type 0
+IsEvent line e = AreEventWords (slice_split (λ octet. octet == 32) line) e
+
+-- the text less its white space
+abbrev pub without_space : List ℕ → List ℕ
+without_space text = filter (λ octet. not (is_space octet)) text
+
+-- the text is read as these octets: two hex digits each, with white space anywhere
+abbrev pub AreOctets : List ℕ → List ℕ → Type 0
+AreOctets text octets = decode_of (without_space text) ≡ Ok octets

@@ -1,0 +1,147 @@
+//! The lines of events, and octets in hex.
+
+ghost use Rattle.std.specs.Prelude.{◌≡◌, ℕ, List, IfOk, IfErr, IfSome, IfNone, map};
+ghost use Rattle.fn_source.specs.Lexical.{is_space};
+ghost use Rattle.fn_filling.specs.declared.filling.Item.{Item};
+ghost use Rattle.fn_line.specs.declared.runs.Event.{Event};
+ghost use Rattle.rohcfn_tool.specs.Events.{AreEventWords, AreOctets, AreResetWords, AreSendWords, IsEvent, IsFlow, without_space};
+ghost use Rattle.rohcfn_tool.specs.Inputs.{BlamesLine, HasLines};
+
+use crate::inputs::{BadLine, bad_line_of, item_of, pieces};
+use fn_bits::lines::lines;
+use fn_filling::Item;
+use fn_line::{Event, Flow};
+use hex::FromHexError;
+use itoa::Buffer;
+use std::alloc::{AllocError, Global};
+
+/// The events of the lines of a part, the empty lines left out. All lines are read before any is used.
+pub fn read_events(alloc: Global, octets: &[u8]) -> Result<Vec<Event>, BadLine>
+    ensures found { IfOk result (λ v. HasLines IsEvent octets.now v.items) }
+    ensures bad { IfErr result (λ e. BlamesLine IsEvent e octets.now) }
+{
+    let lines = match lines(alloc, octets) {
+        Ok(lines) => lines,
+        Err(error) => return Err(bad_line_of(error)),
+    };
+    let mut inputs = Vec::new(alloc);
+    for line in &lines {
+        match read_event(alloc, line.text)? {
+            Some(event) => inputs.push(event)?,
+            None => return Err(BadLine::Number(line.number)),
+        }
+    }
+    Ok(inputs)
+}
+
+/// The event of a line, or `None` where it is none.
+fn read_event(alloc: Global, line: &str) -> Result<Option<Event>, AllocError>
+    ensures found { IfOk result (λ o. IfSome o (IsEvent line.now)) }
+    ensures none { IfOk result (λ o. IfNone o ((e : Event) → IsEvent line.now e → ⊥)) }
+{
+    let words = pieces(alloc, line)?;
+    event_of(alloc, words.as_slice())
+}
+
+/// The event of words, or `None` where they are none.
+fn event_of(alloc: Global, words: &[&str]) -> Result<Option<Event>, AllocError>
+    ensures found { IfOk result (λ o. IfSome o (AreEventWords (map (λ w. w.now) words.now))) }
+    ensures none { IfOk result (λ o. IfNone o ((e : Event) → AreEventWords (map (λ w. w.now) words.now) e → ⊥)) }
+{
+    let [word, more @ ..] = words else {
+        return Ok(None);
+    };
+    if *word == "send" {
+        match send_of(alloc, more)? {
+            Some(sent) => Ok(Some(Event::Send(sent.0, sent.1))),
+            None => Ok(None),
+        }
+    } else if *word == "reset" {
+        match reset_of(more) {
+            Some(flow) => Ok(Some(Event::Reset(flow))),
+            None => Ok(None),
+        }
+    } else {
+        Ok(None)
+    }
+}
+
+/// The flow and the item of a send, or `None` where the words are none.
+fn send_of(alloc: Global, words: &[&str]) -> Result<Option<(Flow, Item)>, AllocError>
+    ensures found { IfOk result (λ o. IfSome o (λ sent. AreSendWords (map (λ w. w.now) words.now) sent.0 sent.1)) }
+    ensures none { IfOk result (λ o. IfNone o ((flow : ℕ) (it : Item) → AreSendWords (map (λ w. w.now) words.now) flow it → ⊥)) }
+{
+    let [flow, item @ ..] = words else {
+        return Ok(None);
+    };
+    let Some(flow) = read_flow(flow) else {
+        return Ok(None);
+    };
+    match item_of(alloc, item)? {
+        Some(item) => Ok(Some((flow, item))),
+        None => Ok(None),
+    }
+}
+
+/// The flow of a reset, or `None` where the words are none.
+fn reset_of(words: &[&str]) -> Option<Flow>
+    ensures found { IfSome result (AreResetWords (map (λ w. w.now) words.now)) }
+    ensures none { IfNone result ((flow : ℕ) → AreResetWords (map (λ w. w.now) words.now) flow → ⊥) }
+{
+    let [flow] = words else {
+        return None;
+    };
+    read_flow(flow)
+}
+
+/// The flow whose number the word is, with no leading zero or sign, or `None` where it is none.
+fn read_flow(word: &str) -> Option<Flow>
+    ensures found { IfSome result (IsFlow word.now) }
+    ensures none { IfNone result ((flow : ℕ) → IsFlow word.now flow → ⊥) }
+{
+    let Ok(number) = word.parse::<u8>() else {
+        return None;
+    };
+    let Some(flow) = Flow::new(number) else {
+        return None;
+    };
+    let mut buffer = Buffer::new();
+    if buffer.format(number) == word {
+        Some(flow)
+    } else {
+        None
+    }
+}
+
+/// The octets of hex digits of either case with white space anywhere, or `None` where the text is none of an octet each two digits.
+pub fn read_octets(alloc: Global, text: &[u8]) -> Result<Option<Vec<u8>>, AllocError>
+    ensures found { IfOk result (λ o. IfSome o (λ v. AreOctets text.now v.items)) }
+    ensures none { IfOk result (λ o. IfNone o ((octets : List ℕ) → AreOctets text.now octets → ⊥)) }
+{
+    let digits = digits_in(alloc, text)?;
+    match hex::decode(alloc, digits.as_slice()) {
+        Ok(octets) => Ok(Some(octets)),
+        Err(FromHexError::OutOfMemory) => Err(AllocError),
+        Err(_) => Ok(None),
+    }
+}
+
+/// A text less its white space.
+fn digits_in(alloc: Global, text: &[u8]) -> Result<Vec<u8>, AllocError>
+    ensures { IfOk result (λ digits. digits.items ≡ without_space text.now) }
+{
+    let mut digits = Vec::with_capacity(alloc, text.len())?;
+    for octet in text {
+        if !is_blank(*octet) {
+            digits.push(*octet)?;
+        }
+    }
+    Ok(digits)
+}
+
+/// Whether the octet is white space: a space, tab, CR, LF or form feed.
+fn is_blank(octet: u8) -> bool
+    ensures { result ≡ is_space octet }
+{
+    octet == b' ' || octet == b'\t' || octet == b'\r' || octet == b'\n' || octet == 12
+}

@@ -1,0 +1,211 @@
+//! What is answered to `line`.
+
+ghost use Rattle.std.specs.Prelude.{◌≡◌, ◌++◌, IfOk, OnOk, codes, decimal, string_bytes};
+ghost use Rattle.rohcfn_tool.specs.Lined as spec;
+
+use crate::accepting::{Judged, accept};
+use crate::bundle::Parts;
+use crate::events::{read_events, read_octets};
+use crate::inputs::BadLine;
+use crate::printing::{item_text, push_line};
+use crate::replies::refusal;
+use crate::status::{Answer, Status};
+use crate::words::End;
+use fn_checker::Accepted;
+use fn_engine::PackFault;
+use fn_filling::Item;
+use fn_line::{Event, Flow, LineFault, Received, RunFault, Sent, receive, run};
+use itoa::Buffer;
+use std::alloc::{AllocError, Global};
+
+/// The answer to `line`: at the sending end the octets of the events and the items that a receiver gives of them, at the receiving end the items of
+/// the octets; or the line of the first fault.
+pub(crate) fn answer_line(
+    alloc: Global,
+    end: End,
+    top: &str,
+    profile: &[u8],
+    parts: &Parts<'_>,
+) -> Result<Answer, AllocError>
+    ensures { IfOk result (spec.AnswersLine end top.now profile.now parts.now) }
+{
+    match end {
+        End::Sending => match parts.events {
+            Some(events) => line_by(alloc, End::Sending, top, profile, parts, events),
+            None => refusal(alloc, "bundle: I4 bad part events"),
+        },
+        End::Receiving => match parts.octets {
+            Some(octets) => line_by(alloc, End::Receiving, top, profile, parts, octets),
+            None => refusal(alloc, "bundle: I4 bad part octets"),
+        },
+    }
+}
+
+/// The answer at an end, by the octets of a profile and of the end's part.
+fn line_by(
+    alloc: Global,
+    end: End,
+    top: &str,
+    profile: &[u8],
+    parts: &Parts<'_>,
+    input: &[u8],
+) -> Result<Answer, AllocError>
+    ensures { IfOk result (spec.AnswersLineBy end top.now profile.now parts.now.certificate input.now) }
+{
+    match accept(alloc, top, profile, parts)? {
+        Judged::Accepted(accepted) => answer_end(alloc, end, &accepted, input),
+        Judged::Refused(line) => refusal(alloc, line.as_str()),
+    }
+}
+
+/// The answer at an end, by an accepted profile.
+fn answer_end(
+    alloc: Global,
+    end: End,
+    accepted: &Accepted,
+    input: &[u8],
+) -> Result<Answer, AllocError>
+    ensures { IfOk result (spec.AnswersEnd end accepted.now input.now) }
+{
+    match end {
+        End::Sending => answer_events(alloc, accepted, input),
+        End::Receiving => answer_octets(alloc, accepted, input),
+    }
+}
+
+// ---- the sending end
+
+/// The answer to the octets of events.
+fn answer_events(alloc: Global, accepted: &Accepted, input: &[u8]) -> Result<Answer, AllocError>
+    ensures { IfOk result (spec.AnswersEnd End.Sending accepted.now input.now) }
+{
+    match read_events(alloc, input) {
+        Ok(events) => send_all(alloc, accepted, events.as_slice()),
+        Err(BadLine::Number(number)) => {
+            let line = bad_event_line(alloc, number)?;
+            refusal(alloc, line.as_str())
+        }
+        Err(BadLine::OutOfMemory) => Err(AllocError),
+    }
+}
+
+/// The line of events that can't be read.
+fn bad_event_line(alloc: Global, number: usize) -> Result<String, AllocError>
+    ensures { IfOk result (λ text. string_bytes text ≡ spec.bad_event_text number) }
+{
+    format!(in alloc; "events:{number}: I3 bad event")
+}
+
+/// The octets of all events in hex and the items, or the line of the first event that is refused.
+fn send_all(alloc: Global, accepted: &Accepted, events: &[Event]) -> Result<Answer, AllocError>
+    ensures { IfOk result (spec.AnswersSent accepted.now events.now) }
+{
+    match run(alloc, accepted, events) {
+        Ok(sent) => print_sent(alloc, &sent),
+        Err(RunFault::Refused(index, fault)) => {
+            let line = event_fault(alloc, index + 1, fault)?;
+            refusal(alloc, line.as_str())
+        }
+        Err(RunFault::OutOfMemory) => Err(AllocError),
+    }
+}
+
+/// The octets in hex, and a line for each item.
+fn print_sent(alloc: Global, sent: &Sent) -> Result<Answer, AllocError>
+    ensures { IfOk result (spec.IsSentPrinted sent.now.octets.items sent.now.items.items) }
+{
+    let mut output = hex::encode(alloc, sent.octets.as_slice())?;
+    output.push('\n')?;
+    push_items(alloc, &mut output, sent.items.as_slice())?;
+    Ok(Answer {
+        status: Status::Done,
+        output,
+    })
+}
+
+/// The line of a refused event.
+fn event_fault(alloc: Global, number: usize, fault: PackFault) -> Result<String, AllocError>
+    ensures { IfOk result (λ text. spec.IsEventFault fault number (string_bytes text)) }
+{
+    match fault {
+        PackFault::HeaderLength => format!(in alloc; "event {number}: F1 HeaderLength"),
+        PackFault::Asked(name) => asked_event(alloc, number, name.as_str()),
+        PackFault::NoFormat => format!(in alloc; "event {number}: F3 NoFormat"),
+        PackFault::OutOfMemory => Err(AllocError),
+    }
+}
+
+fn asked_event(alloc: Global, number: usize, name: &str) -> Result<String, AllocError>
+    ensures { IfOk result (λ text. string_bytes text ≡ codes "event " ++ decimal number ++ codes ": F2 Asked " ++ name.now) }
+{
+    format!(in alloc; "event {number}: F2 Asked {name}")
+}
+
+// ---- the receiving end
+
+/// The answer to the octets of hex digits.
+fn answer_octets(alloc: Global, accepted: &Accepted, input: &[u8]) -> Result<Answer, AllocError>
+    ensures { IfOk result (spec.AnswersEnd End.Receiving accepted.now input.now) }
+{
+    match read_octets(alloc, input)? {
+        Some(octets) => receive_all(alloc, accepted, octets.as_slice()),
+        None => refusal(alloc, "octets: I5 bad hex"),
+    }
+}
+
+/// The items of octets, and then the line of the fault, if one comes.
+fn receive_all(alloc: Global, accepted: &Accepted, octets: &[u8]) -> Result<Answer, AllocError>
+    ensures { IfOk result (spec.AnswersReceived accepted.now octets.now) }
+{
+    let Received { items, fault } = receive(alloc, accepted, octets)?;
+    let mut output = String::new(alloc);
+    push_items(alloc, &mut output, items.as_slice())?;
+    match fault {
+        Some(fault) => refused_by(output, fault),
+        None => Ok(Answer {
+            status: Status::Done,
+            output,
+        }),
+    }
+}
+
+/// The lines so far, and that of a fault.
+fn refused_by(output: String, fault: LineFault) -> Result<Answer, AllocError>
+    ensures { IfOk result (spec.IsRefusedBy (string_bytes output) fault) }
+{
+    let mut output = output;
+    let line = match fault {
+        LineFault::FlowOctet => "line: L1 bad flow octet",
+        LineFault::RefusedPacket => "line: L2 refused packet",
+        LineFault::Padding => "line: L3 padding not zero",
+        LineFault::Ended => "line: L4 ended inside a packet",
+        LineFault::OutOfMemory => return Err(AllocError),
+    };
+    push_line(&mut output, line)?;
+    Ok(Answer {
+        status: Status::Refused,
+        output,
+    })
+}
+
+// ---- items
+
+/// A line for each item: its flow, a blank and its text.
+fn push_items(alloc: Global, output: &mut String, items: &[(Flow, Item)]) -> Result<(), AllocError>
+    ensures { OnOk result (spec.IsPushed items.now (string_bytes output.old) (string_bytes output.new)) }
+{
+    for (flow, item) in items {
+        push_item(alloc, output, *flow, item)?;
+    }
+    Ok(())
+}
+
+fn push_item(alloc: Global, output: &mut String, flow: Flow, item: &Item) -> Result<(), AllocError>
+    ensures { OnOk result (spec.IsItemPushed flow item.now (string_bytes output.old) (string_bytes output.new)) }
+{
+    let text = item_text(alloc, item)?;
+    let mut buffer = Buffer::new();
+    output.push_str(buffer.format(flow.number()))?;
+    output.push(' ')?;
+    push_line(output, text.as_str())
+}

@@ -1,0 +1,75 @@
+#!/usr/bin/env python3
+"""Through the built program: 2,000 sends and resets of 16 flows, drawn at random, on one line. The octets and items must be those of the best fillings that a slow search over all fillings finds (searching.py), each flow
+in a context of its own; they must be those of 16 lines of one flow each; and from the octets `line --receive` must give the same items."""
+import pathlib
+import random
+import subprocess
+import sys
+
+import samples
+from roundtrip import INITIAL, best, items, line_of
+
+PROGRAM = pathlib.Path(__file__).parent.parent / "bin" / "rohcfn"
+FLOWS = 16
+
+
+def run(name, words, part, text):
+    data = "=== words\nline --top %s%s\n=== profile\n%s=== %s\n%s" % (name, words, samples.TEXTS[name], part, text)
+    done = subprocess.run([PROGRAM], input=data.encode(), stdout=subprocess.PIPE, check=False)
+    return done.stdout.decode(), done.returncode
+
+
+def octets(bits):
+    return "".join("%02x" % int(bits[start:start + 8].ljust(8, "0"), 2) for start in range(0, len(bits), 8))
+
+
+class Events:
+    """Events with the octets and the item's line that are due for each; a send that has no filling is left out."""
+
+    def __init__(self, name, count, draw):
+        self.name, self.events, self.contexts = name, [], [{} for _ in range(FLOWS)]
+        headers, found = items(name, draw), {}
+        while len(self.events) < count:
+            flow = draw.randrange(FLOWS)
+            if draw.randrange(20) == 0:
+                self.contexts[flow] = {}
+                self.events.append((flow, "reset %d\n" % flow, "%02x" % (FLOWS + flow), ""))
+                continue
+            header, asked = draw.choice(headers)
+            if "sn" in self.contexts[flow] and draw.randrange(2):
+                header = format((int(self.contexts[flow]["sn"], 2) + draw.randrange(20)) % 256, "08b")
+            key = (header, str(asked), str(sorted(self.contexts[flow].items())))
+            if key not in found:
+                found[key] = best(name, self.contexts[flow], header, asked)
+            if found[key] is not None:
+                self.contexts[flow].update(found[key].entries)
+                line = line_of(header, asked)
+                self.events.append((flow, "send %d %s\n" % (flow, line), "%02x%s" % (flow, octets(found[key].packed)), "%d %s\n" % (flow, line)))
+
+    def trials(self):
+        """What is run, and what is due."""
+        yield self.sent(self.events)
+        for flow in range(FLOWS):
+            yield self.sent([it for it in self.events if it[0] == flow])
+        heard = "".join(it[3] for it in self.events)
+        yield run(self.name, " --receive", "octets", "".join(it[2] for it in self.events) + "\n"), (heard, 0)
+
+    def sent(self, events):
+        due = "".join(it[2] for it in events) + "\n" + "".join(it[3] for it in events)
+        return run(self.name, "", "events", "".join(it[1] for it in events)), (due, 0)
+
+
+def main():
+    draw, passed, failed = random.Random(5795), 0, 0
+    for name, count in [("tick", 2000), ("opt", 400), ("seq", 400), ("wrap", 400)]:
+        for place, (found, due) in enumerate(Events(name, count, draw).trials()):
+            if found == due:
+                passed += 1
+            else:
+                failed += 1
+                print("%s, run %d: wrong" % (name, place))
+    print("lines of flows: %d passed, %d failed" % (passed, failed))
+    sys.exit(1 if failed else 0)
+
+
+main()
