@@ -146,4 +146,5 @@ def main():
     report("packing", all(good))
 
 
-main()
+if __name__ == "__main__":
+    main()

@@ -71,6 +71,13 @@ def nestings():
         yield "65 deep: %s" % mark, shows("K = " + mark * 65), 1, fault("K = " + mark * 64, "E11", "nesting is above 64")
 
 
+def in_order():
+    """Brackets 65 deep and 257 operators in one text: the first of them is told."""
+    deep, operators = "(" * 65, "1" + " + 1" * 257
+    yield "65 deep, then 257 operators", shows("K = " + deep + operators), 1, fault("K = " + deep[1:], "E11", "nesting is above 64")
+    yield "257 operators, then 65 deep", shows("K = " + operators + " + " + deep), 1, too_many("K = 1" + " + 1" * 256 + " ")
+
+
 def fields(count):
     """A profile of so many header fields of one bit, each listed."""
     header = "".join("f%d [1];\n" % number for number in range(count))
@@ -168,5 +175,5 @@ def crowded():
 
 def cases():
     """Name, bundle, status and output of each."""
-    for part in (counts, nestings, packed, long_inputs, fronts, checked, lines, crowded):
+    for part in (counts, nestings, in_order, packed, long_inputs, fronts, checked, lines, crowded):
         yield from part()

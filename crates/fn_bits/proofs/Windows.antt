@@ -271,6 +271,12 @@ word_room os i h =
     let q : 2 ^ (8 * length (take i os)) ≤ 2 ^ 64 = pow_mono p in
     omega (arith, q, word_below (take i os))
 
+pub word_room_narrow : (os : List ℕ) (i : ℕ) → i ≤ 7 → num (bits_of (take i os)) < 2 ^ 56
+word_room_narrow os i h =
+    let p : 8 * length (take i os) ≤ 56 = omega (arith, length-take i os) in
+    let q : 2 ^ (8 * length (take i os)) ≤ 2 ^ 56 = pow_mono p in
+    omega (arith, q, word_below (take i os))
+
 -- the low bits of a number as a number
 num_low : (n v : ℕ) → num (enc n v) ≡ v % 2 ^ n
 num_low n v =
@@ -278,7 +284,7 @@ num_low n v =
     ap num e ∙ num-enc n (v % 2 ^ n) (mod_below v (2 ^ n) (pow_pos n))
 
 -- n bits from a place on, out of the number of the octets that they lie in
-number_in : (os : List ℕ) (place n first end w : ℕ) → 8 * first ≤ place → place + n ≤ 8 * end → first ≤ end → end ≤ length os → w ≡ num (bits_of (slice_range os first end)) → (w / 2 ^ (8 * end - place - n)) % 2 ^ n ≡ num (take n (drop place (bits_of os)))
+pub number_in : (os : List ℕ) (place n first end w : ℕ) → 8 * first ≤ place → place + n ≤ 8 * end → first ≤ end → end ≤ length os → w ≡ num (bits_of (slice_range os first end)) → (w / 2 ^ (8 * end - place - n)) % 2 ^ n ≡ num (take n (drop place (bits_of os)))
 number_in os place n first end w a b c d e =
     let s : ℕ = place - 8 * first in
     let m : ℕ = 8 * end - place - n in
@@ -303,6 +309,16 @@ number_masked os place n first end w l a b c d e =
     let one : 1 * 2 ^ n % 2 ^ 128 ≡ 1 * 2 ^ n = shl_whole 1 1 n 128 (omega arith) (omega arith) in
     let mask : 1 * 2 ^ n % 2 ^ 128 - 1 ≡ 2 ^ n - 1 = omega (arith, one) in
     ap (bit_and (w / 2 ^ (8 * end - place - n))) mask ∙ and_mask (w / 2 ^ (8 * end - place - n)) n ∙ number_in os place n first end w a b c d e
+
+-- the low bits, as a mask gives them
+pub low_masked : (w n : ℕ) → n < 64 → bit_and w (1 * 2 ^ n % 2 ^ 64 - 1) ≡ w % 2 ^ n
+low_masked w n l =
+    let one : 1 * 2 ^ n % 2 ^ 64 ≡ 1 * 2 ^ n = shl_whole 1 1 n 64 (omega arith) (omega arith) in
+    let mask : 1 * 2 ^ n % 2 ^ 64 - 1 ≡ 2 ^ n - 1 = omega (arith, one) in
+    ap (bit_and w) mask ∙ and_mask w n
+
+pub low_whole : (w n : ℕ) → w < 2 ^ 64 → n ≡ 64 → w ≡ w % 2 ^ n
+low_whole w n l e = rw e (omega arith)
 
 -- one more octet of a number that is spelled
 pub spell_more : (now new : List ℕ) (word many i o : ℕ) → i < many → bits_of now ≡ enc (8 * i) (word / 2 ^ (8 * (many - i))) → o ≡ word / 2 ^ (8 * (many - 1 - i)) % 256 → new ≡ now ++ o ∷ [] → bits_of new ≡ enc (8 * (i + 1)) (word / 2 ^ (8 * (many - (i + 1))))
@@ -335,4 +351,4 @@ pub ruleset octets = (read_at, front_bits_cut)
 
 pub ruleset spelling = (spelled_first, spelled_all, IsBytes-nil)
 
-pub ruleset numbering = (word_more, word_room, word_below)
+pub ruleset numbering = (word_more, word_room, word_room_narrow, word_below)

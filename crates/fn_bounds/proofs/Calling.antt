@@ -90,7 +90,7 @@ pub folded-still : {A B : Type 0} → (f : ℕ → B → A → B) (n : ℕ) (b :
 folded-still f n b [] still = refl
 folded-still f n b (x ∷ xs) still = ap (λ c. folded f (n + 1) c xs) (still 0 x refl n) ∙ folded-still f (n + 1) b xs (λ i y at. still (suc i) y at)
 
-folded-same : {A B : Type 0} → (f g : ℕ → B → A → B) (n : ℕ) (b : B) (xs : List A) → ((i : ℕ) (x : A) → slice_get xs i ≡ Some x → (c : B) → f (n + i) c x ≡ g (n + i) c x)
+pub folded-same : {A B : Type 0} → (f g : ℕ → B → A → B) (n : ℕ) (b : B) (xs : List A) → ((i : ℕ) (x : A) → slice_get xs i ≡ Some x → (c : B) → f (n + i) c x ≡ g (n + i) c x)
     → folded f n b xs ≡ folded g n b xs
 folded-same f g n b [] same = refl
 folded-same f g n b (x ∷ xs) same =

@@ -1,8 +1,9 @@
 -- What the earliest fault of a list stands for.
-use Rattle.std.proofs.Common.{◌≡◌, ◌∙◌, ap, sym, refl, ℕ, ◌+◌, ◌<◌, ◌⊎◌, inl, inr, List, [], ◌∷◌, suc, zero, length, arith}
+use Rattle.std.proofs.Common.{◌≡◌, ◌∙◌, ap, sym, refl, ℕ, ◌+◌, ◌<◌, ◌≤◌, ◌^◌, ◌⊎◌, inl, inr, nat_le, true, List, [], ◌∷◌, suc, zero, length, arith}
 use Rattle.std.specs.Prelude.{slice_get, Some, None, Option}
-use Rattle.std.specs.Option.{unwrap_or}
 use Rattle.std.proofs.lemmas.Option.{slice_get_within}
+use Rattle.std.proofs.lemmas.Bool.Decides.{nat_tests}
+use Rattle.fn_normal.specs.declared.profile.Sizes.{Sizes}
 use Rattle.fn_normal.specs.declared.profile.FormatSizes.{FormatSizes}
 use Rattle.fn_normal.specs.declared.profile.MethodSizes.{MethodSizes}
 use Rattle.fn_normal.specs.declared.profile.Format.{Format}
@@ -12,11 +13,11 @@ use Rattle.fn_normal.specs.Judging.{earlier, Judged}
 use Rattle.fn_bounds.specs.Passes.{folded}
 use Rattle.fn_bounds.specs.Ranging.{format_ranges}
 use Rattle.fn_bounds.specs.declared.known.Extent.{Extent}
-use Rattle.fn_bounds.specs.declared.known.Extent.TheVariants.{Whole, Known}
+use Rattle.fn_bounds.specs.declared.known.Extent.TheVariants.{Whole}
 use Rattle.fn_bounds.specs.Faults.{sized_fault, method_fault, methods_fault, format_fault}
-use Rattle.fn_bounds.specs.Methods.{IsOrder, SizedBefore, IsWithinAt, IsWide}
-use Rattle.fn_bounds.specs.Parameters.{only_zero, beyond, RangedFrom}
-use Rattle.fn_bounds.specs.Outcome.{FormatAt, IsFine, IsFaulty, is_wide, in_format, AreSizes, Cause, table_faulty, left_faulty}
+use Rattle.fn_bounds.specs.Methods.{IsOrder, SizedBefore, is_short, is_within, IsShortAt, ArePacked, IsWide}
+use Rattle.fn_bounds.specs.Parameters.{only_zero, RangedFrom}
+use Rattle.fn_bounds.specs.Outcome.{FormatAt, IsFine, IsFaulty, is_wide, in_format, AreSizes}
 use Rattle.fn_bounds.proofs.Folding.{which, neither}
 use Rattle.fn_bounds.proofs.Tables.{all-sized}
 
@@ -91,28 +92,26 @@ found-in x methods table f e =
     let found = some-of (λ i q. method_fault x q (slice_get table i)) methods f e in
     method-in x methods table f found.0 found.1 found.2 found.3
 
-pub faults-judged : (x : Extent) (methods : List Method) (table : List MethodSizes) (wide all found : Option ProfileFault)
-    → Judged ((k : ℕ) → k < length methods → IsWithinAt methods table k) (IsWide methods table) wide → all ≡ methods_fault x methods table
+both-halves : (s : Sizes) → is_short s ≡ true → s.compressed.most ≤ 2 ^ 18 → is_within s ≡ true
+both-halves s short packed = let tight : nat_le s.compressed.most (2 ^ 18) ≡ true = grind (arith, nat_tests) in rw short tight
+
+pub faults-judged : (x : Extent) (methods : List Method) (table : List MethodSizes) (wide all found : Option ProfileFault) → ArePacked methods table
+    → Judged ((k : ℕ) → k < length methods → IsShortAt methods table k) (IsWide methods table) wide → all ≡ methods_fault x methods table
     → found ≡ earlier wide all → Judged (IsFine x methods table) (IsFaulty x methods table) found
-faults-judged x methods table wide all found limit is so = record {
+faults-judged x methods table wide all found packed limit is so = record {
   fine = λ e.
       let both = neither wide all (sym so ∙ e) in
-      let within = limit.fine both.0 in
-      record { within = λ k m s here at. within k (slice_get_within methods k m here) m s here at; accepted = all-accepted x methods table (sym is ∙ both.1) };
+      let short = limit.fine both.0 in
+      record {
+        within = λ k m s here at. both-halves s.whole (short k (slice_get_within methods k m here) m s here at) (packed k m s here at);
+        accepted = all-accepted x methods table (sym is ∙ both.1);
+      };
   cause = λ f e.
       elim (which wide all f (sym so ∙ e)) as (λ _. IsFaulty x methods table f) [
         | inl w ↦ is_wide (limit.cause f w)
         | inr y ↦ found-in x methods table f (sym is ∙ y)
       ];
 }
-
--- the fault by the known ranges, or else the other one
-pub one-faulty : (methods : List Method) (order : List ℕ) (table known : List MethodSizes) (f : ProfileFault) (found : Option ProfileFault)
-    → SizedBefore methods order (length order) table → RangedFrom only_zero methods order 0 table → IsFaulty Whole methods table f
-    → SizedBefore methods order (length order) known → RangedFrom beyond methods order 0 known → Judged (IsFine Known methods known) (IsFaulty Known methods known) found
-    → Cause methods order (unwrap_or found f)
-one-faulty methods order table known f None sized ranged faulty also by-known judged = left_faulty sized ranged by-known (judged.fine refl) faulty
-one-faulty methods order table known f (Some g) sized ranged faulty also by-known judged = table_faulty also by-known (judged.cause g refl)
 
 pub are-sizes : (methods : List Method) (order : List ℕ) (table : List MethodSizes) → IsOrder methods order → SizedBefore methods order (length order) table → RangedFrom only_zero methods order 0 table
     → IsFine Whole methods table → AreSizes methods table

@@ -9,3 +9,5 @@ pub mod Faultless
 pub mod Ruling
 pub mod Widening
 pub mod Rows
+pub mod Weighing
+pub mod Agreeing

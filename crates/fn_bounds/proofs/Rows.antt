@@ -173,7 +173,7 @@ row-within methods k i m at lt =
 
 -- ---- the walk over the callers
 
-uncalled-entry : (e : Option MethodSizes) (k : ℕ) (o : List (Option Interval)) (m : Method) → is_caller k m ≡ false → with_entry e k o m ≡ o
+pub uncalled-entry : (e : Option MethodSizes) (k : ℕ) (o : List (Option Interval)) (m : Method) → is_caller k m ≡ false → with_entry e k o m ≡ o
 uncalled-entry None k o m none = refl
 uncalled-entry (Some s) k o m none =
     folded-still (λ n c format. with_format s.parameters k c format (slice_get s.formats n)) 0 o m.formats (λ n format at j.

@@ -41,11 +41,11 @@ record Ruled (table : List MethodSizes) (format : Format) (i : ℕ) (d : Field) 
 
 -- ---- brackets
 
-record Held (b : Bounds) (e : Expr) : Type 0 where
-  value : ℤ
-  is : constant e ≡ Some value
-  above : b.least ≤ counted value
-  below : counted value ≤ b.most
+pub record Held (b : Bounds) (e : Expr) : Type 0 where
+  pub value : ℤ
+  pub is : constant e ≡ Some value
+  pub above : b.least ≤ counted value
+  pub below : counted value ≤ b.most
 
 outside : (o : Option Bounds) (k : ℕ) (b : Bounds) → b.least ≤ (enclosing o k).least → (enclosing o k).most ≤ b.most
     → ((c : Bounds) → o ≡ Some c → (b.least ≤ c.least) × (c.most ≤ b.most)) × (b.least ≤ k) × (k ≤ b.most)
@@ -53,7 +53,7 @@ outside None k b low high = (λ c e. let wrong : None ≡ Some c = e in absurd c
 outside (Some a) k b low high =
     (λ c e. let same : a ≡ c = cc in (omega (arith, ap (λ (x : Bounds). x.least) same), omega (arith, ap (λ (x : Bounds). x.most) same)), omega arith, omega arith)
 
-enclosed : (o : Option Bounds) (es : List Expr) (b : Bounds) → enclosing_all o es ≡ Some b
+pub enclosed : (o : Option Bounds) (es : List Expr) (b : Bounds) → enclosing_all o es ≡ Some b
     → ((c : Bounds) → o ≡ Some c → (b.least ≤ c.least) × (c.most ≤ b.most)) × ((j : ℕ) (e : Expr) → slice_get es j ≡ Some e → Held b e)
 enclosed o [] b is = (
   λ c e. let both : Some c ≡ Some b = sym e ∙ is in let same : c ≡ b = cc in (omega (arith, ap (λ (x : Bounds). x.least) same), omega (arith, ap (λ (x : Bounds). x.most) same)),
@@ -87,7 +87,7 @@ le-pos n (negsuc m) small le = omega (arith, ints)
 
 -- ---- the length that an argument gives
 
-sized-by : (o : Option ℤ) → (by_length o ≡ bounds 0 64) ⊎ ((n : ℕ) × (o ≡ Some (pos n)) × (n ≤ 64) × (by_length o ≡ bounds n n))
+pub sized-by : (o : Option ℤ) → (by_length o ≡ bounds 0 64) ⊎ ((n : ℕ) × (o ≡ Some (pos n)) × (n ≤ 64) × (by_length o ≡ bounds n n))
 sized-by None = inl refl
 sized-by (Some (negsuc m)) = inl refl
 sized-by (Some (pos n)) = by (nat_le n 64) refl
@@ -267,14 +267,14 @@ field-is methods table are m format s sizes at i d b in-format in-sizes =
 -- ---- sums
 
 -- a count of bits that adds up, as the least and the most of bounds do
-record AddsUp (count : Bounds → ℕ) : Type 0 where
-  none : count (bounds 0 0) ≡ 0
-  more : (b c : Bounds) → count (plus b c) ≡ count b + count c
+pub record AddsUp (count : Bounds → ℕ) : Type 0 where
+  pub none : count (bounds 0 0) ≡ 0
+  pub more : (b c : Bounds) → count (plus b c) ≡ count b + count c
 
-least-adds : AddsUp (λ b. b.least)
+pub least-adds : AddsUp (λ b. b.least)
 least-adds = record { none = refl; more = λ b c. refl }
 
-most-adds : AddsUp (λ b. b.most)
+pub most-adds : AddsUp (λ b. b.most)
 most-adds = record { none = refl; more = λ b c. refl }
 
 first-zero : (n m z : ℕ) → n ≡ z + m → z ≡ 0 → n ≡ m
@@ -289,7 +289,7 @@ total-more count adds b (c ∷ cs) =
     total-more count adds (plus b c) cs ∙ omega arith
 
 -- the first of the bounds, and the rest
-total-next : (count : Bounds → ℕ) → AddsUp count → (b : Bounds) (bs : List Bounds) → count (total (b ∷ bs)) ≡ count b + count (total bs)
+pub total-next : (count : Bounds → ℕ) → AddsUp count → (b : Bounds) (bs : List Bounds) → count (total (b ∷ bs)) ≡ count b + count (total bs)
 total-next count adds b bs =
     total-more count adds (plus (bounds 0 0) b) bs
     ∙ ap (λ n. n + count (total bs)) (first-zero (count (plus (bounds 0 0) b)) (count b) (count (bounds 0 0)) (adds.more (bounds 0 0) b) adds.none)

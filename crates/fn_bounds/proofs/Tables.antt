@@ -11,10 +11,7 @@ use Rattle.fn_normal.specs.declared.profile.Format.{Format}
 use Rattle.fn_normal.specs.declared.profile.Method.{Method}
 use Rattle.fn_bounds.specs.Fields.{bounds, sides, whole_at, encoding_sizes, field_sizes, where_listed, lists, narrowed}
 use Rattle.fn_bounds.specs.Formats.{format_sizes, sized_by}
-use Rattle.fn_normal.specs.declared.fault.ResolveError.{ResolveError}
-use Rattle.fn_normal.specs.declared.fault.ResolveError.TheVariants as errors
-use Rattle.fn_bounds.specs.Methods.{HasSizes, CallsMethod, IsOrder, SizedBefore, OverIn}
-use Rattle.fn_bounds.specs.Outcome.{Blames, sum_too_large}
+use Rattle.fn_bounds.specs.Methods.{HasSizes, CallsMethod, IsOrder, SizedBefore}
 use Rattle.fn_bounds.proofs.Places.{indexed-same}
 
 -- ---- writes
@@ -62,7 +59,7 @@ format-same t u m n format at same =
       is_call = is;
     }))))
 
-map-same : {A B : Type 0} → (f g : A → B) (xs : List A) → ((n : ℕ) (x : A) → slice_get xs n ≡ Some x → f x ≡ g x) → map f xs ≡ map g xs
+pub map-same : {A B : Type 0} → (f g : A → B) (xs : List A) → ((n : ℕ) (x : A) → slice_get xs n ≡ Some x → f x ≡ g x) → map f xs ≡ map g xs
 map-same f g [] same = refl
 map-same f g (x ∷ xs) same = let here = same 0 x refl in let rest = map-same f g xs (λ n y at. same (suc n) y at) in λ i. here i ∷ rest i
 
@@ -119,11 +116,6 @@ sized-more methods order n k m table s is at here before sized =
           (old.0, unwritten table k l s ne ∙ old.1, kept i l q (omega arith) at-i at-l old.0 old.2))
           (s, written table k s inside, kept n k m (omega arith) at here s sized);
     }
-
-pub blamed : (methods : List Method) (order : List ℕ) (n k : ℕ) (m : Method) (table : List MethodSizes) (e : ResolveError) → slice_get order n ≡ Some k
-    → slice_get methods k ≡ Some m → SizedBefore methods order n table → OverIn table m e → Blames methods order e
-blamed methods order n k m table errors.OutOfMemory at here before over = tt
-blamed methods order n k m table (errors.Fault f) at here before over = sum_too_large n k before at here over
 
 -- ---- the whole order
 

@@ -22,7 +22,6 @@ use Rattle.fn_normal.specs.declared.profile.FormatSizes.{FormatSizes}
 use Rattle.fn_normal.specs.declared.profile.MethodSizes.{MethodSizes}
 use Rattle.fn_normal.specs.declared.profile.Encoding.{Encoding}
 use Rattle.fn_normal.specs.declared.profile.Encoding.TheVariants as encoding
-use Rattle.fn_normal.specs.declared.profile.Field.{Field}
 use Rattle.fn_normal.specs.declared.profile.Format.{Format}
 use Rattle.fn_normal.specs.declared.profile.Method.{Method}
 use Rattle.fn_bounds.specs.Passes.{folded}
@@ -66,13 +65,13 @@ folded-brings P f keeps n b (y ∷ ys) (suc i) x at brings =
 
 -- ---- intervals that are joined
 
-record Around (i : Interval) (o : Option Interval) : Type 0 where
-  interval : Interval
-  is : o ≡ Some interval
-  within : LiesWithin i interval
+pub record Around (i : Interval) (o : Option Interval) : Type 0 where
+  pub interval : Interval
+  pub is : o ≡ Some interval
+  pub within : LiesWithin i interval
 
 -- the interval found at the place, where the list has the place, lies around the other one
-abbrev Covers : ℕ → Interval → List (Option Interval) → Type 0
+abbrev pub Covers : ℕ → Interval → List (Option Interval) → Type 0
 Covers q i found = (o : Option Interval) → slice_get found q ≡ Some o → Around i o
 
 around-more : (i : Interval) (o more : Option Interval) → Around i o → Around i (joined o more)
@@ -93,7 +92,7 @@ around-joined i (Some j) =
 -- ---- one call
 
 -- an entry after a call is the one before it, joined with the argument
-entry-joined : (r : Ranges) (es : List Expr) (found : List (Option Interval)) (q : ℕ) (o : Option Interval) → slice_get (with_arguments r es found) q ≡ Some o
+pub entry-joined : (r : Ranges) (es : List Expr) (found : List (Option Interval)) (q : ℕ) (o : Option Interval) → slice_get (with_arguments r es found) q ≡ Some o
     → (p : Option Interval) × (slice_get found q ≡ Some p) × (joined p (argument_range r es q) ≡ o)
 entry-joined r es found q o at = by (slice_get found q) refl (sym (indexed-at (λ n p. joined p (argument_range r es n)) 0 found q) ∙ at)
   where
@@ -119,14 +118,18 @@ arguments-bring q i r es found e at is o found-at =
     let old = entry-joined r es found q o found-at in
     subst (Around i) (ap (joined old.0) (sym (argument-at q i r es e at is)) ∙ old.2) (around-joined i old.0)
 
-call-keeps : (q : ℕ) (i : Interval) (r : Ranges) (k : ℕ) (found : List (Option Interval)) (c : Encoding) → Covers q i found → Covers q i (with_call r k found c)
-call-keeps q i r k found encoding.Bare covers = covers
-call-keeps q i r k found (encoding.Library l) covers = covers
-call-keeps q i r k found (encoding.Call j es) covers = by (nat_eq j k)
+-- what the arguments of a call keep of the ranges so far, whatever the call
+abbrev pub KeptBy : (List (Option Interval) → Type 0) → Type 0
+KeptBy P = (r : Ranges) (es : List Expr) (found : List (Option Interval)) → P found → P (with_arguments r es found)
+
+call-keeps : (P : List (Option Interval) → Type 0) → KeptBy P → (r : Ranges) (k : ℕ) (found : List (Option Interval)) (c : Encoding) → P found → P (with_call r k found c)
+call-keeps P kept r k found encoding.Bare p = p
+call-keeps P kept r k found (encoding.Library l) p = p
+call-keeps P kept r k found (encoding.Call j es) p = by (nat_eq j k)
   where
-    by : (b : Bool) → Covers q i (cond b (with_arguments r es found) found)
-    by true = arguments-keep q i r es found covers
-    by false = covers
+    by : (b : Bool) → P (cond b (with_arguments r es found) found)
+    by true = kept r es found p
+    by false = p
 
 call-brings : (q : ℕ) (i : Interval) (r : Ranges) (k : ℕ) (found : List (Option Interval)) (c : Encoding) (es : List Expr) (e : Expr) → c ≡ encoding.Call k es
     → slice_get es q ≡ Some e → ranged (bounding_of r) e ≡ Ok i → Covers q i (with_call r k found c)
@@ -137,33 +140,38 @@ call-brings q i r k found c es e is at range =
 
 -- ---- all calls
 
-fields-keep : (q : ℕ) (i : Interval) (r : Ranges) (k : ℕ) (found : List (Option Interval)) (format : Format) → Covers q i found → Covers q i (with_fields r k found format)
-fields-keep q i r k found format = fold-keeps (Covers q i) (λ o d. with_call r k o d.encoding) (λ o d. call-keeps q i r k o d.encoding) found format.fields
+fields-keep : (P : List (Option Interval) → Type 0) → KeptBy P → (r : Ranges) (k : ℕ) (found : List (Option Interval)) (format : Format) → P found → P (with_fields r k found format)
+fields-keep P kept r k found format p = fold-keeps P (λ o d. with_call r k o d.encoding) (λ o d. call-keeps P kept r k o d.encoding) found format.fields p
 
 fields-bring : (q : ℕ) (i : Interval) (r : Ranges) (k : ℕ) (found : List (Option Interval)) (format : Format) (e : Expr) → IsArgument format k q e → ranged (bounding_of r) e ≡ Ok i
     → Covers q i (with_fields r k found format)
 fields-bring q i r k found format e is range =
-    fold-brings (Covers q i) (λ o d. with_call r k o d.encoding) (λ o d. call-keeps q i r k o d.encoding) found format.fields is.field_place is.field is.field_at
+    fold-brings (Covers q i) (λ o d. with_call r k o d.encoding) (λ o d. call-keeps (Covers q i) (arguments-keep q i) r k o d.encoding) found format.fields is.field_place is.field is.field_at
     (λ o. call-brings q i r k o is.field.encoding is.arguments e is.is_call is.argument_at range)
 
-format-keeps : (q : ℕ) (i : Interval) (ps : List Interval) (k : ℕ) (found : List (Option Interval)) (format : Format) (s : Option FormatSizes) → Covers q i found
-    → Covers q i (with_format ps k found format s)
-format-keeps q i ps k found format None covers = covers
-format-keeps q i ps k found format (Some s) covers = fields-keep q i (format_ranges s ps) k found format covers
+format-keeps : (P : List (Option Interval) → Type 0) → KeptBy P → (ps : List Interval) (k : ℕ) (found : List (Option Interval)) (format : Format) (s : Option FormatSizes) → P found
+    → P (with_format ps k found format s)
+format-keeps P kept ps k found format None p = p
+format-keeps P kept ps k found format (Some s) p = fields-keep P kept (format_ranges s ps) k found format p
 
-method-keeps : (q : ℕ) (i : Interval) (fs : List FormatSizes) (ps : List Interval) (k : ℕ) (found : List (Option Interval)) (m : Method) → Covers q i found
-    → Covers q i (with_method fs ps k found m)
-method-keeps q i fs ps k found m =
-    folded-keeps (Covers q i) (λ n o format. with_format ps k o format (slice_get fs n)) (λ n o format. format-keeps q i ps k o format (slice_get fs n)) 0 found m.formats
+method-keeps : (P : List (Option Interval) → Type 0) → KeptBy P → (fs : List FormatSizes) (ps : List Interval) (k : ℕ) (found : List (Option Interval)) (m : Method) → P found
+    → P (with_method fs ps k found m)
+method-keeps P kept fs ps k found m p =
+    folded-keeps P (λ n o format. with_format ps k o format (slice_get fs n)) (λ n o format. format-keeps P kept ps k o format (slice_get fs n)) 0 found m.formats p
 
-entry-keeps : (q : ℕ) (i : Interval) (s : Option MethodSizes) (k : ℕ) (found : List (Option Interval)) (m : Method) → Covers q i found → Covers q i (with_entry s k found m)
-entry-keeps q i None k found m covers = covers
-entry-keeps q i (Some s) k found m covers = method-keeps q i s.formats s.parameters k found m covers
+entry-keeps : (P : List (Option Interval) → Type 0) → KeptBy P → (s : Option MethodSizes) (k : ℕ) (found : List (Option Interval)) (m : Method) → P found → P (with_entry s k found m)
+entry-keeps P kept None k found m p = p
+entry-keeps P kept (Some s) k found m p = method-keeps P kept s.formats s.parameters k found m p
 
-gathered-brings : (methods : List Method) (table : List MethodSizes) (k q : ℕ) (found : List (Option Interval)) (m : Method) (format : Format) (s : MethodSizes) (sizes : FormatSizes) (e : Expr) (i : Interval)
+pub gathered-keeps : (P : List (Option Interval) → Type 0) → KeptBy P → (methods : List Method) (table : List MethodSizes) (k : ℕ) (found : List (Option Interval)) → P found
+    → P (gathered methods table k found)
+gathered-keeps P kept methods table k found p =
+    folded-keeps P (λ i o c. with_entry (slice_get table i) k o c) (λ i o c. entry-keeps P kept (slice_get table i) k o c) 0 found methods p
+
+pub gathered-brings : (methods : List Method) (table : List MethodSizes) (k q : ℕ) (found : List (Option Interval)) (m : Method) (format : Format) (s : MethodSizes) (sizes : FormatSizes) (e : Expr) (i : Interval)
     → FormatAt methods table m format s sizes → IsArgument format k q e → ranged (ranges_in sizes s) e ≡ Ok i → Covers q i (gathered methods table k found)
 gathered-brings methods table k q found m format s sizes e i at is range =
-    folded-brings (Covers q i) (λ n o c. with_entry (slice_get table n) k o c) (λ n o c. entry-keeps q i (slice_get table n) k o c) 0 found methods at.method_place m at.method_at
+    folded-brings (Covers q i) (λ n o c. with_entry (slice_get table n) k o c) (λ n o c. entry-keeps (Covers q i) (arguments-keep q i) (slice_get table n) k o c) 0 found methods at.method_place m at.method_at
     (λ o. subst (λ x. Covers q i (with_entry x k o m)) (sym (ap (slice_get table) (zero-plus at.method_place) ∙ at.whole_at)) (in-method o))
   where
     zero-plus : (n : ℕ) → 0 + n ≡ n
@@ -171,39 +179,18 @@ gathered-brings methods table k q found m format s sizes e i at is range =
 
     in-method : (o : List (Option Interval)) → Covers q i (with_method s.formats s.parameters k o m)
     in-method o =
-        folded-brings (Covers q i) (λ n c f. with_format s.parameters k c f (slice_get s.formats n)) (λ n c f. format-keeps q i s.parameters k c f (slice_get s.formats n)) 0 o m.formats
+        folded-brings (Covers q i) (λ n c f. with_format s.parameters k c f (slice_get s.formats n)) (λ n c f. format-keeps (Covers q i) (arguments-keep q i) s.parameters k c f (slice_get s.formats n)) 0 o m.formats
         at.format_place format at.format_at
         (λ c. subst (λ x. Covers q i (with_format s.parameters k c format x)) (sym (ap (slice_get s.formats) (zero-plus at.format_place) ∙ at.sizes_at))
         (fields-bring q i (format_ranges sizes s.parameters) k c format e is range))
 
 -- ---- as many ranges as parameters
 
-fold-count : {A B : Type 0} → (f : List B → A → List B) → ((b : List B) (x : A) → length (f b x) ≡ length b) → (b : List B) (xs : List A) → length (fold f b xs) ≡ length b
-fold-count f same b xs = fold-keeps (λ c. length c ≡ length b) f (λ c x e. same c x ∙ e) b xs refl
+pub gathered-count : (methods : List Method) (table : List MethodSizes) (k : ℕ) (found : List (Option Interval)) → length (gathered methods table k found) ≡ length found
+gathered-count methods table k found =
+    gathered-keeps (λ c. length c ≡ length found) (λ r es c same. indexed-length (λ q o. joined o (argument_range r es q)) 0 c ∙ same) methods table k found refl
 
-folded-count : {A B : Type 0} → (f : ℕ → List B → A → List B) → ((n : ℕ) (b : List B) (x : A) → length (f n b x) ≡ length b) → (n : ℕ) (b : List B) (xs : List A) → length (folded f n b xs) ≡ length b
-folded-count f same n b xs = folded-keeps (λ c. length c ≡ length b) f (λ k c x e. same k c x ∙ e) n b xs refl
-
-call-count : (r : Ranges) (k : ℕ) (found : List (Option Interval)) (c : Encoding) → length (with_call r k found c) ≡ length found
-call-count r k found encoding.Bare = refl
-call-count r k found (encoding.Library l) = refl
-call-count r k found (encoding.Call j es) = by (nat_eq j k)
-  where
-    by : (b : Bool) → length (cond b (with_arguments r es found) found) ≡ length found
-    by true = indexed-length (λ q o. joined o (argument_range r es q)) 0 found
-    by false = refl
-
-format-count : (ps : List Interval) (k : ℕ) (found : List (Option Interval)) (format : Format) (s : Option FormatSizes) → length (with_format ps k found format s) ≡ length found
-format-count ps k found format None = refl
-format-count ps k found format (Some s) =
-    fold-count (λ o (d : Field). with_call (format_ranges s ps) k o d.encoding) (λ o d. call-count (format_ranges s ps) k o d.encoding) found format.fields
-
-entry-count : (s : Option MethodSizes) (k : ℕ) (found : List (Option Interval)) (m : Method) → length (with_entry s k found m) ≡ length found
-entry-count None k found m = refl
-entry-count (Some s) k found m =
-    folded-count (λ n o format. with_format s.parameters k o format (slice_get s.formats n)) (λ n o format. format-count s.parameters k o format (slice_get s.formats n)) 0 found m.formats
-
-map-length : {A B : Type 0} → (f : A → B) (xs : List A) → length (map f xs) ≡ length xs
+pub map-length : {A B : Type 0} → (f : A → B) (xs : List A) → length (map f xs) ≡ length xs
 map-length f [] = refl
 map-length f (x ∷ xs) = ap suc (map-length f xs)
 
@@ -214,7 +201,7 @@ ranges-count : (methods : List Method) (table : List MethodSizes) (k : ℕ) (m :
 ranges-count methods table k m =
     let start = map (λ p. None) m.parameters in
     map-length zero-if-none (gathered methods table k start)
-    ∙ folded-count (λ i o c. with_entry (slice_get table i) k o c) (λ i o c. entry-count (slice_get table i) k o c) 0 start methods
+    ∙ gathered-count methods table k start
     ∙ map-length (λ p. None) m.parameters
 
 -- ---- the law

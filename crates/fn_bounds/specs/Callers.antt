@@ -1,10 +1,11 @@
 -- Which methods call a method.
-use Rattle.std.specs.Prelude.{Bool, false, ℕ, ◌+◌, ◌-◌, nat_eq, List, [], ◌∷◌, ◌++◌, length, slice_get, Option, Some, None, if◌then◌else◌}
+use Rattle.std.specs.Prelude.{◌≡◌, Bool, false, ℕ, ◌<◌, ◌+◌, ◌-◌, nat_eq, List, [], ◌∷◌, ◌++◌, length, slice_get, Option, Some, None, if◌then◌else◌}
 use Rattle.std.specs.List.{list_any}
 use Rattle.std.specs.Option.{unwrap_or}
 use Rattle.fn_normal.specs.declared.profile.MethodSizes.{MethodSizes}
 use Rattle.fn_normal.specs.declared.profile.Method.{Method}
 use Rattle.fn_expr.specs.declared.interval.Interval.{Interval}
+use Rattle.fn_bounds.specs.Methods.{CallsMethod}
 use Rattle.fn_bounds.specs.Passes.{indexed}
 use Rattle.fn_bounds.specs.Parameters.{calls, with_entry}
 
@@ -50,3 +51,15 @@ noted place called rows = indexed (λ k row. if called k then ending place row e
 abbrev pub with_caller : List MethodSizes → ℕ → List (Option Interval) → ℕ → Option Method → List (Option Interval)
 with_caller table k found place None = found
 with_caller table k found place (Some m) = with_entry (slice_get table place) k found m
+
+-- a format of some method calls this one, with as many arguments as it has parameters
+pub record IsCalled (methods : List Method) (k : ℕ) (m : Method) : Type 0 where
+  pub place : ℕ
+  pub caller : Method
+  pub caller_at : slice_get methods place ≡ Some caller
+  pub calls : CallsMethod caller k
+  pub as_many : length calls.arguments ≡ length m.parameters
+
+-- a method that has a format is called so, or has no parameters
+pub record AreCalled (methods : List Method) : Type 0 where
+  pub each : (k : ℕ) (m : Method) → slice_get methods k ≡ Some m → 0 < length m.formats → (IsCalled methods k m → ⊥) → length m.parameters ≡ 0

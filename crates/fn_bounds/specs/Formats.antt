@@ -1,5 +1,5 @@
 -- The bounds of a format: of its fields, of its header and of its packed bits.
-use Rattle.std.specs.Prelude.{ℕ, ◌+◌, ◌^◌, ◌≤◌, Bool, true, false, List, map, fold, slice_get, unwrap_or, if◌then◌else◌}
+use Rattle.std.specs.Prelude.{ℕ, ◌+◌, ◌^◌, ◌<◌, Bool, true, false, List, map, fold, slice_get, unwrap_or, if◌then◌else◌}
 use Rattle.fn_normal.specs.declared.profile.Part.{Part}
 use Rattle.fn_normal.specs.declared.profile.Part.TheVariants.{Header}
 use Rattle.fn_normal.specs.declared.profile.Bounds.{Bounds}
@@ -41,11 +41,12 @@ sized_by format fields = record { fields = fields; whole = whole_sizes format fi
 abbrev pub format_sizes : List MethodSizes → Format → FormatSizes
 format_sizes table format = sized_by format (indexed (field_sizes table format) 0 format.fields)
 
--- a bound is no number of 128 bits
-pub data IsPast (b : Bounds) : Type 0 where
-  least_past : 2 ^ 128 ≤ b.least → IsPast b
-  most_past : 2 ^ 128 ≤ b.most → IsPast b
+-- both are numbers of 128 bits
+pub record AreNumbers (b : Bounds) : Type 0 where
+  pub least : b.least < 2 ^ 128
+  pub most : b.most < 2 ^ 128
 
-pub data IsOver (s : Sizes) : Type 0 where
-  header_over : IsPast s.uncompressed → IsOver s
-  packed_over : IsPast s.compressed → IsOver s
+-- the same of the header and of the packed bits
+pub record HaveNumbers (s : Sizes) : Type 0 where
+  pub header : AreNumbers s.uncompressed
+  pub packed : AreNumbers s.compressed

@@ -3,6 +3,7 @@ pub mod Fields
 pub mod Passes
 pub mod Formats
 pub mod Methods
+pub mod Weights
 pub mod Ranging
 pub mod Known
 pub mod Faults

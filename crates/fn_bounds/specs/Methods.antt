@@ -1,5 +1,5 @@
 -- The bounds of methods, as equations between the entries of one table.
-use Rattle.std.specs.Prelude.{◌≡◌, ℕ, ◌<◌, ◌^◌, min, max, nat_le, Bool, true, false, ◌&&◌, List, [], ◌∷◌, length, map, fold, slice_get, Some}
+use Rattle.std.specs.Prelude.{◌≡◌, ℕ, ◌<◌, ◌≤◌, ◌^◌, min, max, nat_le, Bool, true, false, ◌&&◌, List, [], ◌∷◌, length, map, fold, slice_get, Some}
 use Rattle.fn_expr.specs.declared.expr.Expr.{Expr}
 use Rattle.fn_normal.specs.declared.profile.Bounds.{Bounds}
 use Rattle.fn_normal.specs.declared.profile.Sizes.{Sizes}
@@ -11,11 +11,9 @@ use Rattle.fn_normal.specs.declared.profile.Format.{Format}
 use Rattle.fn_normal.specs.declared.profile.Method.{Method}
 use Rattle.fn_normal.specs.declared.fault.ProfileFault.{ProfileFault}
 use Rattle.fn_normal.specs.declared.fault.ProfileFaultKind.TheVariants.{TooLarge}
-use Rattle.fn_normal.specs.declared.fault.ResolveError.{ResolveError}
-use Rattle.fn_normal.specs.declared.fault.ResolveError.TheVariants as errors
 use Rattle.fn_normal.specs.Faults.{about}
 use Rattle.fn_bounds.specs.Fields.{bounds, sides}
-use Rattle.fn_bounds.specs.Formats.{format_sizes, IsOver}
+use Rattle.fn_bounds.specs.Formats.{format_sizes, HaveNumbers}
 
 abbrev pub hull : Bounds → Bounds → Bounds
 hull b c = bounds (min b.least c.least) (max b.most c.most)
@@ -55,31 +53,34 @@ pub record SizedBefore (methods : List Method) (order : List ℕ) (place : ℕ) 
   pub each : length table ≡ length methods
   pub sized : (i k : ℕ) (m : Method) → i < place → slice_get order i ≡ Some k → slice_get methods k ≡ Some m → (s : MethodSizes) × (slice_get table k ≡ Some s) × HasSizes table m s
 
--- at most 4,096 bits of a header, and at most 2^18 packed bits
+-- a sum over a format of the method is a number of 128 bits
+pub record SumsAreNumbers (table : List MethodSizes) (method : Method) : Type 0 where
+  pub each : (n : ℕ) (format : Format) → slice_get method.formats n ≡ Some format → HaveNumbers (format_sizes table format).whole
+
+-- at most 4,096 bits of a header
+abbrev pub is_short : Sizes → Bool
+is_short s = nat_le s.uncompressed.most 4096
+
+-- and at most 2^18 packed bits
 abbrev pub is_within : Sizes → Bool
-is_within s = nat_le s.uncompressed.most 4096 && nat_le s.compressed.most (2 ^ 18)
+is_within s = is_short s && nat_le s.compressed.most (2 ^ 18)
+
+abbrev pub IsShortAt : List Method → List MethodSizes → ℕ → Type 0
+IsShortAt methods table k = (m : Method) (s : MethodSizes) → slice_get methods k ≡ Some m → slice_get table k ≡ Some s → is_short s.whole ≡ true
 
 abbrev pub IsWithinAt : List Method → List MethodSizes → ℕ → Type 0
 IsWithinAt methods table k = (m : Method) (s : MethodSizes) → slice_get methods k ≡ Some m → slice_get table k ≡ Some s → is_within s.whole ≡ true
 
--- a sum over a format of the method is no number of 128 bits
-pub record HasOver (table : List MethodSizes) (method : Method) (f : ProfileFault) : Type 0 where
-  pub is : f ≡ about TooLarge method.place
-  pub format : Format
-  pub format_place : ℕ
-  pub format_at : slice_get method.formats format_place ≡ Some format
-  pub over : IsOver (format_sizes table format).whole
+-- each method has at most 2^18 packed bits
+abbrev pub ArePacked : List Method → List MethodSizes → Type 0
+ArePacked methods table = (k : ℕ) (m : Method) (s : MethodSizes) → slice_get methods k ≡ Some m → slice_get table k ≡ Some s → s.whole.compressed.most ≤ 2 ^ 18
 
-abbrev pub OverIn : List MethodSizes → Method → ResolveError → Type 0
-OverIn table method errors.OutOfMemory = Unit {0}
-OverIn table method (errors.Fault f) = HasOver table method f
-
--- a method's greatest length is above the limit
+-- a method's header may have more bits than that
 pub record IsWide (methods : List Method) (table : List MethodSizes) (f : ProfileFault) : Type 0 where
   pub method : Method
   pub sizes : MethodSizes
   pub place : ℕ
   pub method_at : slice_get methods place ≡ Some method
   pub sizes_at : slice_get table place ≡ Some sizes
-  pub beyond : is_within sizes.whole ≡ false
+  pub beyond : is_short sizes.whole ≡ false
   pub is : f ≡ about TooLarge method.place

@@ -7,7 +7,7 @@ use Rattle.fn_normal.specs.declared.profile.Method.{Method}
 use Rattle.fn_normal.specs.declared.fault.ProfileFault.{ProfileFault}
 use Rattle.fn_normal.specs.declared.fault.ResolveError.{ResolveError}
 use Rattle.fn_normal.specs.declared.fault.ResolveError.TheVariants as errors
-use Rattle.fn_bounds.specs.Methods.{HasSizes, SizedBefore, IsWithinAt, HasOver, IsWide}
+use Rattle.fn_bounds.specs.Methods.{HasSizes, SizedBefore, IsWithinAt, IsWide}
 use Rattle.fn_bounds.specs.declared.known.Extent.{Extent}
 use Rattle.fn_bounds.specs.declared.known.Extent.TheVariants.{Whole, Known}
 use Rattle.fn_bounds.specs.Parameters.{only_zero, beyond, parameter_ranges, RangedFrom}
@@ -29,7 +29,7 @@ pub record IsFine (x : Extent) (methods : List Method) (table : List MethodSizes
   pub accepted : (m : Method) (format : Format) (s : MethodSizes) (sizes : FormatSizes) → FormatAt methods table m format s sizes →
       format_fault x format sizes (format_ranges sizes s.parameters) ≡ None
 
--- a fault of the table: a method that is too large, or the earliest fault in the expressions of a format
+-- a fault of the table: a method whose header is too large, or the earliest fault in the expressions of a format
 pub data IsFaulty (x : Extent) (methods : List Method) (table : List MethodSizes) : ProfileFault → Type 0 where
   is_wide : {f : ProfileFault} → IsWide methods table f → IsFaulty x methods table f
   in_format : {f : ProfileFault} {m : Method} {format : Format} {s : MethodSizes} {sizes : FormatSizes} → FormatAt methods table m format s sizes →
@@ -42,17 +42,12 @@ pub record AreSizes (methods : List Method) (table : List MethodSizes) : Type 0 
   pub ranged : (k : ℕ) (m : Method) (s : MethodSizes) → slice_get methods k ≡ Some m → slice_get table k ≡ Some s → s.parameters ≡ parameter_ranges only_zero methods table k m
   pub fine : IsFine Whole methods table
 
--- why there are no bounds
-pub data Cause (methods : List Method) (order : List ℕ) : ProfileFault → Type 0 where
-  -- a sum over a format is no number of 128 bits, by the bounds of the methods before
-  sum_too_large : {table : List MethodSizes} {m : Method} {f : ProfileFault} (i k : ℕ) → SizedBefore methods order i table → slice_get order i ≡ Some k →
-      slice_get methods k ≡ Some m → HasOver table m f → Cause methods order f
-  -- a fault of the finished table, where no part that holds a parameter without a range is judged
-  table_faulty : {table : List MethodSizes} {f : ProfileFault} → SizedBefore methods order (length order) table → RangedFrom beyond methods order 0 table →
-      IsFaulty Known methods table f → Cause methods order f
-  -- there is none, but one where such a parameter is taken as 0
-  left_faulty : {table known : List MethodSizes} {f : ProfileFault} → SizedBefore methods order (length order) table → RangedFrom only_zero methods order 0 table → RangedFrom beyond methods order 0 known →
-      IsFine Known methods known → IsFaulty Whole methods table f → Cause methods order f
+-- why there are no bounds: a fault of the finished table, where no part that holds a parameter without a range is judged
+pub record Cause (methods : List Method) (order : List ℕ) (f : ProfileFault) : Type 0 where
+  pub table : List MethodSizes
+  pub sized : SizedBefore methods order (length order) table
+  pub ranged : RangedFrom beyond methods order 0 table
+  pub faulty : IsFaulty Known methods table f
 
 abbrev pub Blames : List Method → List ℕ → ResolveError → Type 0
 Blames methods order errors.OutOfMemory = Unit {0}

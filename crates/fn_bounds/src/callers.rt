@@ -58,7 +58,7 @@ fn note_format(
     ensures { IfOk result (λ u. rows.new.items ≡ spec.noted place (λ k. calls k format.now) rows.old.items) }
 {
     for field in format.fields.as_slice() {
-        note_call(rows, place, &field.encoding)?;
+        note_call(rows, place, field.encoding.get())?;
     }
     Ok(())
 }

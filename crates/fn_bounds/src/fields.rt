@@ -128,7 +128,7 @@ fn encoded_sizes(
     ensures { result ≡ spec.encoded_sizes methods.now format.now index field.now }
 {
     let listed = lists(format.listing.as_slice(), index);
-    where_listed(listed, encoding_sizes(alloc, methods, &field.encoding))
+    where_listed(listed, encoding_sizes(alloc, methods, field.encoding.get()))
 }
 
 fn enclosing(found: Option<Bounds>, number: u128) -> Bounds
@@ -227,7 +227,7 @@ pub(crate) fn fields_sizes(
 {
     let mut sizes = encoded_fields(alloc, methods, format)?;
     for constraint in format.constraints.as_slice() {
-        narrow(alloc, &mut sizes, constraint);
+        narrow(alloc, &mut sizes, constraint.get());
     }
     Ok(sizes)
 }

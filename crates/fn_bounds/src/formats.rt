@@ -1,6 +1,6 @@
 //! The bounds of a format.
 
-ghost use Rattle.std.specs.Prelude.{◌≡◌, IfOk, MatchOption, map};
+ghost use Rattle.std.specs.Prelude.{◌≡◌, IfOk, map};
 ghost use Rattle.fn_bounds.specs.Formats as spec;
 ghost use Rattle.fn_bounds.specs.Passes.{indexed};
 
@@ -9,13 +9,14 @@ use fn_normal::{Bounds, Field, Format, FormatSizes, MethodSizes, Part, Sizes};
 use sqlite_items::Items;
 use std::alloc::{AllocError, Global};
 
-fn plus(bounds: Bounds, other: Bounds) -> Option<Bounds>
-    ensures { MatchOption result (spec.IsPast (spec.plus bounds other)) (λ b. b ≡ spec.plus bounds other) }
+fn plus(bounds: Bounds, other: Bounds) -> Bounds
+    requires { spec.AreNumbers (spec.plus bounds other) }
+    ensures { result ≡ spec.plus bounds other }
 {
-    Some(Bounds {
-        least: bounds.least.checked_add(other.least)?,
-        most: bounds.most.checked_add(other.most)?,
-    })
+    Bounds {
+        least: bounds.least + other.least,
+        most: bounds.most + other.most,
+    }
 }
 
 pub(crate) fn sizes_at(fields: &[Sizes], index: usize) -> Sizes
@@ -78,53 +79,39 @@ fn packed_parts(
     Ok(parts)
 }
 
-fn total(parts: &[Bounds]) -> Option<Bounds>
-    ensures { MatchOption result (spec.IsPast (spec.total parts.now)) (λ b. b ≡ spec.total parts.now) }
+fn total(parts: &[Bounds]) -> Bounds
+    requires { spec.AreNumbers (spec.total parts.now) }
+    ensures { result ≡ spec.total parts.now }
 {
     let mut sum = NO_BITS;
     for part in parts {
-        match plus(sum, *part) {
-            Some(more) => sum = more,
-            None => return None,
-        }
+        sum = plus(sum, *part);
     }
-    Some(sum)
+    sum
 }
 
-fn whole_sizes(
-    alloc: Global,
-    format: &Format,
-    fields: &[Sizes],
-) -> Result<Option<Sizes>, AllocError>
-    ensures { IfOk result
-        (λ o. MatchOption o (spec.IsOver (spec.whole_sizes format.now fields.now)) (λ s. s ≡ spec.whole_sizes format.now fields.now)) }
+fn whole_sizes(alloc: Global, format: &Format, fields: &[Sizes]) -> Result<Sizes, AllocError>
+    requires { spec.HaveNumbers (spec.whole_sizes format.now fields.now) }
+    ensures { IfOk result (λ s. s ≡ spec.whole_sizes format.now fields.now) }
 {
     let header = header_parts(alloc, fields, format.fields.as_slice())?;
     let packed = packed_parts(alloc, fields, format.listing.as_slice())?;
-    Ok(both_totals(header.as_slice(), packed.as_slice()))
-}
-
-fn both_totals(header: &[Bounds], packed: &[Bounds]) -> Option<Sizes>
-    ensures { MatchOption result (spec.IsOver (spec.both_totals header.now packed.now)) (λ s. s ≡ spec.both_totals header.now packed.now) }
-{
-    Some(Sizes {
-        uncompressed: total(header)?,
-        compressed: total(packed)?,
+    Ok(Sizes {
+        uncompressed: total(header.as_slice()),
+        compressed: total(packed.as_slice()),
     })
 }
 
-/// The bounds of a format from those of the methods. None only where a sum is no number of 128 bits.
+/// The bounds of a format from those of the methods.
 pub(crate) fn format_sizes(
     alloc: Global,
     methods: &[MethodSizes],
     format: &Format,
-) -> Result<Option<FormatSizes>, AllocError>
-    ensures { IfOk result
-        (λ o. MatchOption o (spec.IsOver (spec.format_sizes methods.now format.now).whole) (λ s. s ≡ spec.format_sizes methods.now format.now)) }
+) -> Result<FormatSizes, AllocError>
+    requires { spec.HaveNumbers (spec.format_sizes methods.now format.now).whole }
+    ensures { IfOk result (λ s. s ≡ spec.format_sizes methods.now format.now) }
 {
     let fields = fields_sizes(alloc, methods, format)?;
-    match whole_sizes(alloc, format, fields.as_slice())? {
-        Some(whole) => Ok(Some(FormatSizes { fields, whole })),
-        None => Ok(None),
-    }
+    let whole = whole_sizes(alloc, format, fields.as_slice())?;
+    Ok(FormatSizes { fields, whole })
 }

@@ -252,7 +252,7 @@ fn fields_fault(
     for field in format.fields.as_slice() {
         found = earlier(
             found,
-            encoding_fault(extent, format, sizes, ranges, &field.encoding),
+            encoding_fault(extent, format, sizes, ranges, field.encoding.get()),
         );
     }
     found
@@ -270,7 +270,7 @@ fn constraints_fault(
     for constraint in format.constraints.as_slice() {
         found = earlier(
             found,
-            constraint_fault(extent, format, sizes, ranges, constraint),
+            constraint_fault(extent, format, sizes, ranges, constraint.get()),
         );
     }
     found

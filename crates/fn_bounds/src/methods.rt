@@ -7,6 +7,7 @@ ghost use Rattle.fn_bounds.specs.Formats as formats;
 ghost use Rattle.fn_bounds.specs.Methods as spec;
 ghost use Rattle.fn_bounds.specs.Outcome as outcome;
 ghost use Rattle.fn_bounds.specs.Parameters.{RangedFrom};
+ghost use Rattle.fn_bounds.specs.Weights.{AreLight};
 
 use crate::callers::{caller_table, callers_at};
 use crate::fields::NO_BITS;
@@ -24,9 +25,6 @@ use std::alloc::{AllocError, Global};
 
 /// The greatest length of a header.
 const HEADER_LIMIT: u128 = 4096;
-
-/// The greatest length of a method's packed bits that a bound may give.
-const PACKED_LIMIT: u128 = 0x4_0000;
 
 fn hull(bounds: Bounds, other: Bounds) -> Bounds
     ensures { result ≡ spec.hull bounds other }
@@ -66,20 +64,13 @@ fn formats_sizes(
     alloc: Global,
     table: &[MethodSizes],
     method: &Method,
-) -> Result<Items<FormatSizes>, ResolveError>
-    ensures ok { IfOk result (λ fs. fs ≡ map (formats.format_sizes table.now) method.now.formats) }
-    ensures err { IfErr result (spec.OverIn table.now method.now) }
+) -> Result<Items<FormatSizes>, AllocError>
+    requires { spec.SumsAreNumbers table.now method.now }
+    ensures { IfOk result (λ fs. fs ≡ map (formats.format_sizes table.now) method.now.formats) }
 {
     let mut sizes = Items::new(alloc);
     for format in method.formats.as_slice() {
-        let made = format_sizes(alloc, table, format)?;
-        let Some(size) = made else {
-            return Err(ResolveError::Fault(ProfileFault::about(
-                ProfileFaultKind::TooLarge,
-                method.place,
-            )));
-        };
-        sizes.push(size)?;
+        sizes.push(format_sizes(alloc, table, format)?)?;
     }
     Ok(sizes)
 }
@@ -88,9 +79,9 @@ fn method_sizes(
     alloc: Global,
     table: &[MethodSizes],
     method: &Method,
-) -> Result<MethodSizes, ResolveError>
-    ensures ok { IfOk result (spec.HasSizes table.now method.now) }
-    ensures err { IfErr result (spec.OverIn table.now method.now) }
+) -> Result<MethodSizes, AllocError>
+    requires { spec.SumsAreNumbers table.now method.now }
+    ensures { IfOk result (spec.HasSizes table.now method.now) }
 {
     let formats = formats_sizes(alloc, table, method)?;
     let whole = formats_hull(formats.as_slice());
@@ -129,10 +120,10 @@ fn filled(
     alloc: Global,
     methods: &[Method],
     order: &[usize],
-) -> Result<Vec<MethodSizes>, ResolveError>
-    requires { spec.IsOrder methods.now order.now }
-    ensures ok { IfOk result (λ t. spec.SizedBefore methods.now order.now (length order.now) t.items) }
-    ensures err { IfErr result (outcome.Blames methods.now order.now) }
+) -> Result<Vec<MethodSizes>, AllocError>
+    requires order { spec.IsOrder methods.now order.now }
+    requires light { AreLight methods.now }
+    ensures { IfOk result (λ t. spec.SizedBefore methods.now order.now (length order.now) t.items) }
 {
     let mut table = no_sizes(alloc, methods.len())?;
     for index in order {
@@ -175,18 +166,18 @@ fn with_ranges(
     Ok(table)
 }
 
-fn is_within(sizes: Sizes) -> bool
-    ensures { result ≡ spec.is_within sizes }
+fn is_short(sizes: Sizes) -> bool
+    ensures { result ≡ spec.is_short sizes }
 {
-    sizes.uncompressed.most <= HEADER_LIMIT && sizes.compressed.most <= PACKED_LIMIT
+    sizes.uncompressed.most <= HEADER_LIMIT
 }
 
 fn too_wide(methods: &[Method], table: &[MethodSizes], index: usize) -> Option<ProfileFault>
-    ensures { Judged (spec.IsWithinAt methods.now table.now index) (spec.IsWide methods.now table.now) result }
+    ensures { Judged (spec.IsShortAt methods.now table.now index) (spec.IsWide methods.now table.now) result }
 {
     let method = at(methods, index)?;
     let sizes = at(table, index)?;
-    if is_within(sizes.whole) {
+    if is_short(sizes.whole) {
         None
     } else {
         Some(ProfileFault::about(ProfileFaultKind::TooLarge, method.place))
@@ -194,7 +185,7 @@ fn too_wide(methods: &[Method], table: &[MethodSizes], index: usize) -> Option<P
 }
 
 fn widest(methods: &[Method], table: &[MethodSizes]) -> Option<ProfileFault>
-    ensures { Judged ((k : ℕ) → k < length methods.now → spec.IsWithinAt methods.now table.now k) (spec.IsWide methods.now table.now) result }
+    ensures { Judged ((k : ℕ) → k < length methods.now → spec.IsShortAt methods.now table.now k) (spec.IsWide methods.now table.now) result }
 {
     let mut found = None;
     for index in 0..methods.len() {
@@ -209,6 +200,7 @@ fn earliest(
     methods: &[Method],
     table: &[MethodSizes],
 ) -> Result<Option<ProfileFault>, AllocError>
+    requires { spec.ArePacked methods.now table.now }
     ensures { IfOk result (Judged (outcome.IsFine extent methods.now table.now) (outcome.IsFaulty extent methods.now table.now)) }
 {
     let fault = methods_fault(alloc, extent, methods, table)?;
@@ -216,14 +208,19 @@ fn earliest(
 }
 
 /// The bounds of the methods and the ranges of their parameters. Each method comes after those that it calls in the order.
-/// A fault is `TooLarge` of a method whose header may have more than 4,096 bits or whose packed bits may be more than `2^18`,
-/// or that of an expression: `WideValue`, `AboveLimit` or `Power`. A part that holds a parameter whose arguments have no range is not judged.
+/// A fault is `TooLarge` of a method whose header may have more than 4,096 bits, or that of an expression: `WideValue`, `AboveLimit` or `Power`.
+/// A part that holds a parameter whose arguments have no range is not judged.
+///
+/// It asks that a method's formats have at most 4,096 fields, those of the methods that encode them among them, and that each method with a format is
+/// called with as many arguments as it has parameters, or has none.
 pub fn sizes(
     alloc: Global,
     methods: &[Method],
     order: &[usize],
 ) -> Result<Items<MethodSizes>, ResolveError>
-    requires { spec.IsOrder methods.now order.now }
+    requires order { spec.IsOrder methods.now order.now }
+    requires light { AreLight methods.now }
+    requires called { calling.AreCalled methods.now }
     ensures ok { IfOk result (outcome.AreSizes methods.now) }
     ensures err { IfErr result (outcome.Blames methods.now order.now) }
 {
@@ -231,10 +228,13 @@ pub fn sizes(
     let callers = caller_table(alloc, methods)?;
     let rows = callers.as_slice();
     let table = with_ranges(alloc, methods, order, rows, sized, ONLY_ZERO)?;
-    let Some(fault) = earliest(alloc, Extent::Whole, methods, table.as_slice())? else {
+    let Some(_) = earliest(alloc, Extent::Whole, methods, table.as_slice())? else {
         return Ok(Items::from_vec(table));
     };
+    // So a part has a fault that holds no such parameter, and that one is answered.
     let known = with_ranges(alloc, methods, order, rows, table, BEYOND)?;
-    let found = earliest(alloc, Extent::Known, methods, known.as_slice())?;
-    Err(ResolveError::Fault(found.unwrap_or(fault)))
+    match earliest(alloc, Extent::Known, methods, known.as_slice())? {
+        Some(fault) => Err(ResolveError::Fault(fault)),
+        None => unreachable!(),
+    }
 }

@@ -103,7 +103,7 @@ fn calls(method: usize, format: &Format) -> bool
         .fields
         .as_slice()
         .iter()
-        .any(|field| is_call(method, &field.encoding))
+        .any(|field| is_call(method, field.encoding.get()))
 }
 
 fn with_fields(
@@ -117,7 +117,7 @@ fn with_fields(
 {
     let mut all = found;
     for field in format.fields.as_slice() {
-        all = with_call(alloc, ranges, method, all, &field.encoding)?;
+        all = with_call(alloc, ranges, method, all, field.encoding.get())?;
     }
     Ok(all)
 }

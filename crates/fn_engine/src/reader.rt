@@ -2,13 +2,15 @@
 
 ghost use Rattle.std.specs.Prelude.{◌≡◌, Some, IfOk, IfErr, OnErr};
 ghost use Rattle.fn_filling.specs.declared.filling.Filling.{out-Filling};
+ghost use Rattle.fn_filling.specs.Fillings as sides;
 ghost use Rattle.fn_engine.specs.Reading as spec;
 
-use crate::top::{CALL_DEPTH, fits, item_of, packed_of, top_place};
+use crate::top::{CALL_DEPTH, fits, item_of, keeps_few, top_place};
 use fn_bits::{Bits, Cursor};
 use fn_checker::Accepted;
 use fn_context::Context;
 use fn_filling::{Filling, Item};
+use fn_holds::WholeSides;
 use fn_reader::{Blamed, ReadFault, read_method};
 use std::alloc::{AllocError, Global};
 
@@ -54,8 +56,13 @@ pub fn unpack(
     ensures fault { IfErr result (λ e. spec.Blames e accepted.now context.now cursor.old.left) }
     ensures stays { OnErr result (cursor.new ≡ cursor.old) }
 {
-    let filling = read_top(alloc, accepted, context, cursor)?;
-    let packed = packed_of(alloc, accepted, context, &filling)?;
+    let found = read_top(alloc, accepted, context, cursor)?;
+    keeps_few(accepted, context, &found.filling);
+    let Alone {
+        filling,
+        header,
+        packed,
+    } = found;
     if packed.len() > cursor.rest() {
         return Err(UnpackFault::Truncated);
     }
@@ -63,7 +70,7 @@ pub fn unpack(
     if !ahead.skip(&packed) {
         return Err(UnpackFault::Refused(whole_of(accepted, &filling)));
     }
-    let item = item_of(alloc, accepted, context, &filling)?;
+    let item = item_of(alloc, &filling, header)?;
     let entries = filling.entries(alloc)?;
     *cursor = ahead;
     Ok(Read {
@@ -74,26 +81,73 @@ pub fn unpack(
     })
 }
 
-/// The filling of the top that fits and is the only one ahead.
+/// A filling that fits the top, with its two sides.
+#[derive(Drop)]
+struct Alone {
+    filling: Filling,
+    header: Bits,
+    packed: Bits,
+}
+
+fn with_sides(filling: Filling, whole: WholeSides) -> Alone
+    ensures filling { result.filling ≡ filling }
+    ensures header { result.header ≡ whole.header }
+    ensures packed { result.packed ≡ whole.packed }
+{
+    let WholeSides { header, packed } = whole;
+    Alone {
+        filling,
+        header,
+        packed,
+    }
+}
+
+/// The filling of the top that fits and is the only one ahead, with its two sides. It is judged as a whole; only where there is none, the walk is made again with
+/// each called filling judged at its end, to find the method to blame.
 fn read_top(
     alloc: Global,
     accepted: &Accepted,
     context: &Context,
     cursor: &Cursor<'_>,
-) -> Result<Filling, UnpackFault>
-    ensures found { IfOk result (spec.IsAlone accepted.now context.now cursor.now.left) }
+) -> Result<Alone, UnpackFault>
+    ensures found { IfOk result (λ found. spec.IsAlone accepted.now context.now cursor.now.left found.filling) }
+    ensures sides { IfOk result (λ found. (found.header ≡ sides.header found.filling) × (found.packed ≡ sides.packed found.filling)) }
+    ensures fault { IfErr result (λ e. spec.Blames e accepted.now context.now cursor.now.left) }
+{
+    if accepted.profile().methods().len() == 1 {
+        // Nothing is called: one walk judges all.
+        return read_judged(alloc, accepted, context, cursor);
+    }
+    let place = top_place(accepted, context);
+    let filling = match read_method(CALL_DEPTH, alloc, &place, cursor, 0, false) {
+        Ok(filling) => filling,
+        Err(ReadFault::OutOfMemory) => return Err(UnpackFault::OutOfMemory),
+        Err(_) => return read_judged(alloc, accepted, context, cursor),
+    };
+    let judged = fits(alloc, accepted, context, &filling)?;
+    match judged {
+        Some(whole) => Ok(with_sides(filling, whole)),
+        None => read_judged(alloc, accepted, context, cursor),
+    }
+}
+
+/// The same, where each called filling is judged at its end.
+fn read_judged(
+    alloc: Global,
+    accepted: &Accepted,
+    context: &Context,
+    cursor: &Cursor<'_>,
+) -> Result<Alone, UnpackFault>
+    ensures found { IfOk result (λ found. spec.IsAlone accepted.now context.now cursor.now.left found.filling) }
+    ensures sides { IfOk result (λ found. (found.header ≡ sides.header found.filling) × (found.packed ≡ sides.packed found.filling)) }
     ensures fault { IfErr result (λ e. spec.Blames e accepted.now context.now cursor.now.left) }
 {
     let place = top_place(accepted, context);
-    match read_method(CALL_DEPTH, alloc, &place, cursor, 0) {
-        Ok(filling) => {
-            let is_right = fits(alloc, accepted, context, &filling)?;
-            if is_right {
-                Ok(filling)
-            } else {
-                Err(UnpackFault::Refused(whole_of(accepted, &filling)))
-            }
-        }
+    match read_method(CALL_DEPTH, alloc, &place, cursor, 0, true) {
+        Ok(filling) => match fits(alloc, accepted, context, &filling)? {
+            Some(whole) => Ok(with_sides(filling, whole)),
+            None => Err(UnpackFault::Refused(whole_of(accepted, &filling))),
+        },
         Err(ReadFault::Short) => Err(UnpackFault::Truncated),
         Err(ReadFault::Refused(at)) => Err(UnpackFault::Refused(at)),
         Err(ReadFault::OutOfMemory) => Err(UnpackFault::OutOfMemory),

@@ -7,10 +7,11 @@ ghost use Rattle.fn_best.specs.Best.{Best};
 ghost use Rattle.fn_engine.specs.Searching as spec;
 
 use crate::top::{CALL_DEPTH, fits, top_place};
-use fn_bits::{BitsError, Cursor};
+use fn_bits::Cursor;
 use fn_checker::Accepted;
 use fn_context::Context;
 use fn_filling::{AskedValue, Filling, Item};
+use fn_holds::is_header;
 use fn_writer::{WriteFault, write_method};
 use std::alloc::{AllocError, Global};
 
@@ -81,7 +82,7 @@ fn judged(
     requires { length item.now.header ≤ 4096 }
     ensures { IfOk result (λ t. spec.Tells accepted.now context.now item.now filling t) }
 {
-    if has_item(alloc, item, &filling)? && fits(alloc, accepted, context, &filling)? {
+    if has_item(alloc, item, &filling)? && fits(alloc, accepted, context, &filling)?.is_some() {
         Ok(Tried::Found(filling))
     } else {
         Ok(Tried::Passed(1))
@@ -93,17 +94,11 @@ fn has_item(alloc: Global, item: &Item, filling: &Filling) -> Result<bool, Alloc
     requires { length item.now.header ≤ 4096 }
     ensures { IfOk result (λ b. IsTrue b ↔ (sides.item filling.now ≡ item.now)) }
 {
-    match filling.item(alloc) {
-        Ok(own) => Ok(are_same(&own, item)),
-        Err(BitsError::Full) => Ok(false),
-        Err(BitsError::OutOfMemory) => Err(AllocError),
+    if !is_header(&item.header, filling) {
+        return Ok(false);
     }
-}
-
-fn are_same(one: &Item, other: &Item) -> bool
-    ensures { IsTrue result ↔ (one.now ≡ other.now) }
-{
-    one.header == other.header && have_same(one.asked.as_slice(), other.asked.as_slice())
+    let own = filling.asked_values(alloc)?;
+    Ok(have_same(own.as_slice(), item.asked.as_slice()))
 }
 
 /// Whether the two lists have the same names with the same bits, in one order.

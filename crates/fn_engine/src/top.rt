@@ -1,6 +1,6 @@
 //! The top of an accepted profile, and what fits it.
 
-ghost use Rattle.std.specs.Prelude.{◌≡◌, ◌≤◌, ◌^◌, ◌↔◌, IsTrue, IfOk, length};
+ghost use Rattle.std.specs.Prelude.{◌≡◌, ◌≤◌, ◌^◌, IfOk, IfSome, IfNone, length};
 ghost use Rattle.fn_filling.specs.Fillings as sides;
 ghost use Rattle.fn_walk.specs.Standing.{Stands, HasDepth};
 ghost use Rattle.fn_engine.specs.Reading.{Fitting};
@@ -10,7 +10,7 @@ use fn_bits::{Bits, BitsError};
 use fn_checker::Accepted;
 use fn_context::Context;
 use fn_filling::{Filling, Item};
-use fn_holds::holds;
+use fn_holds::{WholeSides, sides_if_fits};
 use fn_walk::Place;
 use std::alloc::{AllocError, Global};
 
@@ -34,18 +34,20 @@ pub(crate) fn top_place<'a>(accepted: &'a Accepted, context: &'a Context) -> Pla
     }
 }
 
-/// Whether the filling fits the top.
+/// The two sides of the filling, where it fits the top.
 pub(crate) fn fits(
     alloc: Global,
     accepted: &Accepted,
     context: &Context,
     filling: &Filling,
-) -> Result<bool, AllocError>
-    ensures { IfOk result (λ b. IsTrue b ↔ Fitting accepted.now context.now filling.now) }
+) -> Result<Option<WholeSides>, AllocError>
+    ensures fits { IfOk result (λ o. IfSome o (λ _. Fitting accepted.now context.now filling.now)) }
+    ensures sides { IfOk result (λ o. IfSome o (λ whole. (whole.header ≡ sides.header filling.now) × (whole.packed ≡ sides.packed filling.now))) }
+    ensures none { IfOk result (λ o. IfNone o (Fitting accepted.now context.now filling.now → ⊥)) }
 {
     let profile = accepted.profile();
     profile.keeps();
-    holds(
+    sides_if_fits(
         alloc,
         profile,
         context,
@@ -54,6 +56,15 @@ pub(crate) fn fits(
         "",
         filling,
     )
+}
+
+/// A law of fitting fillings: their packed bits are few.
+pub(crate) fn keeps_few(accepted: &Accepted, context: &Context, filling: &Filling)
+    requires { Fitting accepted.now context.now filling.now }
+    ensures { length (sides.packed filling.now) ≤ 2 ^ 18 }
+{
+    let profile = accepted.profile();
+    profile.keeps();
 }
 
 /// The packed bits of a fitting filling, which are below the limit of `Bits`.
@@ -76,21 +87,11 @@ pub(crate) fn packed_of(
     }
 }
 
-/// The item of a fitting filling, whose header is below the limit of `Bits`.
-pub(crate) fn item_of(
-    alloc: Global,
-    accepted: &Accepted,
-    context: &Context,
-    filling: &Filling,
-) -> Result<Item, AllocError>
-    requires { Fitting accepted.now context.now filling.now }
+/// The item of a filling that has this header.
+pub(crate) fn item_of(alloc: Global, filling: &Filling, header: Bits) -> Result<Item, AllocError>
+    requires { header ≡ sides.header filling.now }
     ensures { IfOk result (λ i. i ≡ sides.item filling.now) }
 {
-    let profile = accepted.profile();
-    profile.keeps();
-    match filling.item(alloc) {
-        Ok(item) => Ok(item),
-        Err(BitsError::Full) => unreachable!(),
-        Err(BitsError::OutOfMemory) => Err(AllocError),
-    }
+    let asked = filling.asked_values(alloc)?;
+    Ok(Item { header, asked })
 }

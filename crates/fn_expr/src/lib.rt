@@ -7,7 +7,7 @@ pub use inputs::{Input, condition_inputs, expr_inputs};
 pub use interval::Interval;
 pub use known::{Known, Numbers, SideNumbers};
 pub use ranges::{Intervals, Ranges, SideIntervals, condition_fault, range};
-pub use values::{decide, value};
+pub use values::{calculate, decide, value};
 
 pub mod expr;
 pub mod fault;

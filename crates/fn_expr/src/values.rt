@@ -70,7 +70,7 @@ fn compares(comparison: Comparison, left: i128, right: i128) -> bool
     }
 }
 
-fn calculate(operator: Operator, left: i128, right: i128) -> Option<i128>
+pub fn calculate(operator: Operator, left: i128, right: i128) -> Option<i128>
     requires { IsCalculable operator left right }
     ensures { result ≡ apply operator left right }
 {

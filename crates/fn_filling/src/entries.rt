@@ -18,7 +18,7 @@ impl Filling {
     pub fn entries(&self, alloc: Global) -> Result<Vec<(String, Bits)>, AllocError>
         ensures { IfOk result (λ v. map (λ e. (string_bytes e.0, e.1)) v.items ≡ entries self.now) }
     {
-        let mut found = Vec::new(alloc);
+        let mut found = Vec::with_capacity(alloc, self.fields.len())?;
         add_entries(alloc, &mut found, self, "")?;
         Ok(found)
     }
@@ -28,10 +28,12 @@ impl Filling {
 pub fn below(alloc: Global, path: &str, name: &str) -> Result<String, AllocError>
     ensures { IfOk result (λ p. string_bytes p ≡ below path.now name.now) }
 {
-    let mut here = String::from_str(alloc, path)?;
-    if !path.is_empty() {
-        here.push('.')?;
+    if path.is_empty() {
+        return String::from_str(alloc, name);
     }
+    let mut here = String::with_capacity(alloc, path.len() + 1 + name.len())?;
+    here.push_str(path)?;
+    here.push('.')?;
     here.push_str(name)?;
     Ok(here)
 }
@@ -48,9 +50,11 @@ fn add_entries(
     for field in filling.fields.as_slice() {
         let here = below(alloc, path, field.declared.name.as_str())?;
         let part = field.declared.part;
-        add_own(alloc, found, part, here.as_str(), &field.uncompressed)?;
         if let Some(inner) = &field.inner {
+            add_own(alloc, found, part, here.as_str(), &field.uncompressed)?;
             add_entries(alloc, found, inner, here.as_str())?;
+        } else {
+            add_last(alloc, found, part, here, &field.uncompressed)?;
         }
     }
     Ok(())
@@ -66,9 +70,23 @@ fn add_own(
 ) -> Result<(), AllocError>
     ensures { OnOk result (map (λ e. (string_bytes e.0, e.1)) found.new.items ≡ map (λ e. (string_bytes e.0, e.1)) found.old.items ++ own_entry part path.now bits.now) }
 {
+    let path = String::from_str(alloc, path)?;
+    add_last(alloc, found, part, path, bits)
+}
+
+/// Adds it likewise, and takes the path.
+fn add_last(
+    alloc: Global,
+    found: &mut Vec<(String, Bits)>,
+    part: Part,
+    path: String,
+    bits: &Bits,
+) -> Result<(), AllocError>
+    ensures { OnOk result (map (λ e. (string_bytes e.0, e.1)) found.new.items ≡ map (λ e. (string_bytes e.0, e.1)) found.old.items ++ own_entry part (string_bytes path) bits.now) }
+{
     match part {
         Part::Header | Part::Control => {
-            found.push((String::from_str(alloc, path)?, bits.copy(alloc)?))?;
+            found.push((path, bits.copy(alloc)?))?;
             Ok(())
         }
         Part::Local => Ok(()),

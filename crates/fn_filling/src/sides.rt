@@ -55,7 +55,7 @@ impl Filling {
     }
 
     /// The names of the asked fields with their uncompressed sides, in field order.
-    fn asked_values(&self, alloc: Global) -> Result<Items<AskedValue>, AllocError>
+    pub fn asked_values(&self, alloc: Global) -> Result<Items<AskedValue>, AllocError>
         ensures { IfOk result (λ values. values ≡ asked_values (level self.now)) }
     {
         let mut values = Items::new(alloc);

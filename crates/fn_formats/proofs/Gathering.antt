@@ -13,7 +13,7 @@ use Rattle.fn_normal.proofs.Judgements.{neither}
 use Rattle.fn_sections.specs.Causes.{earliest}
 use Rattle.fn_terms.specs.Judged.{Refuses}
 
-all_more : {A B : Type 0} (R : A → B → Type 0) (xs : List A) (ys : List B) (x : A) (y : B) → AllZip R xs ys → R x y → AllZip R (xs ++ x ∷ []) (ys ++ y ∷ [])
+pub all_more : {A B : Type 0} (R : A → B → Type 0) (xs : List A) (ys : List B) (x : A) (y : B) → AllZip R xs ys → R x y → AllZip R (xs ++ x ∷ []) (ys ++ y ∷ [])
 all_more R [] [] x y all r = (r, tt)
 all_more R [] (z ∷ ys) x y all r = absurd all
 all_more R (z ∷ xs) [] x y all r = absurd all

@@ -1,3 +1,5 @@
 pub mod Gathering
 pub mod Numbering
 pub mod Wording
+pub mod Staying
+pub mod Keeping

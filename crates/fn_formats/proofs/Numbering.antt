@@ -4,6 +4,7 @@ use Rattle.std.specs.Prelude.{slice_get, Some, None, Option}
 use Rattle.std.specs.Option.{option_or}
 use Rattle.fn_tree.specs.declared.tree.Item.{Item}
 use Rattle.fn_expr.specs.declared.expr.Side.{Side}
+use Rattle.fn_expr.specs.declared.expr.Side.TheVariants.{Uncompressed}
 use Rattle.fn_normal.specs.declared.fault.ProfileFault.{ProfileFault}
 use Rattle.fn_normal.specs.declared.profile.Constraint.{Constraint}
 use Rattle.fn_normal.specs.Judging.{earlier}
@@ -12,13 +13,14 @@ use Rattle.fn_terms.specs.Names.{Names}
 use Rattle.fn_statements.specs.Constraints.{ItemMeans, item_fault, items_fault, AreConstraints}
 use Rattle.fn_statements.specs.Constraints as parts
 use Rattle.fn_formats.specs.Constraints.{Statement, on, AreNumbered, none, more, statement_fault, Leads}
+use Rattle.fn_formats.specs.Kept.{Says}
 use Rattle.fn_formats.proofs.Gathering.{kept}
 
-or_none : (o : Option ProfileFault) → option_or o None ≡ o
+pub or_none : (o : Option ProfileFault) → option_or o None ≡ o
 or_none None = refl
 or_none (Some f) = refl
 
-single : {s : Names} {side : Side} (item : Item) (cs : List Constraint) → AreConstraints s side (item ∷ []) cs → ItemMeans s side item cs
+pub single : {s : Names} {side : Side} (item : Item) (cs : List Constraint) → AreConstraints s side (item ∷ []) cs → ItemMeans s side item cs
 single {s} {side} item _ (parts.more {cs = cs} means parts.none) = subst (ItemMeans s side item) (sym (append-nil cs)) means
 
 -- a statement without a fault
@@ -28,6 +30,12 @@ with_found {s} {side} {rest} {whole} {found} {fault} item cs new are fine is so 
   faults = ap (λ o. fold (λ f x. earlier f (statement_fault s x)) o rest) (sym (kept fault) ∙ ap (earlier fault) (sym fine ∙ or_none (item_fault s item))) ∙ so.faults;
   finds = λ e ds rests. subst (AreNumbered s whole) (sym (append_assoc found cs ds)) (so.finds e (cs ++ ds) (more (single item cs are) rests));
 })
+
+-- a statement whose constraints are kept
+pub with_kept : {s : Names} {rest whole : List Statement} {found : List Constraint} {fault : Option ProfileFault} (item : Item) (cs new : List Constraint)
+    → Says s item cs → new ≡ found ++ cs → Leads s (on Uncompressed item ∷ rest) whole found fault → Leads s rest whole new fault
+with_kept {s} item cs new says is so =
+    with_found item cs new (subst (AreConstraints s Uncompressed (item ∷ [])) (append-nil cs) (parts.more says.means parts.none)) (or_none (item_fault s item) ∙ says.fine) is so
 
 -- a statement with one
 pub with_fault : {s : Names} {side : Side} {rest whole : List Statement} {found : List Constraint} {fault : Option ProfileFault} (item : Item) (g : ProfileFault) (next : Option ProfileFault)

@@ -4,3 +4,4 @@ pub mod Encodings
 pub mod Fields
 pub mod Formats
 pub mod Worded
+pub mod Kept

@@ -3,9 +3,11 @@
 ghost use Rattle.std.specs.Prelude.{◌≡◌, ◌++◌, ◌∷◌, map, None, List, IfOk, OnOk};
 ghost use Rattle.fn_sections.specs.Causes.{earliest};
 ghost use Rattle.fn_formats.specs.Constraints as spec;
+ghost use Rattle.fn_formats.specs.Kept.{AreItemsSaid, AreSaid, IsSaid};
 
+use crate::kept::Kept;
 use fn_expr::Side;
-use fn_normal::{Constraint, ProfileFault, earlier, fault_of};
+use fn_normal::{Constraint, ProfileFault, Shared, earlier, fault_of};
 use fn_sections::mention::is_in;
 use fn_sections::{Group, Mention};
 use fn_statements::section_constraints;
@@ -18,19 +20,21 @@ use std::slice::from_ref;
 /// The constraints of a format by their numbers, and the earliest fault in its statements. With a fault some are missing.
 #[derive(Drop)]
 pub struct Constraints {
-    pub found: Items<Constraint>,
+    pub found: Items<Shared<Constraint>>,
     pub fault: Option<ProfileFault>,
 }
 
 /// The constraints of a format's statements: those of UNCOMPRESSED, of CONTROL, of DEFAULT as far as they encode its fields, and its own.
-/// For each field the statement that encodes it is chosen.
+/// For each field the statement that encodes it is chosen. What is kept of a statement is shared.
 pub(crate) fn format_constraints(
     alloc: Global,
     scope: &Scope<'_, '_>,
     sections: &[Section],
+    kept: &Kept,
     chosen: &[Option<Mention>],
     own: &[Item],
 ) -> Result<Constraints, AllocError>
+    requires { AreSaid scope.now kept.now sections.now }
     ensures fault { IfOk result (λ c. c.fault ≡ earliest (spec.statement_fault scope.now) (spec.statements scope.now chosen.now sections.now own.now)) }
     ensures found { IfOk result (λ c. c.fault ≡ None → spec.AreNumbered scope.now (spec.statements scope.now chosen.now sections.now own.now) c.found) }
 {
@@ -38,22 +42,8 @@ pub(crate) fn format_constraints(
         found: Items::new(alloc),
         fault: None,
     };
-    add_group(
-        alloc,
-        scope,
-        Side::Uncompressed,
-        Group::Header,
-        sections,
-        &mut all,
-    )?;
-    add_group(
-        alloc,
-        scope,
-        Side::Uncompressed,
-        Group::Control,
-        sections,
-        &mut all,
-    )?;
+    add_group(alloc, scope, kept, Group::Header, sections, &mut all)?;
+    add_group(alloc, scope, kept, Group::Control, sections, &mut all)?;
     add_defaults(alloc, scope, chosen, sections, &mut all)?;
     add_items(alloc, scope, Side::Compressed, own, &mut all)?;
     Ok(all)
@@ -90,20 +80,71 @@ fn add_items(
     Ok(())
 }
 
+/// The statements of a group of UNCOMPRESSED and CONTROL.
 fn add_group(
     alloc: Global,
     scope: &Scope<'_, '_>,
-    side: Side,
+    kept: &Kept,
     group: Group,
     sections: &[Section],
     all: &mut Constraints,
 ) -> Result<(), AllocError>
-    ensures { OnOk result ((rest whole : List spec.Statement) → spec.Leads scope.now (spec.of_group side group sections.now ++ rest) whole all.old.found all.old.fault → spec.Leads scope.now rest whole all.new.found all.new.fault) }
+    requires { AreSaid scope.now kept.now sections.now }
+    ensures { OnOk result ((rest whole : List spec.Statement) → spec.Leads scope.now (spec.of_group Side.Uncompressed group sections.now ++ rest) whole all.old.found all.old.fault → spec.Leads scope.now rest whole all.new.found all.new.fault) }
 {
-    for section in sections {
+    for (number, section) in sections.iter().enumerate() {
         if is_in(group, section.kind) {
-            add_items(alloc, scope, side, section.items.as_slice(), all)?;
+            add_base(alloc, scope, kept, number, section.items.as_slice(), all)?;
         }
+    }
+    Ok(())
+}
+
+/// The statements of the section of this number, of UNCOMPRESSED or CONTROL.
+fn add_base(
+    alloc: Global,
+    scope: &Scope<'_, '_>,
+    kept: &Kept,
+    section: usize,
+    items: &[Item],
+    all: &mut Constraints,
+) -> Result<(), AllocError>
+    requires { AreItemsSaid scope.now kept.now section items.now }
+    ensures { OnOk result ((rest whole : List spec.Statement) → spec.Leads scope.now (map (spec.on Side.Uncompressed) items.now ++ rest) whole all.old.found all.old.fault → spec.Leads scope.now rest whole all.new.found all.new.fault) }
+{
+    for (place, item) in items.iter().enumerate() {
+        add_kept(alloc, scope, kept, section, place, item, all)?;
+    }
+    Ok(())
+}
+
+fn add_kept(
+    alloc: Global,
+    scope: &Scope<'_, '_>,
+    kept: &Kept,
+    section: usize,
+    place: usize,
+    item: &Item,
+    all: &mut Constraints,
+) -> Result<(), AllocError>
+    requires { IsSaid scope.now kept.now section place item.now }
+    ensures { OnOk result ((rest whole : List spec.Statement) → spec.Leads scope.now (spec.on Side.Uncompressed item.now ∷ rest) whole all.old.found all.old.fault → spec.Leads scope.now rest whole all.new.found all.new.fault) }
+{
+    match kept.constraints(section, place) {
+        Some(constraints) => add_shared(constraints.as_slice(), &mut all.found)?,
+        None => add_statement(alloc, scope, Side::Uncompressed, item, all)?,
+    }
+    Ok(())
+}
+
+fn add_shared(
+    constraints: &[Shared<Constraint>],
+    found: &mut Items<Shared<Constraint>>,
+) -> Result<(), AllocError>
+    ensures { OnOk result (found.new ≡ found.old ++ constraints.now) }
+{
+    for constraint in constraints {
+        found.push(constraint.share()?)?;
     }
     Ok(())
 }

@@ -3,11 +3,13 @@
 ghost use Rattle.std.specs.Prelude.{◌≡◌, IfOk};
 ghost use Rattle.fn_sections.specs.Tables.{IsTable};
 ghost use Rattle.fn_formats.specs.Drafts as spec;
+ghost use Rattle.fn_formats.specs.Kept.{HasKept};
 
 use crate::constraints::format_constraints;
 use crate::encodings::format_encodings;
+use crate::kept::Kept;
 use fn_bits::Bits;
-use fn_normal::{Constraint, Encoding, ProfileFault, Words, earlier};
+use fn_normal::{Constraint, Encoding, ProfileFault, Shared, Words, earlier};
 use fn_sections::{Mention, Table, encoded, encodings, in_order, listing, of_section};
 use fn_statements::Methods;
 use fn_terms::Scope;
@@ -40,8 +42,8 @@ pub struct Setting<'a, 't> {
 pub struct Draft<'t> {
     pub fields: Table<'t>,
     pub listing: Items<usize>,
-    pub encodings: Items<Encoding>,
-    pub constraints: Items<Constraint>,
+    pub encodings: Items<Shared<Encoding>>,
+    pub constraints: Items<Shared<Constraint>>,
     pub fault: Option<ProfileFault>,
 }
 
@@ -49,9 +51,11 @@ pub struct Draft<'t> {
 pub(crate) fn draft_format<'t>(
     alloc: Global,
     setting: &Setting<'_, 't>,
+    kept: &Kept,
     number: usize,
     section: &Section,
 ) -> Result<Draft<'t>, AllocError>
+    requires { HasKept setting.now kept.now }
     ensures fields { IfOk result (λ d. d.fields.firsts ≡ spec.fields setting.now number section.now) }
     ensures draft { IsTable setting.now.text.now (spec.base setting.now) setting.now.base.now → IsTable setting.now.text.now (spec.default setting.now) setting.now.default.now → IfOk result (spec.IsDraft setting.now number section.now) }
 {
@@ -72,6 +76,7 @@ pub(crate) fn draft_format<'t>(
         &scope,
         setting.methods,
         setting.sections,
+        kept,
         chosen.as_slice(),
         section.items.as_slice(),
     )?;
@@ -79,6 +84,7 @@ pub(crate) fn draft_format<'t>(
         alloc,
         &scope,
         setting.sections,
+        kept,
         chosen.as_slice(),
         section.items.as_slice(),
     )?;

@@ -7,8 +7,10 @@ ghost use Rattle.fn_terms.specs.Judged.{Refuses};
 ghost use Rattle.fn_statements.specs.Encodings.{fault_of as first_fault};
 ghost use Rattle.fn_sections.specs.Causes.{earliest};
 ghost use Rattle.fn_formats.specs.Encodings as spec;
+ghost use Rattle.fn_formats.specs.Kept.{AreGiven};
 
-use fn_normal::{Encoding, ProfileFault, ResolveError, earlier, fault_of};
+use crate::kept::Kept;
+use fn_normal::{Encoding, ProfileFault, ResolveError, Shared, earlier, fault_of};
 use fn_sections::{Mention, encoding_at};
 use fn_statements::{Methods, encoding};
 use fn_terms::Scope;
@@ -19,7 +21,7 @@ use std::alloc::{AllocError, Global};
 /// The encodings of a format's fields, in field order, and the earliest fault of encodings. With a fault some are missing.
 #[derive(Drop)]
 pub struct Encodings {
-    pub found: Items<Encoding>,
+    pub found: Items<Shared<Encoding>>,
     pub fault: Option<ProfileFault>,
 }
 
@@ -31,13 +33,15 @@ pub(crate) fn format_encodings(
     scope: &Scope<'_, '_>,
     methods: &Methods<'_>,
     sections: &[Section],
+    kept: &Kept,
     chosen: &[Option<Mention>],
     items: &[Item],
 ) -> Result<Encodings, AllocError>
+    requires { AreGiven scope.now methods.now kept.now sections.now }
     ensures fault { IfOk result (λ e. e.fault ≡ spec.format_fault scope.now methods.now sections.now chosen.now items.now) }
     ensures found { IfOk result (λ e. e.fault ≡ None → AllZip (spec.FieldMeans scope.now methods.now sections.now) chosen.now e.found) }
 {
-    let encodings = field_encodings(alloc, scope, methods, sections, chosen)?;
+    let encodings = field_encodings(alloc, scope, methods, sections, kept, chosen)?;
     let own_fault = own_fault(alloc, scope, methods, items)?;
     Ok(Encodings {
         found: encodings.found,
@@ -51,15 +55,17 @@ fn field_encodings(
     scope: &Scope<'_, '_>,
     methods: &Methods<'_>,
     sections: &[Section],
+    kept: &Kept,
     chosen: &[Option<Mention>],
 ) -> Result<Encodings, AllocError>
+    requires { AreGiven scope.now methods.now kept.now sections.now }
     ensures fault { IfOk result (λ e. e.fault ≡ earliest (spec.field_fault scope.now methods.now sections.now) chosen.now) }
     ensures found { IfOk result (λ e. e.fault ≡ None → AllZip (spec.FieldMeans scope.now methods.now sections.now) chosen.now e.found) }
 {
     let mut found = Items::new(alloc);
     let mut fault = None;
     for choice in chosen {
-        match field_encoding(alloc, scope, methods, sections, choice) {
+        match field_encoding(alloc, scope, methods, sections, kept, choice) {
             Ok(encoding) => found.push(encoding)?,
             Err(error) => fault = earlier(fault, Some(fault_of(error)?)),
         }
@@ -67,7 +73,30 @@ fn field_encodings(
     Ok(Encodings { found, fault })
 }
 
+/// The encoding of a field: what is kept of the chosen statement, or else what it means.
 fn field_encoding(
+    alloc: Global,
+    scope: &Scope<'_, '_>,
+    methods: &Methods<'_>,
+    sections: &[Section],
+    kept: &Kept,
+    choice: &Option<Mention>,
+) -> Result<Shared<Encoding>, ResolveError>
+    requires { AreGiven scope.now methods.now kept.now sections.now }
+    ensures means { IfOk result (spec.FieldMeans scope.now methods.now sections.now choice.now) }
+    ensures right { IfOk result (λ _. spec.field_fault scope.now methods.now sections.now choice.now ≡ None) }
+    ensures refused { IfErr result (Refuses (spec.field_fault scope.now methods.now sections.now choice.now)) }
+{
+    if let Some(mention) = choice {
+        if let Some(encoding) = kept.encoding(*mention) {
+            return Ok(encoding.share()?);
+        }
+    }
+    let encoding = resolved_encoding(alloc, scope, methods, sections, choice)?;
+    Ok(Shared::new(alloc, encoding)?)
+}
+
+fn resolved_encoding(
     alloc: Global,
     scope: &Scope<'_, '_>,
     methods: &Methods<'_>,

@@ -6,7 +6,7 @@ ghost use Rattle.fn_formats.specs.Worded.{IsNamed, AreMentionsWorded};
 
 use crate::drafts::Setting;
 use fn_bits::Bits;
-use fn_normal::{Declared, Encoding, Field, Name, Part, Words, reversed, word};
+use fn_normal::{Declared, Encoding, Field, Name, Part, Shared, Words, reversed, word};
 use fn_sections::Mention;
 use fn_tree::{Section, SectionKind};
 use sqlite_items::Items;
@@ -17,7 +17,7 @@ pub(crate) fn joined_fields(
     alloc: Global,
     setting: &Setting<'_, '_>,
     mentions: &[Mention],
-    encodings: Items<Encoding>,
+    encodings: Items<Shared<Encoding>>,
 ) -> Result<Items<Field>, AllocError>
     requires { AreMentionsWorded setting.now.text.now mentions.now }
     ensures { IfOk result (λ all. all ≡ spec.joined setting.now mentions.now encodings) }
@@ -25,20 +25,23 @@ pub(crate) fn joined_fields(
     let mut left = reversed(alloc, encodings)?;
     let mut all = Items::new(alloc);
     for mention in mentions {
-        let encoding = take_next(&mut left);
+        let encoding = take_next(alloc, &mut left)?;
         all.push(field(alloc, setting, *mention, encoding)?)?;
     }
     Ok(all)
 }
 
 /// The first of the encodings that are left, which stand backwards.
-fn take_next(left: &mut Items<Encoding>) -> Encoding
-    ensures first { result ≡ get_or (reverse left.old) 0 Encoding.Bare }
+fn take_next(
+    alloc: Global,
+    left: &mut Items<Shared<Encoding>>,
+) -> Result<Shared<Encoding>, AllocError>
+    ensures first { IfOk result (λ e. e ≡ get_or (reverse left.old) 0 Encoding.Bare) }
     ensures rest { reverse left.new ≡ drop 1 (reverse left.old) }
 {
     match left.pop() {
-        Some(encoding) => encoding,
-        None => Encoding::Bare,
+        Some(encoding) => Ok(encoding),
+        None => Shared::new(alloc, Encoding::Bare),
     }
 }
 
@@ -46,7 +49,7 @@ fn field(
     alloc: Global,
     setting: &Setting<'_, '_>,
     mention: Mention,
-    encoding: Encoding,
+    encoding: Shared<Encoding>,
 ) -> Result<Field, AllocError>
     requires { IsNamed setting.now.text.now mention.name }
     ensures { IfOk result (λ f. f ≡ spec.field setting.now mention encoding) }

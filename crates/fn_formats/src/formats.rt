@@ -6,10 +6,12 @@ ghost use Rattle.fn_normal.specs.Words.{word as words};
 ghost use Rattle.fn_sections.specs.Tables.{IsTable};
 ghost use Rattle.fn_formats.specs.Drafts as drafts;
 ghost use Rattle.fn_formats.specs.Formats as spec;
+ghost use Rattle.fn_formats.specs.Kept.{HasKept};
 ghost use Rattle.fn_formats.specs.Worded as worded;
 
 use crate::drafts::{Setting, draft_format};
 use crate::fields::joined_fields;
+use crate::kept::Kept;
 use fn_normal::{Format, Name, ProfileFault, word};
 use fn_source::Span;
 use fn_tree::{Section, SectionKind};
@@ -22,18 +24,20 @@ pub struct Resolved {
     pub fault: Option<ProfileFault>,
 }
 
-/// The format of a COMPRESSED section, which is the method's section of this number.
+/// The format of a COMPRESSED section, which is the method's section of this number. It shares what is kept of UNCOMPRESSED and CONTROL.
 pub fn section_format(
     alloc: Global,
     setting: &Setting<'_, '_>,
+    kept: &Kept,
     number: usize,
     section: &Section,
 ) -> Result<Resolved, AllocError>
     requires sections { worded.AreSectionsWorded setting.now.text.now setting.now.sections.now }
     requires section { worded.SectionIsWorded setting.now.text.now section.now }
+    requires kept { HasKept setting.now kept.now }
     ensures { IsTable setting.now.text.now (drafts.base setting.now) setting.now.base.now → IsTable setting.now.text.now (drafts.default setting.now) setting.now.default.now → IfOk result (spec.IsResolved setting.now number section.now) }
 {
-    let draft = draft_format(alloc, setting, number, section)?;
+    let draft = draft_format(alloc, setting, kept, number, section)?;
     let name = format_name(alloc, setting.text, section.kind)?;
     let encodings = draft.encodings;
     let fields = joined_fields(alloc, setting, draft.fields.firsts.as_slice(), encodings)?;

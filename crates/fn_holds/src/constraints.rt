@@ -12,16 +12,20 @@ ghost use Rattle.fn_holds.specs.Level.{AllRanged, ConstraintRanged};
 
 use fn_expr::{Expr, Known, Side, decide, value};
 use fn_filling::Filling;
-use fn_normal::Constraint;
+use fn_normal::{Constraint, Shared};
 
 /// Whether all constraints of a format hold.
-pub(crate) fn constraints_hold(constraints: &[Constraint], filling: &Filling, known: &Known) -> bool
+pub(crate) fn constraints_hold(
+    constraints: &[Shared<Constraint>],
+    filling: &Filling,
+    known: &Known,
+) -> bool
     requires { (j : ℕ) (c : Constraint) → slice_get constraints.now j ≡ Some c → ConstraintRanged known.now c }
     ensures { IsTrue result ↔ ((j : ℕ) (c : Constraint) → slice_get constraints.now j ≡ Some c →
         Holds (side_of (listing_of filling.now) (level filling.now)) (assignment_of known.now) c) }
 {
     for constraint in constraints {
-        if !constraint_holds(constraint, filling, known) {
+        if !constraint_holds(constraint.get(), filling, known) {
             return false;
         }
     }

@@ -1,6 +1,6 @@
 //! Whether a filling fits: all its levels.
 
-ghost use Rattle.std.specs.Prelude.{◌≡◌, false, ◌<◌, ◌↔◌, IsTrue, IfOk, length};
+ghost use Rattle.std.specs.Prelude.{◌≡◌, false, ◌<◌, ◌↔◌, IsTrue, IfOk, IfSome, IfNone, length};
 ghost use Rattle.fn_context.specs.Entries.{bits_at};
 ghost use Rattle.fn_expr.specs.Known.{assignment_of};
 ghost use Rattle.fn_filling.specs.Fillings.{sides_of, header, packed};
@@ -11,7 +11,7 @@ ghost use Rattle.fn_holds.specs.Level.{AllRanged};
 use crate::constraints::constraints_hold;
 use crate::level::{Level, level_of, values_of};
 use crate::plain::{is_bare, is_coded};
-use crate::sides::{header_of, is_header, is_packed, packed_of};
+use crate::sides::{WholeSides, header_of, is_header, is_packed, packed_of};
 use fn_bits::Bits;
 use fn_context::Context;
 use fn_expr::{Expr, Known};
@@ -36,16 +36,43 @@ pub fn holds(
     requires arguments { ArgumentsLieAt profile.now method arguments.now }
     ensures { IfOk result (λ b. IsTrue b ↔ Fits profile.now.methods (bits_at context.now) method arguments.now path.now filling.now) }
 {
+    match sides_if_fits(alloc, profile, context, method, arguments, path, filling)? {
+        Some(_) => Ok(true),
+        None => Ok(false),
+    }
+}
+
+/// The two sides of the filling, where it fits likewise.
+pub fn sides_if_fits(
+    alloc: Global,
+    profile: &Profile,
+    context: &Context,
+    method: usize,
+    arguments: &[i128],
+    path: &str,
+    filling: &Filling,
+) -> Result<Option<WholeSides>, AllocError>
+    requires within { method < length profile.now.methods }
+    requires arguments { ArgumentsLieAt profile.now method arguments.now }
+    ensures fits { IfOk result (λ o. IfSome o (λ _. Fits profile.now.methods (bits_at context.now) method arguments.now path.now filling.now)) }
+    ensures sides { IfOk result (λ o. IfSome o (λ sides. (sides.header ≡ header filling.now) × (sides.packed ≡ packed filling.now))) }
+    ensures none { IfOk result (λ o. IfNone o (Fits profile.now.methods (bits_at context.now) method arguments.now path.now filling.now → ⊥)) }
+{
     profile.keeps();
     let Some(header) = header_of(alloc, filling)? else {
-        return Ok(false);
+        return Ok(None);
     };
     let Some(packed) = packed_of(alloc, filling)? else {
-        return Ok(false);
+        return Ok(None);
     };
-    whole_holds(
+    let is_right = whole_holds(
         alloc, profile, context, method, arguments, path, filling, &header, &packed,
-    )
+    )?;
+    if is_right {
+        Ok(Some(WholeSides { header, packed }))
+    } else {
+        Ok(None)
+    }
 }
 
 /// Whether the filling fits, where its header and its packed bits are these.
@@ -159,7 +186,7 @@ fn plain_field_holds(
     ensures { IfOk result (λ b. b ≡ false → FieldFitsAt profile.now.methods (bits_at context.now) path.now level.now.format.now level.now.filling.now (assignment_of level.now.known) place filled.now → ⊥) }
 {
     let field = &level.format.fields.as_slice()[place];
-    match &field.encoding {
+    match field.encoding.get() {
         Encoding::Bare => Ok(is_bare(filled)),
         Encoding::Library(library) => is_coded(alloc, context, path, level, field, library, filled),
         Encoding::Call { .. } => Ok(true),
@@ -224,7 +251,7 @@ fn field_holds(
     ensures { IfOk result (λ b. IsTrue b ↔ FieldFitsAt profile.now.methods (bits_at context.now) path.now level.now.format.now level.now.filling.now (assignment_of level.now.known) place filled.now) }
 {
     let field = &level.format.fields.as_slice()[place];
-    match &field.encoding {
+    match field.encoding.get() {
         Encoding::Bare => Ok(is_bare(filled)),
         Encoding::Library(library) => {
             is_coded(alloc, context, path, level, field, library, filled)

@@ -1,7 +1,8 @@
 //! Whether a filling fits.
 #![tactic(auto)]
 
-pub use holding::{holds, level_fits};
+pub use holding::{holds, level_fits, sides_if_fits};
+pub use sides::{WholeSides, is_header};
 
 pub mod coding;
 mod constraints;

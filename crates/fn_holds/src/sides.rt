@@ -12,6 +12,13 @@ use fn_filling::Filling;
 use fn_normal::{Field, Part};
 use std::alloc::{AllocError, Global};
 
+/// The two sides of a whole filling: its header and its packed bits.
+#[derive(Drop)]
+pub struct WholeSides {
+    pub header: Bits,
+    pub packed: Bits,
+}
+
 /// The header, unless it is above the limit of `Bits`.
 pub(crate) fn header_of(alloc: Global, filling: &Filling) -> Result<Option<Bits>, AllocError>
     ensures { IfOk result (λ o. MatchOption o (2 ^ 31 ≤ length (header filling.now)) (λ b. b ≡ header filling.now)) }
@@ -35,7 +42,7 @@ pub(crate) fn packed_of(alloc: Global, filling: &Filling) -> Result<Option<Bits>
 }
 
 /// Whether these bits are the header of the filling. It takes no memory.
-pub(crate) fn is_header(bits: &Bits, filling: &Filling) -> bool
+pub fn is_header(bits: &Bits, filling: &Filling) -> bool
     ensures { IsTrue result ↔ (bits.now ≡ header filling.now) }
 {
     let mut cursor = Cursor::new(bits);

@@ -4,6 +4,7 @@ use Rattle.std.specs.Prelude.{ℤ, Some, slice_get, option_map, option_and_then,
 use Rattle.fn_cert.specs.declared.rule.Fact.{Fact}
 use Rattle.fn_expr.specs.declared.expr.Expr.{Expr}
 use Rattle.fn_expr.specs.declared.known.Known.{Known}
+use Rattle.fn_expr.specs.declared.known.SideNumbers.{SideNumbers}
 use Rattle.fn_expr.specs.Known.{assignment_of}
 use Rattle.fn_expr.specs.Spread.{IsRanged}
 use Rattle.fn_expr.specs.Values.{val}
@@ -24,7 +25,7 @@ use Rattle.fn_rules.proofs.Given.{given_is_sound}
 use Rattle.fn_rules.proofs.Lying.{all_lie}
 use Rattle.fn_rules.proofs.Numbers.{values_known}
 use Rattle.fn_rules.proofs.Within.{within_is_narrow}
-use Rattle.fn_level.specs.Level.{IsKept, IsUpToDate, IsAsked, stands, gives_length, gives_value}
+use Rattle.fn_level.specs.Level.{IsKept, IsUpToDate, IsAsked, stands, gives_length, gives_value, known_by}
 
 pub knows_left : (format : Format) (slots : List Slot) (xs ys : List Fact) → knows_all format slots (xs ++ ys) ≡ true → knows_all format slots xs ≡ true
 knows_left format slots [] ys e = refl
@@ -85,3 +86,19 @@ pub shown_each : (format : Format) (sizes : FormatSizes) (headers : List ℕ) (s
     ((n : ℕ) (e : Expr) → slice_get es n ≡ Some e → IsAsked format e) → knows_all format slots (inputs_of_all format es) ≡ true → vals (assignment_of known) es ≡ vals (known_numbers format slots known.parameters) es
 shown_each format sizes headers slots known now es asked inputs_known =
     ap (λ k. vals (assignment_of k) es) now.known_is ∙ all_shown format sizes known.parameters slots now.kept es asked inputs_known
+
+-- the same, as the code reads the slots and the arguments
+module _ (format : Format) (sizes : FormatSizes) (headers : List ℕ) (slots xs : List Slot) (whole : SideNumbers) (args ps : List ℤ) (slots_are : xs ≡ slots) (args_are : ps ≡ args)
+    (now : IsUpToDate format sizes headers slots (known_by slots whole args)) where
+  pub ranged_by : (e : Expr) → IsAsked format e → IsRanged (assignment_of (known_by xs whole ps)) e
+  ranged_by e asked = subst (λ x. IsRanged (assignment_of (known_by x whole ps)) e) (sym slots_are) (subst (λ p. IsRanged (assignment_of (known_by slots whole p)) e) (sym args_are) (ranged format sizes headers slots (known_by slots whole args) now e asked))
+
+  pub value_by : (e : Expr) → val (assignment_of (known_by xs whole ps)) e ≡ val (assignment_of (known_of format slots args)) e
+  value_by e = (λ i. val (assignment_of (known_by (slots_are i) whole (args_are i))) e) ∙ ap (λ k. val (assignment_of k) e) now.known_is
+
+  pub shown_by : (e : Expr) → IsAsked format e → knows_all format slots (inputs format e) ≡ true → val (assignment_of (known_by xs whole ps)) e ≡ val (known_numbers format slots args) e
+  shown_by e asked inputs_known = (λ i. val (assignment_of (known_by (slots_are i) whole (args_are i))) e) ∙ shown format sizes headers slots (known_by slots whole args) now e asked inputs_known
+
+  pub shown_each_by : (es : List Expr) → ((n : ℕ) (e : Expr) → slice_get es n ≡ Some e → IsAsked format e) → knows_all format slots (inputs_of_all format es) ≡ true →
+      vals (assignment_of (known_by xs whole ps)) es ≡ vals (known_numbers format slots args) es
+  shown_each_by es asked inputs_known = (λ i. vals (assignment_of (known_by (slots_are i) whole (args_are i))) es) ∙ shown_each format sizes headers slots (known_by slots whole args) now es asked inputs_known

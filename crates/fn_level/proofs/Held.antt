@@ -1,11 +1,12 @@
 -- A filling is kept inside a field.
 use Rattle.std.proofs.Common.{◌≡◌, refl, sym, ◌∙◌, ap, subst, ℕ, zero, suc, ◌⊎◌, inl, inr, List, [], ◌∷◌, length, map}
-use Rattle.std.specs.Prelude.{Some, None, slice_get, slice_set, option_map, pos, if◌then◌else◌}
+use Rattle.std.specs.Prelude.{Some, None, slice_get, slice_set, option_map, pos, if◌then◌else◌, ℤ}
 use Rattle.std.specs.List.{flat_map, list_all}
 use Rattle.std.proofs.lemmas.Option.{same_Some}
 use Rattle.fn_expr.specs.declared.expr.Side.{Side}
 use Rattle.fn_expr.specs.declared.expr.Side.TheVariants.{Uncompressed, Compressed}
 use Rattle.fn_expr.specs.declared.known.Known.{Known}
+use Rattle.fn_expr.specs.declared.known.SideNumbers.{SideNumbers}
 use Rattle.fn_normal.specs.declared.profile.Sizes.{Sizes}
 use Rattle.fn_normal.specs.declared.profile.FormatSizes.{FormatSizes}
 use Rattle.fn_normal.specs.declared.profile.Format.{Format}
@@ -16,7 +17,7 @@ use Rattle.fn_rules.specs.Numbers.{LearntLies, slot_numbers, known_of}
 use Rattle.fn_rules.specs.Numbers as rules
 use Rattle.fn_rules.specs.Slots.{has_length, has_bits, side_of_slot, learnt_at, bits_of}
 use Rattle.fn_level.specs.Joined.{narrow}
-use Rattle.fn_level.specs.Level.{IsKept, IsUpToDate, parts_of, joined_numbers}
+use Rattle.fn_level.specs.Level.{IsKept, IsUpToDate, parts_of, joined_numbers, known_by}
 use Rattle.fn_level.proofs.Changed.{set_length, set_cases}
 use Rattle.fn_level.proofs.Parts.{side_numbers}
 
@@ -32,12 +33,6 @@ module _ (g : Filling) where
   sides_same (t ∷ ts) zero s e (suc j) side = refl
   sides_same (t ∷ ts) (suc i) s e zero side = refl
   sides_same (t ∷ ts) (suc i) s e (suc j) side = sides_same ts i s e j side
-
-  -- so are its numbers
-  fields_same : (slots : List Slot) (i : ℕ) (s : Slot) → slice_get slots i ≡ Some s → map slot_numbers slots ≡ map slot_numbers (slice_set slots i (with_inner g s))
-  fields_same [] i s e = absurd (cc)
-  fields_same (t ∷ ts) zero s e = ap (λ x. slot_numbers x ∷ map slot_numbers ts) (same_Some t s e)
-  fields_same (t ∷ ts) (suc i) s e = ap (λ xs. slot_numbers t ∷ xs) (fields_same ts i s e)
 
   module _ (format : Format) (sizes : FormatSizes) (slots : List Slot) (i : ℕ) (s : Slot) (at : slice_get slots i ≡ Some s) where
     abbrev slots_now : List Slot
@@ -67,17 +62,14 @@ module _ (g : Filling) where
           length = option_map pos (if list_all (λ j. has_length (sides_same slots i s at j side k)) fields then Some (length (flat_map (λ j. bits_of (sides_same slots i s at j side k)) fields)) else None);
         }
 
-    pub up_to_date_held : (headers : List ℕ) (known : Known) → IsUpToDate format sizes headers slots known → IsUpToDate format sizes headers slots_now known
-    up_to_date_held headers known was =
-        let kept = kept_held known was.kept in
-        let whole : (side : Side) → rules.whole_numbers format slots side ≡ rules.whole_numbers format slots_now side =
+    pub up_to_date_held : (headers : List ℕ) (whole : SideNumbers) (args : List ℤ) → IsUpToDate format sizes headers slots (known_by slots whole args) → IsUpToDate format sizes headers slots_now (known_by slots_now whole args)
+    up_to_date_held headers whole args was =
+        let kept = kept_held (known_by slots whole args) was.kept in
+        let same : (side : Side) → rules.whole_numbers format slots side ≡ rules.whole_numbers format slots_now side =
         λ side. sym (side_numbers format slots was.kept.count side) ∙ (whole_same side ∙ side_numbers format slots_now kept.count side) in
+        let now : whole ≡ (known_of format slots_now args).whole = ap (λ k. k.whole) was.known_is ∙ (λ k. record { uncompressed = same Uncompressed k; compressed = same Compressed k }) in
         record {
           kept = kept;
           headers_are = was.headers_are;
-          known_is = was.known_is ∙ (λ k. record {
-            fields = fields_same slots i s at k;
-            whole = record { uncompressed = whole Uncompressed k; compressed = whole Compressed k };
-            parameters = known.parameters;
-          });
+          known_is = λ k. record { fields = map slot_numbers slots_now; whole = now k; parameters = args };
         }

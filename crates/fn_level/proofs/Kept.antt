@@ -1,11 +1,12 @@
 -- What each level keeps, from the start and as more is learnt.
-use Rattle.std.proofs.Common.{◌≡◌, refl, sym, ◌∙◌, ap, subst, ℕ, zero, suc, ◌+◌, ◌<◌, ◌≤◌, ◌^◌, Bool, true, false, ◌⊎◌, inl, inr, List, [], ◌∷◌, ◌++◌, length, map, arith, length-append}
-use Rattle.std.specs.Prelude.{Some, None, slice_get, slice_set, unwrap_or, ℤ, nat_eq}
+use Rattle.std.proofs.Common.{◌≡◌, refl, sym, ◌∙◌, ap, subst, ℕ, zero, suc, ◌+◌, ◌<◌, ◌≤◌, ◌^◌, Bool, true, false, ◌⊎◌, inl, inr, List, [], ◌∷◌, ◌++◌, length, arith, length-append}
+use Rattle.std.specs.Prelude.{Some, None, slice_get, unwrap_or, ℤ, nat_eq}
 use Rattle.std.proofs.lemmas.Option.{same_Some}
 use Rattle.fn_expr.specs.declared.expr.Side.{Side}
 use Rattle.fn_expr.specs.declared.expr.Side.TheVariants.{Uncompressed, Compressed}
 use Rattle.fn_expr.specs.declared.expr.Subject.TheVariants as subject
 use Rattle.fn_expr.specs.declared.known.Known.{Known}
+use Rattle.fn_expr.specs.declared.known.SideNumbers.{SideNumbers}
 use Rattle.fn_normal.specs.declared.profile.Sizes.{Sizes}
 use Rattle.fn_normal.specs.declared.profile.FormatSizes.{FormatSizes}
 use Rattle.fn_normal.specs.declared.profile.Field.{Field}
@@ -19,13 +20,13 @@ use Rattle.fn_rules.specs.declared.slots.Learnt.TheVariants.{Nothing}
 use Rattle.fn_rules.specs.declared.slots.Slot.{Slot}
 use Rattle.fn_rules.specs.Facts.{before, before_more}
 use Rattle.fn_rules.specs.Slots.{side_of_slot, learnt_at, bits_of}
-use Rattle.fn_rules.specs.Numbers.{LearntLies, slot_numbers}
+use Rattle.fn_rules.specs.Numbers.{LearntLies}
 use Rattle.fn_rules.specs.Reading.{known_sides, start_side, start_slot, start_slots}
 use Rattle.fn_rules.proofs.Within.{header_within, packed_within, most_within}
 use Rattle.fn_level.specs.Sides.{with_side, LearnsAt}
 use Rattle.fn_level.specs.Joined.{header_places, joined_bits}
-use Rattle.fn_level.specs.Level.{IsPlaced, IsKept, IsUpToDate, AreUnsent, bounds_at, parts_of, whole_numbers}
-use Rattle.fn_level.proofs.Changed.{set_length, set_map, set_here, set_cases}
+use Rattle.fn_level.specs.Level.{IsPlaced, IsKept, IsUpToDate, AreUnsent, bounds_at, parts_of, whole_numbers, known_by}
+use Rattle.fn_level.proofs.Changed.{set_length, set_cases}
 use Rattle.fn_level.proofs.Parts.{whole_joined, numbers_kept}
 
 abbrev no_sizes : Sizes
@@ -82,22 +83,16 @@ module _ (format : Format) (sizes : FormatSizes) (args : List ℤ) (old new : Li
           let at = ap (slice_get sizes.fields) (sym h.0) ∙ at_b in
           subst (λ x. LearntLies (side_bounds z b) (side_of_slot z x)) h.1 (side_lies side z b l.now l.slot (learnt_lies b at) (λ w. kept.within i l.slot b w l.slot_is at))
 
--- with the numbers of the slot that changed
-pub up_to_date_after : (format : Format) (sizes : FormatSizes) (headers : List ℕ) (old new : List Slot) (i : ℕ) (side : Side) (found : Learnt) (was_known now : Known) →
-    IsUpToDate format sizes headers old was_known → LearnsAt (bounds_at sizes i side) i side found old new →
-    ((s : Slot) → slice_get new i ≡ Some s → now.fields ≡ slice_set was_known.fields i (slot_numbers s)) → now.whole ≡ whole_numbers new headers format.listing → now.parameters ≡ was_known.parameters →
-    IsUpToDate format sizes headers new now
-up_to_date_after format sizes headers old new i side found was_known now was l fields whole parameters =
-    let slot_now = with_side side l.now l.slot in
-    let kept = kept_after format sizes was_known.parameters old new i side found was.kept l in
-    let here : slice_get new i ≡ Some slot_now = ap (λ xs. slice_get xs i) l.slots_are ∙ set_here old i slot_now l.slot l.slot_is in
-    let as_was : was_known.fields ≡ map slot_numbers old = ap (λ k. k.fields) was.known_is in
-    let all : now.fields ≡ map slot_numbers new =
-    fields slot_now here ∙ (ap (λ xs. slice_set xs i (slot_numbers slot_now)) as_was ∙ (sym (set_map slot_numbers old i slot_now) ∙ ap (map slot_numbers) (sym l.slots_are))) in
+-- with the numbers of the whole
+pub up_to_date_after : (format : Format) (sizes : FormatSizes) (headers : List ℕ) (old new : List Slot) (i : ℕ) (side : Side) (found : Learnt) (was_whole whole : SideNumbers) (args : List ℤ) →
+    IsUpToDate format sizes headers old (known_by old was_whole args) → LearnsAt (bounds_at sizes i side) i side found old new → whole ≡ whole_numbers new headers format.listing →
+    IsUpToDate format sizes headers new (known_by new whole args)
+up_to_date_after format sizes headers old new i side found was_whole whole args was l is =
+    let kept = kept_after format sizes args old new i side found was.kept l in
     record {
-      kept = subst (λ a. IsKept (record { format = format; sizes = sizes; args = a; slots = new })) (sym parameters) kept;
+      kept = kept;
       headers_are = was.headers_are;
-      known_is = numbers_kept format new kept.count now all (whole ∙ ap (λ h. whole_numbers new h format.listing) was.headers_are);
+      known_is = numbers_kept format new kept.count (known_by new whole args) refl (is ∙ ap (λ h. whole_numbers new h format.listing) was.headers_are);
     }
 
 -- the whole stays short
@@ -151,16 +146,16 @@ start_kept format sizes args placed unsent = record {
     by Compressed b true none = tt
     by Compressed b false none = let least : b.compressed.least ≡ 0 = none refl in record { least = omega (arith, least); most = omega arith }
 
-pub start_up_to_date : (format : Format) (sizes : FormatSizes) (headers : List ℕ) (slots : List Slot) (known : Known) → IsPlaced format sizes known.parameters → AreUnsent format sizes →
-    headers ≡ header_places 0 format.fields → slots ≡ start_slots format.listing 0 format.fields → known.fields ≡ map slot_numbers slots → known.whole ≡ whole_numbers slots headers format.listing →
-    IsUpToDate format sizes headers slots known
-start_up_to_date format sizes headers slots known placed unsent headers_are slots_are fields whole =
-    let kept : IsKept (record { format = format; sizes = sizes; args = known.parameters; slots = slots }) =
-    subst (λ xs. IsKept (record { format = format; sizes = sizes; args = known.parameters; slots = xs })) (sym slots_are) (start_kept format sizes known.parameters placed unsent) in
+pub start_up_to_date : (format : Format) (sizes : FormatSizes) (headers : List ℕ) (slots : List Slot) (whole : SideNumbers) (args : List ℤ) → IsPlaced format sizes args → AreUnsent format sizes →
+    headers ≡ header_places 0 format.fields → slots ≡ start_slots format.listing 0 format.fields → whole ≡ whole_numbers slots headers format.listing →
+    IsUpToDate format sizes headers slots (known_by slots whole args)
+start_up_to_date format sizes headers slots whole args placed unsent headers_are slots_are is =
+    let kept : IsKept (record { format = format; sizes = sizes; args = args; slots = slots }) =
+    subst (λ xs. IsKept (record { format = format; sizes = sizes; args = args; slots = xs })) (sym slots_are) (start_kept format sizes args placed unsent) in
     record {
       kept = kept;
       headers_are = headers_are;
-      known_is = numbers_kept format slots kept.count known fields (whole ∙ ap (λ h. whole_numbers slots h format.listing) headers_are);
+      known_is = numbers_kept format slots kept.count (known_by slots whole args) refl (is ∙ ap (λ h. whole_numbers slots h format.listing) headers_are);
     }
 
 pub start_short : (format : Format) (sizes : FormatSizes) (args : List ℤ) (headers : List ℕ) (slots : List Slot) → IsPlaced format sizes args → AreUnsent format sizes → headers ≡ header_places 0 format.fields →

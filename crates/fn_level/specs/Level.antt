@@ -1,5 +1,5 @@
 -- What a walk knows of one level of a filling (docs/DEFINITIONS.md, What a walk knows of a level).
-use Rattle.std.specs.Prelude.{◌≡◌, ◌<◌, ℕ, ℤ, false, List, length, slice_get, slice_set, Some, pos, option_map}
+use Rattle.std.specs.Prelude.{◌≡◌, ◌<◌, ℕ, ℤ, false, List, length, map, slice_get, slice_set, Some, pos, option_map}
 use Rattle.fn_expr.specs.declared.known.Known.{Known}
 use Rattle.fn_expr.specs.declared.known.Numbers.{Numbers}
 use Rattle.fn_expr.specs.declared.known.SideNumbers.{SideNumbers}
@@ -24,7 +24,7 @@ use Rattle.fn_rules.specs.declared.slots.Slot.{Slot}
 use Rattle.fn_rules.specs.Slots.{has_bits, learnt_at}
 use Rattle.fn_filling.specs.declared.filling.Filling.{Filling}
 use Rattle.fn_rules.specs.Rules.{length_given, value_given}
-use Rattle.fn_rules.specs.Numbers.{AreWithin, known_of}
+use Rattle.fn_rules.specs.Numbers.{AreWithin, known_of, slot_numbers}
 use Rattle.fn_level.specs.Sides.{LearnsAt}
 use Rattle.fn_level.specs.Joined.{header_places, joined_length, joined_value}
 
@@ -107,6 +107,10 @@ joined_numbers slots side fields = record { value = option_map pos (joined_value
 
 abbrev pub whole_numbers : List Slot → List ℕ → List ℕ → SideNumbers
 whole_numbers slots headers listing = record { uncompressed = joined_numbers slots Uncompressed headers; compressed = joined_numbers slots Compressed listing }
+
+-- those of the slots, with those of the whole and the arguments
+abbrev pub known_by : List Slot → SideNumbers → List ℤ → Known
+known_by slots whole args = record { fields = map slot_numbers slots; whole = whole; parameters = args }
 
 -- the expression is one that a step evaluates: an argument or one of a bracket, or what a constraint gives for a length or a value
 pub data IsAsked (format : Format) (e : Expr) : Type 0 where

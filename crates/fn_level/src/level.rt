@@ -21,12 +21,12 @@ ghost use Rattle.fn_level.specs.Sides as sides;
 use crate::filling::filling_of;
 use crate::fronts::{Front, Fronts, offset_by};
 use crate::joining::joined_whole;
-use crate::numbers::{note, numbers_of};
+use crate::numbers::{note, whole_numbers};
 use crate::slots::{are_unsent, at_start, bits_at, headers_of, learn_at, length_at};
+use crate::values::{value_in, values_in};
 use fn_bits::Bits;
-use fn_expr::{Expr, Known, Numbers, Side, SideNumbers, value};
+use fn_expr::{Expr, Numbers, Side, SideNumbers};
 use fn_filling::Filling;
-use fn_holds::level::values_of;
 use fn_normal::{Bounds, Format, FormatSizes};
 use fn_rules::{Learnt, Slot};
 use sqlite_items::Items;
@@ -34,14 +34,15 @@ use std::alloc::{AllocError, Global};
 use std::marker::Model;
 
 /// What a walk knows of one level of a filling: its format with the bounds, the values of the method's parameters, and of each field what
-/// was learnt, with the numbers that expressions may ask for. All that is known lies in the bounds.
+/// was learnt, with the numbers of the whole. All that is known lies in the bounds.
 #[derive(Drop)]
 pub struct Level<'a> {
     format: &'a Format,
     sizes: &'a FormatSizes,
     headers: Items<usize>,
     slots: Vec<Slot>,
-    known: Known,
+    whole: SideNumbers,
+    parameters: Items<i128>,
     fronts: Fronts,
 }
 
@@ -50,16 +51,16 @@ impl<'a> Model for Level<'a> {
     ghost use Rattle.fn_expr.specs.contracts.expr.Cond as cond;
     ghost use Rattle.fn_filling.specs.contracts.filling.Filling as filling;
     ghost use Rattle.fn_level.specs.Fronts.{IsInOrder};
-    ghost use Rattle.fn_level.specs.Level.{Reached};
+    ghost use Rattle.fn_level.specs.Level.{Reached, known_by};
     ghost use Rattle.std.specs.Coded.{codes};
 
     ghost Value = { Reached };
 
     ghost coded = { Prim.hlevel (codes, expr.the_row.coded, cond.the_row.coded, filling.the_row.coded) };
 
-    ghost view = { λ l. record { format = l.format.now; sizes = l.sizes.now; args = l.known.parameters; slots = l.slots.items } };
+    ghost view = { λ l. record { format = l.format.now; sizes = l.sizes.now; args = l.parameters; slots = l.slots.items } };
 
-    ghost invariant = { λ l. IsInOrder l.format.now l.sizes.now l.headers l.slots.items l.known l.fronts };
+    ghost invariant = { λ l. IsInOrder l.format.now l.sizes.now l.headers l.slots.items (known_by l.slots.items l.whole l.parameters) l.fronts };
 }
 
 impl<'a> Level<'a> {
@@ -80,19 +81,19 @@ impl<'a> Level<'a> {
         }
         let headers = headers_of(alloc, format.fields.as_slice())?;
         let slots = at_start(alloc, format)?;
-        let known = numbers_of(
-            alloc,
+        let parameters = Items::from_slice(alloc, arguments)?;
+        let whole = whole_numbers(
+            slots.as_slice(),
             headers.as_slice(),
             format.listing.as_slice(),
-            slots.as_slice(),
-            arguments,
-        )?;
+        );
         Ok(Some(Level {
             format,
             sizes,
             headers,
             slots,
-            known,
+            whole,
+            parameters,
             fronts: Fronts {
                 uncompressed: Front::at_first(),
                 compressed: Front::at_first(),
@@ -141,12 +142,11 @@ impl<'a> Level<'a> {
         let is_learnt = learn_at(&mut self.slots, field, side, bounds, found);
         if is_learnt {
             note(
-                &mut self.known,
+                &mut self.whole,
                 &mut self.fronts,
                 self.headers.as_slice(),
                 self.format.listing.as_slice(),
                 self.slots.as_slice(),
-                field,
             );
         }
         is_learnt
@@ -159,7 +159,12 @@ impl<'a> Level<'a> {
         // Where all that it asks for is known, it is that of any level that shows what is known.
         ensures shown { knows_all self.now.format self.now.slots (inputs self.now.format expr.now) ≡ true → result ≡ val (known_numbers self.now.format self.now.slots self.now.args) expr.now }
     {
-        value(expr, &self.known)
+        value_in(
+            expr,
+            self.slots.as_slice(),
+            &self.whole,
+            self.parameters.as_slice(),
+        )
     }
 
     /// The values of several expressions of the format, where each has one by what is known. The error is want of memory.
@@ -168,7 +173,13 @@ impl<'a> Level<'a> {
         // Where all that they ask for is known, they are those of any level that shows what is known.
         ensures shown { IfOk result (λ o. knows_all self.now.format self.now.slots (inputs_of_all self.now.format exprs.now) ≡ true → o ≡ vals (known_numbers self.now.format self.now.slots self.now.args) exprs.now) }
     {
-        values_of(alloc, exprs, &self.known)
+        values_in(
+            alloc,
+            exprs,
+            self.slots.as_slice(),
+            &self.whole,
+            self.parameters.as_slice(),
+        )
     }
 
     /// Keeps the filling inside the field.

@@ -10,3 +10,4 @@ pub mod level;
 mod numbers;
 mod side;
 mod slots;
+mod values;

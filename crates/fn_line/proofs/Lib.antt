@@ -1,4 +1,5 @@
 pub mod Octets
+pub mod Pushing
 pub mod Cases
 pub mod Hearings
 pub mod Flows

@@ -1,6 +1,7 @@
 //! The sending end of a line.
 
-ghost use Rattle.std.specs.Prelude.{◌≡◌, ◌<◌, List, ℕ, ◌++◌, length, IfOk, IfErr, OnOk, OnErr};
+ghost use Rattle.std.specs.Prelude.{◌≡◌, ◌<◌, ◌≤◌, ◌+◌, ◌/◌, List, ℕ, ◌++◌, length, vec_len, vec_capacity, IfOk, IfErr, OnOk, OnErr};
+ghost use Rattle.fn_bits.specs.Octets.{Holds};
 ghost use Rattle.fn_engine.specs.Writing as writing;
 ghost use Rattle.fn_line.specs.Lines.{no_entries};
 ghost use Rattle.fn_line.specs.Lines.Act.{Send, Reset};
@@ -8,6 +9,7 @@ ghost use Rattle.fn_line.specs.States.{IsPut, IsUnsent};
 ghost use Rattle.fn_line.specs.Steps.{IsPacked};
 
 use crate::flow::{Flow, no_contexts};
+use fn_bits::Bits;
 use fn_checker::Accepted;
 use fn_context::Context;
 use fn_engine::{PackFault, pack};
@@ -94,15 +96,29 @@ fn put_packet(
         Ok(written) => written,
         Err(fault) => return Err(fault),
     };
-    let mut octets = written.packed.to_octets(alloc)?;
-    match octets.insert(0, flow) {
-        Ok(()) => {}
-        Err(_) => return Err(PackFault::OutOfMemory),
-    }
-    out.reserve(octets.len())?;
+    let packed = written.packed;
+    out.reserve((packed.len() + 7) / 8 + 1)?;
     context.replace(written.entries)?;
-    match out.extend_from_slice(&octets) {
-        Ok(()) => Ok(()),
+    match out.push(flow) {
+        Ok(()) => {}
         Err(_) => unreachable!(),
+    }
+    push_bits(&packed, out);
+    Ok(())
+}
+
+/// Adds the octets that hold bits, the last filled with zero bits, where there is room for them.
+fn push_bits(bits: &Bits, out: &mut Vec<u8>)
+    requires { vec_len out.old + (length bits.now + 7) / 8 ≤ vec_capacity out.old }
+    ensures { (octets : List ℕ) × Holds octets bits.now × (out.new.items ≡ out.old.items ++ octets) }
+{
+    for place in 0..(bits.len() + 7) / 8 {
+        let Some(octet) = bits.octet(place) else {
+            unreachable!();
+        };
+        match out.push(octet) {
+            Ok(()) => {}
+            Err(_) => unreachable!(),
+        }
     }
 }

@@ -5,10 +5,11 @@ ghost use Rattle.fn_tree.specs.declared.tree.Section.{Section as GivenSection};
 ghost use Rattle.fn_normal.specs.Judging.{Judged};
 ghost use Rattle.fn_sections.specs.Tables.{IsTable};
 ghost use Rattle.fn_formats.specs.Drafts as drafts;
+ghost use Rattle.fn_formats.specs.Kept.{HasKept};
 ghost use Rattle.fn_formats.specs.Worded.{AreSectionsWorded, SectionIsWorded};
 ghost use Rattle.fn_methods.specs.Listing as spec;
 
-use fn_formats::{Setting, section_format};
+use fn_formats::{Kept, Setting, section_format};
 use fn_normal::{Format, ProfileFault, earlier};
 use fn_sections::Group;
 use fn_sections::mention::is_in;
@@ -23,12 +24,14 @@ pub struct Formats {
     pub fault: Option<ProfileFault>,
 }
 
-/// The formats of the method of this setting.
+/// The formats of the method of this setting. They share what is kept of UNCOMPRESSED and CONTROL.
 pub(crate) fn listed_formats(
     alloc: Global,
     setting: &Setting<'_, '_>,
+    kept: &Kept,
 ) -> Result<Formats, AllocError>
-    requires { AreSectionsWorded setting.now.text.now setting.now.sections.now }
+    requires sections { AreSectionsWorded setting.now.text.now setting.now.sections.now }
+    requires kept { HasKept setting.now kept.now }
     ensures { IsTable setting.now.text.now (drafts.base setting.now) setting.now.base.now → IsTable setting.now.text.now (drafts.default setting.now) setting.now.default.now → IfOk result (λ all. Judged (spec.AreFormats setting.now 0 setting.now.sections.now all.found) (spec.FormatCause setting.now) all.fault) }
 {
     let mut all = Formats {
@@ -36,7 +39,7 @@ pub(crate) fn listed_formats(
         fault: None,
     };
     for (place, section) in setting.sections.iter().enumerate() {
-        add_section(alloc, setting, place, section, &mut all)?;
+        add_section(alloc, setting, kept, place, section, &mut all)?;
     }
     Ok(all)
 }
@@ -44,16 +47,18 @@ pub(crate) fn listed_formats(
 fn add_section(
     alloc: Global,
     setting: &Setting<'_, '_>,
+    kept: &Kept,
     place: usize,
     section: &Section,
     all: &mut Formats,
 ) -> Result<(), AllocError>
     requires sections { AreSectionsWorded setting.now.text.now setting.now.sections.now }
     requires section { SectionIsWorded setting.now.text.now section.now }
+    requires kept { HasKept setting.now kept.now }
     ensures { IsTable setting.now.text.now (drafts.base setting.now) setting.now.base.now → IsTable setting.now.text.now (drafts.default setting.now) setting.now.default.now → slice_get setting.now.sections.now place ≡ Some section.now → OnOk result ((rest : List GivenSection) → spec.Leads setting.now place (section.now ∷ rest) all.old → spec.Leads setting.now (place + 1) rest all.new) }
 {
     if is_in(Group::Formats, section.kind) {
-        let resolved = section_format(alloc, setting, place, section)?;
+        let resolved = section_format(alloc, setting, kept, place, section)?;
         all.found.push(resolved.format)?;
         all.fault = earlier(all.fault, resolved.fault);
     }

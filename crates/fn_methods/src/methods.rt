@@ -11,7 +11,7 @@ ghost use Rattle.fn_methods.specs.Methods as spec;
 use crate::defaults::default_fault;
 use crate::listing::listed_formats;
 use crate::parameters::{parameter_names, parameter_table};
-use fn_formats::Setting;
+use fn_formats::{Setting, kept_statements};
 use fn_given::{Givens, given};
 use fn_normal::{Format, Method, Name, ProfileFault, Words, earlier, word};
 use fn_sections::{Group, Table, encoded, judge, mentions};
@@ -119,7 +119,8 @@ fn body_with<'t>(
         initial_values: givens.values.as_slice(),
         asked: &givens.asked,
     };
-    let listed = listed_formats(alloc, &setting)?;
+    let kept = kept_statements(alloc, &setting)?;
+    let listed = listed_formats(alloc, &setting, &kept)?;
     let defaults = default_fault(alloc, &setting)?;
     Ok(MethodBody {
         formats: listed.found,

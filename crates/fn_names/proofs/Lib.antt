@@ -23,6 +23,7 @@ pub mod SoundFormats
 pub mod SoundMethods
 pub mod SoundKept
 pub mod KeptLimits
+pub mod KeptWeights
 pub mod NamedMethods
 pub mod KeptNames
 pub mod Refusing
@@ -34,3 +35,17 @@ pub mod AskedFields
 pub mod PlainTrees
 pub mod PlainFormats
 pub mod PlainForms
+pub mod OneBox
+pub mod OneTable
+pub mod HaveRanges
+pub mod KnownParts
+pub mod OneMethods
+pub mod ExcludedLimits
+pub mod ExcludedCalls
+pub mod ExcludedHeads
+pub mod RightStatements
+pub mod ExcludedMethods
+pub mod RightFormats
+pub mod OneFaults
+pub mod ExcludedCauses
+pub mod OneAnswer

@@ -1,5 +1,6 @@
 //! What holds of the normal forms of methods.
 
+ghost use Rattle.fn_names.specs.Excluded as excluded;
 ghost use Rattle.fn_names.specs.Plain.{OneForm, OneFormat};
 ghost use Rattle.fn_names.specs.WellFormed as laws;
 
@@ -21,4 +22,44 @@ pub fn one_format()
 /// The methods of a file have one normal form with a top, up to the boxes of expressions.
 pub fn one_form()
     ensures { OneForm }
+{}
+
+/// A file with a normal form defines no name twice, and each of its constants has a value.
+pub fn no_cause_of_head()
+    ensures { excluded.NoCauseOfHead }
+{}
+
+/// In a file with a normal form each method has one: no fault of names and sections, of INITIAL, of formats and of DEFAULT.
+pub fn no_cause_of_methods()
+    ensures { excluded.NoCauseOfMethods }
+{}
+
+/// A file with a normal form has a top.
+pub fn no_cause_of_top()
+    ensures { excluded.NoCauseOfTop }
+{}
+
+/// In a file with a normal form no call leads back to the method that makes it.
+pub fn no_cause_of_calls()
+    ensures { excluded.NoCauseOfCalls }
+{}
+
+/// A file with a normal form passes no limit on call chains, formats and messages.
+pub fn no_cause_of_limits()
+    ensures { excluded.NoCauseOfLimits }
+{}
+
+/// In a file with a normal form no method is too wide, and no expression lacks a range or asks for too wide a value.
+pub fn no_cause_of_bounds()
+    ensures { excluded.NoCauseOfBounds }
+{}
+
+/// A file with a normal form has no cause for a fault.
+pub fn no_cause()
+    ensures { excluded.NoCause }
+{}
+
+/// Octets with a reading are refused for want of memory alone: no fault of the text, its tokens, its grammar or its tree is there.
+pub fn no_refusal()
+    ensures { excluded.NoRefusal }
 {}

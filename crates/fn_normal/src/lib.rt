@@ -8,6 +8,7 @@ pub use profile::{
     Bounds, Constraint, CrcArguments, Declared, Encoding, Field, Format, FormatSizes, Library,
     Method, MethodSizes, Part, Sizes,
 };
+pub use shared::Shared;
 pub use turning::reversed;
 pub use words::{Words, same, word};
 
@@ -15,5 +16,6 @@ pub mod fault;
 pub mod judging;
 pub mod name;
 pub mod profile;
+pub mod shared;
 pub mod turning;
 pub mod words;

@@ -1,6 +1,7 @@
 //! The methods of a profile in their normal form, and the bounds on their lengths.
 
 use crate::name::Name;
+use crate::shared::Shared;
 use fn_bits::Bits;
 use fn_expr::{Cond, Expr, Interval, Side, Subject};
 use fn_source::Span;
@@ -65,7 +66,7 @@ pub enum Encoding {
 #[derive(Drop)]
 pub struct Field {
     pub declared: Declared,
-    pub encoding: Encoding,
+    pub encoding: Shared<Encoding>,
     /// The context's value while it holds none, from INITIAL.
     pub initial: Option<Bits>,
 }
@@ -93,7 +94,7 @@ pub struct Format {
     pub name: Option<Name>,
     pub fields: Items<Field>,
     pub listing: Items<usize>,
-    pub constraints: Items<Constraint>,
+    pub constraints: Items<Shared<Constraint>>,
 }
 
 /// A method: its name with its place in the text, its parameters and its formats.

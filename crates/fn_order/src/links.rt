@@ -17,7 +17,7 @@ pub(crate) fn rows(alloc: Global, format: &Format) -> Result<Vec<Items<usize>>, 
     let constraints = format.constraints.as_slice();
     let mut rows = no_rows(alloc, format.fields.len())?;
     for (number, constraint) in constraints.iter().enumerate() {
-        note_constraint(constraint, number, &mut rows)?;
+        note_constraint(constraint.get(), number, &mut rows)?;
     }
     Ok(rows)
 }

@@ -9,7 +9,7 @@ ghost use Rattle.fn_source.specs.declared.span.Span.{Span};
 
 use fn_bounds::constants::constant_of;
 use fn_expr::{Attribute, Comparison, Cond, Expr, Measure, Side, Subject};
-use fn_normal::Constraint;
+use fn_normal::{Constraint, Shared};
 use std::alloc::Global;
 
 fn is_same_side(side: Side, other: Side) -> bool
@@ -156,11 +156,15 @@ fn attribute_of(field: usize, side: Side, measure: Measure) -> Attribute
 }
 
 /// The value of the first bracket of one constant on the field's uncompressed length.
-pub(crate) fn bracket_size(alloc: Global, field: usize, constraints: &[Constraint]) -> Option<i128>
+pub(crate) fn bracket_size(
+    alloc: Global,
+    field: usize,
+    constraints: &[Shared<Constraint>],
+) -> Option<i128>
     ensures { result ≡ spec.bracket_size field constraints.now }
 {
     for constraint in constraints {
-        if let Some(size) = bracket_constant(alloc, field, constraint) {
+        if let Some(size) = bracket_constant(alloc, field, constraint.get()) {
             return Some(size);
         }
     }

@@ -131,7 +131,7 @@ pub fn is_due(direction: Direction, is_listed: bool, field: &Field) -> bool
     ensures { result ≡ spec.is_due direction is_listed field.now }
 {
     match direction {
-        Direction::Read => is_listed || is_call(&field.encoding),
-        Direction::Write => is_header(field) || is_call(&field.encoding),
+        Direction::Read => is_listed || is_call(field.encoding.get()),
+        Direction::Write => is_header(field) || is_call(field.encoding.get()),
     }
 }

@@ -68,7 +68,7 @@ fn read_rule(
 {
     match step {
         Step::Take(index) => read_take(alloc, format, index, field),
-        Step::Call(index) => read_call(alloc, format, index, &field.encoding),
+        Step::Call(index) => read_call(alloc, format, index, field.encoding.get()),
         Step::LibraryUp(_)
         | Step::LibraryDown(_)
         | Step::MethodLength(_, _)
@@ -114,10 +114,10 @@ fn common_rule(
     ensures { IfOk result (λ r. r ≡ spec.common_rule format.now step) }
 {
     match step {
-        Step::LibraryUp(index) => library_up(alloc, format, index, &field.encoding),
-        Step::LibraryDown(index) => library_down(alloc, format, index, &field.encoding),
+        Step::LibraryUp(index) => library_up(alloc, format, index, field.encoding.get()),
+        Step::LibraryDown(index) => library_down(alloc, format, index, field.encoding.get()),
         Step::MethodLength(index, side) => {
-            method_length(alloc, format, index, side, &field.encoding)
+            method_length(alloc, format, index, side, field.encoding.get())
         }
         Step::ConstraintLength(index, side, number) => {
             constraint_length(alloc, format, index, side, number)
@@ -140,7 +140,7 @@ fn constraint_length(
     let Some(constraint) = format.constraints.get(number) else {
         return Ok(None);
     };
-    let Some(length) = length_given(field, side, constraint) else {
+    let Some(length) = length_given(field, side, constraint.get()) else {
         return Ok(None);
     };
     let mut needs = Items::new(alloc);
@@ -161,7 +161,7 @@ fn solve(
     let Some(constraint) = format.constraints.get(number) else {
         return Ok(None);
     };
-    let Some(value) = value_given(field, constraint) else {
+    let Some(value) = value_given(field, constraint.get()) else {
         return Ok(None);
     };
     let mut needs = Items::from_slice(alloc, &[Fact::LengthOf(Side::Uncompressed, field)])?;

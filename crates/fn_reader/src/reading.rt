@@ -24,8 +24,8 @@ use std::alloc::Global;
 
 /// Reads the filling of the method whose packed bits are so many places after the cursor's.
 ///
-/// `depth` is how many methods a chain of calls from this one may have. The error is Short, where the bits run out, Refused, with the innermost method
-/// at work, or want of memory.
+/// `depth` is how many methods a chain of calls from this one may have. Each called filling is judged at the end of its own level where `judges` says so; else
+/// a filling that doesn't fit may be read to its end. The error is Short, where the bits run out, Refused, with the innermost method at work, or want of memory.
 #[cycle(reading)]
 pub fn read_method(
     depth: usize,
@@ -33,6 +33,7 @@ pub fn read_method(
     place: &Place<'_>,
     cursor: &Cursor<'_>,
     from: usize,
+    judges: bool,
 ) -> Result<Filling, ReadFault>
     requires stands { Stands place.now }
     requires deep { HasDepth place.now depth }
@@ -60,10 +61,12 @@ pub fn read_method(
         return Err(refused);
     };
     let scene = place.scene(format);
-    match read_plan(depth, alloc, place, &scene, &mut level, plan, cursor, from) {
+    match read_plan(
+        depth, alloc, place, &scene, &mut level, plan, cursor, from, judges,
+    ) {
         Ok(()) => {
             level.keeps();
-            finished(alloc, place, format, level)
+            finished(alloc, place, format, level, judges)
         }
         Err(fault) => Err(fault),
     }
@@ -80,6 +83,7 @@ fn read_plan(
     plan: &[Step],
     cursor: &Cursor<'_>,
     from: usize,
+    judges: bool,
 ) -> Result<(), ReadFault>
     requires scene { IsSceneOf place.now scene.now.format scene.now }
     requires stands { Stands place.now }
@@ -92,7 +96,9 @@ fn read_plan(
 {
     for step in plan {
         level.keeps();
-        if let Err(fault) = read_step(depth, alloc, place, scene, level, *step, cursor, from) {
+        if let Err(fault) = read_step(
+            depth, alloc, place, scene, level, *step, cursor, from, judges,
+        ) {
             return Err(fault);
         }
     }
@@ -110,6 +116,7 @@ fn read_step(
     step: Step,
     cursor: &Cursor<'_>,
     from: usize,
+    judges: bool,
 ) -> Result<(), ReadFault>
     requires scene { IsSceneOf place.now scene.now.format scene.now }
     requires stands { Stands place.now }
@@ -124,7 +131,9 @@ fn read_step(
     ensures few { IfErr result (λ e. spec.AreFew e depth (drop from cursor.now.left)) }
 {
     match step {
-        Step::Call(field) => read_call(depth, alloc, place, scene, level, field, cursor, from),
+        Step::Call(field) => read_call(
+            depth, alloc, place, scene, level, field, cursor, from, judges,
+        ),
         _ => match read_own(alloc, scene, level, step, cursor, from) {
             Ok(()) => Ok(()),
             Err(fault) => Err(fault_of(scene, fault)),
@@ -143,6 +152,7 @@ fn read_call(
     field: usize,
     cursor: &Cursor<'_>,
     from: usize,
+    judges: bool,
 ) -> Result<(), ReadFault>
     requires scene { IsSceneOf place.now scene.now.format scene.now }
     requires stands { Stands place.now }
@@ -162,7 +172,7 @@ fn read_call(
         Err(fault) => return Err(fault_of(scene, fault)),
     };
     match read_inner(
-        depth, alloc, place, scene, level, field, &call, cursor, from,
+        depth, alloc, place, scene, level, field, &call, cursor, from, judges,
     ) {
         Ok(inner) => match fill(alloc, scene, level, field, inner) {
             Ok(()) => Ok(()),
@@ -184,6 +194,7 @@ fn read_inner(
     call: &Call,
     cursor: &Cursor<'_>,
     from: usize,
+    judges: bool,
 ) -> Result<Filling, ReadFault>
     requires scene { IsSceneOf place.now scene.now.format scene.now }
     requires deep { HasDepth place.now depth }
@@ -206,11 +217,11 @@ fn read_inner(
     };
     if is_listed(level.format(), field) {
         let start = start_of(level, field, cursor, from);
-        return read_method(depth - 1, alloc, &inner, cursor, start);
+        return read_method(depth - 1, alloc, &inner, cursor, start, judges);
     }
     let nothing = Bits::new(alloc);
     ended(
         &inner,
-        read_method(depth - 1, alloc, &inner, &Cursor::new(&nothing), 0),
+        read_method(depth - 1, alloc, &inner, &Cursor::new(&nothing), 0, judges),
     )
 }

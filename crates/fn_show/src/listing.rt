@@ -99,7 +99,7 @@ fn format_text(
     let mut output = format_line(alloc, name_of(&format.name), bounds)?;
     let constraints = format.constraints.as_slice();
     for (number, constraint) in constraints.iter().enumerate() {
-        let line = constraint_line(alloc, places, number, constraint)?;
+        let line = constraint_line(alloc, places, number, constraint.get())?;
         output.push_str(line.as_str())?;
     }
     Ok(output)

@@ -5,7 +5,7 @@ ghost use Rattle.fn_terms.specs.Judged.{Refuses};
 ghost use Rattle.fn_statements.specs.Constraints as spec;
 
 use fn_expr::{Expr, Side};
-use fn_normal::{Constraint, ResolveError};
+use fn_normal::{Constraint, ResolveError, Shared};
 use fn_source::Span;
 use fn_terms::{Scope, conjuncts, numbers};
 use fn_tree::{Bracket, Item};
@@ -19,7 +19,7 @@ pub fn section_constraints(
     scope: &Scope<'_, '_>,
     side: Side,
     items: &[Item],
-) -> Result<Items<Constraint>, ResolveError>
+) -> Result<Items<Shared<Constraint>>, ResolveError>
     ensures means { IfOk result (spec.AreConstraints scope.now side items.now) }
     ensures right { IfOk result (λ _. spec.items_fault scope.now items.now ≡ None) }
     ensures refused { IfErr result (Refuses (spec.items_fault scope.now items.now)) }
@@ -37,7 +37,7 @@ fn item_constraints(
     scope: &Scope<'_, '_>,
     side: Side,
     item: &Item,
-) -> Result<Items<Constraint>, ResolveError>
+) -> Result<Items<Shared<Constraint>>, ResolveError>
     ensures means { IfOk result (spec.ItemMeans scope.now side item.now) }
     ensures right { IfOk result (λ _. spec.item_fault scope.now item.now ≡ None) }
     ensures refused { IfErr result (Refuses (spec.item_fault scope.now item.now)) }
@@ -55,7 +55,7 @@ fn optional_bracket(
     side: Side,
     name: Span,
     bracket: &Option<Bracket>,
-) -> Result<Items<Constraint>, ResolveError>
+) -> Result<Items<Shared<Constraint>>, ResolveError>
     ensures means { IfOk result (spec.OptionalMeans scope.now side name bracket.now) }
     ensures right { IfOk result (λ _. spec.optional_fault scope.now bracket.now ≡ None) }
     ensures refused { IfErr result (Refuses (spec.optional_fault scope.now bracket.now)) }
@@ -72,7 +72,7 @@ fn bracket_constraint(
     side: Side,
     name: Span,
     bracket: &Bracket,
-) -> Result<Items<Constraint>, ResolveError>
+) -> Result<Items<Shared<Constraint>>, ResolveError>
     ensures means { IfOk result (spec.BracketMeans scope.now side name bracket.now) }
     ensures right { IfOk result (λ _. spec.bracket_fault scope.now bracket.now ≡ None) }
     ensures refused { IfErr result (Refuses (spec.bracket_fault scope.now bracket.now)) }
@@ -94,18 +94,19 @@ fn lengths_constraint(
     name: Span,
     place: Span,
     lengths: Items<Expr>,
-) -> Result<Items<Constraint>, ResolveError>
+) -> Result<Items<Shared<Constraint>>, ResolveError>
     ensures means { IfOk result (λ found. found ≡ spec.on_field scope.now side name place lengths) }
     ensures refused { IfErr result (λ e. e ≡ ResolveError.OutOfMemory) }
 {
     let mut found = Items::new(alloc);
     if let Some(field) = scope.field(name) {
-        found.push(Constraint::Bracket {
+        let constraint = Constraint::Bracket {
             field,
             side,
             lengths,
             place,
-        })?;
+        };
+        found.push(Shared::new(alloc, constraint)?)?;
     }
     Ok(found)
 }

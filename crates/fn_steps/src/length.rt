@@ -40,7 +40,7 @@ pub fn method_length(
     let Some(coded) = level.format().fields.get(field) else {
         return Err(StepFault::Refused);
     };
-    let Encoding::Library(library) = &coded.encoding else {
+    let Encoding::Library(library) = coded.encoding.get() else {
         return Err(StepFault::Refused);
     };
     let count = method_count(alloc, scene, level, coded, library, side)?;
@@ -113,7 +113,7 @@ fn constraint_count(level: &Level<'_>, field: usize, side: Side, constraint: usi
     let Some(found) = level.format().constraints.get(constraint) else {
         return None;
     };
-    let Some(given) = length_given(field, side, found) else {
+    let Some(given) = length_given(field, side, found.get()) else {
         return None;
     };
     level.value(given)

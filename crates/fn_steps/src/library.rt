@@ -38,7 +38,7 @@ pub fn library_up(
     let Some(coded) = level.format().fields.get(field) else {
         return Err(StepFault::Refused);
     };
-    let Encoding::Library(library) = &coded.encoding else {
+    let Encoding::Library(library) = coded.encoding.get() else {
         return Err(StepFault::Refused);
     };
     let found = upward(alloc, scene, level, field, coded, library)?;
@@ -99,7 +99,7 @@ pub fn library_down(
     let Some(coded) = level.format().fields.get(field) else {
         return Err(StepFault::Refused);
     };
-    let Encoding::Library(library) = &coded.encoding else {
+    let Encoding::Library(library) = coded.encoding.get() else {
         return Err(StepFault::Refused);
     };
     let found = downward(alloc, level, field, library)?;

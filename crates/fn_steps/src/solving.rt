@@ -57,7 +57,7 @@ fn solved(level: &Level<'_>, field: usize, constraint: usize) -> Option<i128>
     let Some(found) = level.format().constraints.get(constraint) else {
         return None;
     };
-    let Some(given) = value_given(field, found) else {
+    let Some(given) = value_given(field, found.get()) else {
         return None;
     };
     level.value(given)

@@ -4,3 +4,4 @@ pub mod Leaves
 pub mod Listing
 pub mod Parts
 pub mod Walks
+pub mod Staying

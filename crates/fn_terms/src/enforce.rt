@@ -7,7 +7,7 @@ ghost use Rattle.fn_terms.specs.Conjuncts as spec;
 use crate::scope::Scope;
 use crate::term::Kind;
 use crate::typing::condition;
-use fn_normal::{Constraint, ResolveError};
+use fn_normal::{Constraint, ResolveError, Shared};
 use fn_tree::tree;
 use sqlite_items::Items;
 use std::alloc::Global;
@@ -17,7 +17,7 @@ pub fn conjuncts(
     alloc: Global,
     scope: &Scope<'_, '_>,
     part: &tree::Expr,
-) -> Result<Items<Constraint>, ResolveError>
+) -> Result<Items<Shared<Constraint>>, ResolveError>
     ensures means { IfOk result (λ cs. spec.AreConjuncts scope.now part.now cs) }
     ensures right { IfOk result (λ _. fault_of Kind.Truth scope.now part.now ≡ None) }
     ensures refused { IfErr result (Refuses (fault_of Kind.Truth scope.now part.now)) }
@@ -40,16 +40,17 @@ fn one(
     alloc: Global,
     scope: &Scope<'_, '_>,
     part: &tree::Expr,
-) -> Result<Items<Constraint>, ResolveError>
+) -> Result<Items<Shared<Constraint>>, ResolveError>
     requires { spec.is_conjunction part.now ≡ false }
     ensures means { IfOk result (λ cs. spec.AreConjuncts scope.now part.now cs) }
     ensures right { IfOk result (λ _. fault_of Kind.Truth scope.now part.now ≡ None) }
     ensures refused { IfErr result (Refuses (fault_of Kind.Truth scope.now part.now)) }
 {
-    let mut found = Items::new(alloc);
-    found.push(Constraint::Enforce {
+    let conjunct = Constraint::Enforce {
         condition: condition(alloc, scope, part)?,
         place: part.span(),
-    })?;
+    };
+    let mut found = Items::new(alloc);
+    found.push(Shared::new(alloc, conjunct)?)?;
     Ok(found)
 }

@@ -7,7 +7,7 @@ ghost use Rattle.fn_trees.specs.Equations as spec;
 
 use fn_bounds::constants::constant_of;
 use fn_expr::{Comparison, Cond, Expr};
-use fn_normal::Constraint;
+use fn_normal::{Constraint, Shared};
 use sqlite_items::Items;
 use std::alloc::{AllocError, Global};
 
@@ -46,13 +46,13 @@ impl Equation {
 /// The equations among the constraints of a format.
 pub(crate) fn equations(
     alloc: Global,
-    constraints: &[Constraint],
+    constraints: &[Shared<Constraint>],
 ) -> Result<Items<Equation>, AllocError>
     ensures { IfOk result (λ es. es ≡ filter_map spec.equation_of constraints.now) }
 {
     let mut found = Items::new(alloc);
     for constraint in constraints {
-        if let Some(equation) = equation_of(alloc, constraint) {
+        if let Some(equation) = equation_of(alloc, constraint.get()) {
             found.push(equation)?;
         }
     }

@@ -44,6 +44,35 @@ impl Read for Endless {
     }
 }
 
+// Notes whether a reader is over, which it is when it has ended, failed, or given 4 MiB and one octet, and whether it is asked
+// again then.
+#[derive(Drop)]
+struct Watched<R> {
+    reader: R,
+    given: usize,
+    is_over: bool,
+    is_asked_again: bool,
+}
+
+impl<R: Read> Read for Watched<R> {
+    fn read(&mut self, buf: &mut [u8]) -> io::Result<usize> {
+        if self.is_over {
+            self.is_asked_again = true;
+        }
+        match self.reader.read(buf) {
+            Ok(count) => {
+                self.given = self.given.saturating_add(count);
+                self.is_over = count == 0 || self.given > 4_194_304;
+                Ok(count)
+            }
+            Err(fault) => {
+                self.is_over = true;
+                Err(fault)
+            }
+        }
+    }
+}
+
 // Takes so many octets a write, and fails at the end of its writes.
 #[derive(Drop)]
 struct Sink {
@@ -273,6 +302,59 @@ fn takes_four_mebibytes(rt: HostRuntime) -> Result<(), Fail> {
     assert!(rt; written.as_slice() == large.as_slice());
     assert!(rt; endless.0.given == 4_194_305, "{}", endless.0.given);
     Ok(())
+}
+
+// Whether a reader is over after a run, and was asked again then.
+fn over_and_asked<R: Read + Drop>(alloc: Global, reader: R) -> (bool, bool) {
+    let mut watched = Uncounted(Watched {
+        reader,
+        given: 0,
+        is_over: false,
+        is_asked_again: false,
+    });
+    let mut written = Vec::new(alloc);
+    let _outcome = run(alloc, &[], &mut watched, &mut written);
+    (watched.0.is_over, watched.0.is_asked_again)
+}
+
+#[test]
+fn asks_no_more_at_the_end(rt: HostRuntime) {
+    for step in [1, 7, usize::MAX] {
+        let source = Source {
+            left: ROW,
+            step,
+            reads: usize::MAX,
+            fault: ErrorKind::Other,
+        };
+        assert!(rt;
+            over_and_asked(rt.alloc(), source) == (true, false),
+            "at {step}"
+        );
+    }
+}
+
+#[test]
+fn asks_no_more_after_a_fault(rt: HostRuntime) {
+    for reads in [0, 1, 5] {
+        for fault in [ErrorKind::Other, ErrorKind::Interrupted] {
+            let source = Source {
+                left: ROW,
+                step: 1,
+                reads,
+                fault,
+            };
+            assert!(rt;
+                over_and_asked(rt.alloc(), source) == (true, false),
+                "at {reads}"
+            );
+        }
+    }
+}
+
+#[test]
+fn asks_no_more_after_four_mebibytes(rt: HostRuntime) {
+    let endless = Endless { given: 0 };
+    assert!(rt; over_and_asked(rt.alloc(), endless) == (true, false));
 }
 
 #[test]

@@ -21,6 +21,7 @@ use Rattle.rohcfn_tool.specs.declared.status.Status.TheVariants as status
 use Rattle.rohcfn_tool.specs.Events.{IsEvent}
 use Rattle.rohcfn_tool.specs.Inputs.{IsBadLine}
 use Rattle.rohcfn_tool.specs.Lined.{AnsweredEvents, AreItemLines, IsEventFault, IsItemPushed, IsPushed, IsRefusedBy, IsSentPrinted, PrintsReceived, PrintsSent, all_received, all_sent, bad_event, bad_event_text, one_refused, up_to_fault}
+use Rattle.rohcfn_tool.specs.OneLine.{IsLine}
 use Rattle.rohcfn_tool.specs.Printed.{Holds, IsRefusal}
 use Rattle.rohcfn_tool.proofs.Replying.{refusal_is}
 
@@ -32,10 +33,10 @@ bad_events_are a input n m written r is same number g =
 
 -- an event that is refused
 pub refused_event_is : (a : Accepting) (events : List Event) (fault : RunFault) (n k : ℕ) (e : PackFault) (text written : List ℕ) (r : Result Answer AllocError) → BlamesRun fault a no_entries (map event_of events) → fault ≡ run.Refused n e
-    → IsEventFault e k text → k ≡ n + 1 → written ≡ text → IfOk r (IsRefusal written) → IfOk r (Holds (PrintsSent a events))
-refused_event_is a events fault n k e text written r blames is spelled number shown g =
+    → IsEventFault e k text → IsLine text → k ≡ n + 1 → written ≡ text → IfOk r (IsRefusal written) → IfOk r (Holds (PrintsSent a events))
+refused_event_is a events fault n k e text written r blames is spelled whole number shown g =
     let stopped = subst (λ (x : RunFault). BlamesRun x a no_entries (map event_of events)) is blames in
-    refusal_is (PrintsSent a events) text written r (one_refused n e text stopped (subst (λ m. IsEventFault e m text) number spelled)) shown g
+    refusal_is (PrintsSent a events) text written r (one_refused n e text stopped (subst (λ m. IsEventFault e m text) number spelled) whole) shown g
 
 -- what is sent
 pub sent_printed : (a : Accepting) (events : List Event) (octets : List ℕ) (found : Found) (r : Result Answer AllocError) → IsRun a (map event_of events) octets found → IfOk r (IsSentPrinted octets found) → IfOk r (Holds (PrintsSent a events))

@@ -18,6 +18,8 @@ use Rattle.fn_engine.specs.declared.reader.UnpackFault.{UnpackFault}
 use Rattle.fn_engine.specs.declared.reader.UnpackFault.TheVariants as reader
 use Rattle.fn_expr.specs.declared.expr.Side.{Side}
 use Rattle.fn_expr.specs.declared.expr.Side.TheVariants as side
+use Rattle.fn_line.specs.declared.fault.LineFault.{LineFault}
+use Rattle.fn_line.specs.declared.fault.LineFault.TheVariants as received
 use Rattle.fn_normal.specs.Faults as profiles
 use Rattle.fn_normal.specs.Words.{word}
 use Rattle.fn_normal.specs.declared.fault.ProfileFaultKind.{ProfileFaultKind}
@@ -38,6 +40,9 @@ use Rattle.fn_source.specs.declared.fault.FaultKind.{FaultKind}
 use Rattle.fn_source.specs.declared.fault.FaultKind.TheVariants as t
 use Rattle.fn_source.specs.declared.span.Span.{Span}
 use Rattle.rohcfn_tool.proofs.BundleLines.{not_ten}
+use Rattle.rohcfn_tool.specs.declared.words.End.{End}
+use Rattle.rohcfn_tool.specs.declared.words.End.TheVariants.{Sending, Receiving}
+use Rattle.rohcfn_tool.specs.Lined.{IsLineFault, bad_event_text, line_part_name}
 use Rattle.rohcfn_tool.specs.OneLine.{IsLine, is_line}
 use Rattle.rohcfn_tool.specs.Printed.{IsPacketFault, format_words, refused_packet}
 use Rattle.rohcfn_tool.specs.ProfileLines.{IsFaultLine, profile_line, text_fault, profile_fault}
@@ -338,7 +343,7 @@ packet_faults reader.Truncated methods n text h is = subst IsLine (sym is) (trun
 packet_faults (reader.Refused at) methods n text h is = subst IsLine (sym is) (refused methods n at h)
 packet_faults reader.OutOfMemory methods n text h is = absurd is
 
--- ---- items
+-- ---- items and events
 
 pub in_item : (n : ℕ) (words : List ℕ) → IsLine words → IsLine (codes "item " ++ decimal n ++ words)
 in_item n words h =
@@ -349,3 +354,32 @@ pub asked_item : (n : ℕ) (x : List ℕ) → is_name x ≡ true → IsLine (cod
 asked_item n x h =
     let words : IsLine (codes ": F2 Asked ") = record { no_feed = refl } in
     joined (in_item n (codes ": F2 Asked ") words) (name x h)
+
+pub in_event : (n : ℕ) (words : List ℕ) → IsLine words → IsLine (codes "event " ++ decimal n ++ words)
+in_event n words h =
+    let event : IsLine (codes "event ") = record { no_feed = refl } in
+    joined (joined event (number n)) h
+
+pub asked_event : (n : ℕ) (x : List ℕ) → is_name x ≡ true → IsLine (codes "event " ++ decimal n ++ codes ": F2 Asked " ++ x)
+asked_event n x h =
+    let words : IsLine (codes ": F2 Asked ") = record { no_feed = refl } in
+    joined (in_event n (codes ": F2 Asked ") words) (name x h)
+
+-- ---- a line of flows
+
+pub bad_events : (n : ℕ) → IsLine (bad_event_text n)
+bad_events n =
+    let events : IsLine (codes "events:") = record { no_feed = refl } in
+    let words : IsLine (codes ": I3 bad event") = record { no_feed = refl } in
+    joined (joined events (number n)) words
+
+pub end_names : (end : End) → IsLine (line_part_name end)
+end_names Sending = record { no_feed = refl }
+end_names Receiving = record { no_feed = refl }
+
+pub line_faults : (fault : LineFault) (text : List ℕ) → IsLineFault fault text → IsLine text
+line_faults received.FlowOctet text is = subst IsLine (sym is) (record { no_feed = refl })
+line_faults received.RefusedPacket text is = subst IsLine (sym is) (record { no_feed = refl })
+line_faults received.Padding text is = subst IsLine (sym is) (record { no_feed = refl })
+line_faults received.Ended text is = subst IsLine (sym is) (record { no_feed = refl })
+line_faults received.OutOfMemory text is = absurd is

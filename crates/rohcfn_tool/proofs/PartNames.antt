@@ -14,7 +14,7 @@ use Rattle.rohcfn_tool.specs.OneLine.{IsLine, is_line}
 use Rattle.rohcfn_tool.specs.Printed.{bad_line_text, context_line, input_name}
 use Rattle.rohcfn_tool.specs.Program.{shown_name}
 use Rattle.rohcfn_tool.proofs.BundleLines.{not_ten}
-use Rattle.rohcfn_tool.proofs.OneLines.{and_parts, joined, number, profile_faults}
+use Rattle.rohcfn_tool.proofs.OneLines.{and_parts, bad_events, end_names, joined, line_faults, number, profile_faults}
 
 -- no line feed stands before the last octet
 ended : List ℕ → Bool
@@ -144,5 +144,9 @@ are_one_line = record {
   context = context_is;
   input = input_is;
   missing = missing_is;
+  end = end_names;
+  event = bad_events;
+  hex = record { no_feed = refl };
+  received = line_faults;
   part = shown_line;
 }

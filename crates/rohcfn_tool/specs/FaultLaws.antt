@@ -1,21 +1,30 @@
 -- A fault is one line, without a line feed.
 use Rattle.std.specs.Prelude.{ℕ, List, Option}
 use Rattle.std.specs.Borrow.{Bor}
+use Rattle.fn_line.specs.declared.fault.LineFault.{LineFault}
 use Rattle.rohcfn_tool.specs.declared.bundle.BadPart.{BadPart}
 use Rattle.rohcfn_tool.specs.declared.words.Direction.{Direction}
+use Rattle.rohcfn_tool.specs.declared.words.End.{End}
 use Rattle.rohcfn_tool.specs.Accepting.{RefusesProfile}
 use Rattle.rohcfn_tool.specs.Bundle.{BlamesPart}
+use Rattle.rohcfn_tool.specs.Lined.{IsLineFault, bad_event_text, bad_hex_text, line_part_name}
 use Rattle.rohcfn_tool.specs.OneLine.{IsLine}
 use Rattle.rohcfn_tool.specs.Printed.{bad_line_text, context_line, input_name}
 use Rattle.rohcfn_tool.specs.ProfileLines.{IsFaultLine}
 use Rattle.rohcfn_tool.specs.Program.{shown_name}
 
--- Each fault line is one line: those of items, packets and `prove` are so where they are printed (`Prints`, `ProvedBy`); these are the others.
+-- Each fault line is one line: those of items, packets, events and `prove` are so where they are printed (`Prints`, `PrintsSent`, `ProvedBy`); these are the
+-- others.
 pub record AreOneLine : Type 0 where
   pub profile : (top octets text : List ℕ) → IsFaultLine top octets text → IsLine text
   pub certificate : (top octets text : List ℕ) (part : Option (Bor (List ℕ))) → RefusesProfile top octets part text → IsLine text
   pub context : (n : ℕ) → IsLine (context_line n)
   pub input : (direction : Direction) (n : ℕ) → IsLine (bad_line_text direction n)
   pub missing : (direction : Direction) → IsLine (input_name direction)
+  -- of `line` and `line --receive`: a missing part, a bad event, bad hex, and what is received
+  pub end : (at : End) → IsLine (line_part_name at)
+  pub event : (n : ℕ) → IsLine (bad_event_text n)
+  pub hex : IsLine bad_hex_text
+  pub received : (fault : LineFault) (text : List ℕ) → IsLineFault fault text → IsLine text
   -- the name of a bad part, as it is shown
   pub part : (input : List ℕ) (bad : BadPart) → BlamesPart input bad → IsLine (shown_name bad)

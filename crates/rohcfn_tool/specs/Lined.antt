@@ -24,6 +24,7 @@ use Rattle.rohcfn_tool.specs.Accepting.{AcceptsProfile, RefusesProfile}
 use Rattle.rohcfn_tool.specs.Events.{AreOctets, IsEvent}
 use Rattle.rohcfn_tool.specs.Inputs.{HasLines, IsBadLine}
 use Rattle.rohcfn_tool.specs.ItemTexts.{IsItemText}
+use Rattle.rohcfn_tool.specs.OneLine.{IsLine}
 
 -- a line for each item: its flow, a blank and its text
 abbrev pub AreItemLines : Found → List ℕ → Type 0
@@ -44,8 +45,8 @@ pub data PrintsSent (a : Accepting) (events : List Event) : Status → List ℕ 
   -- their octets in hex, then the items that a receiver gives, which are those that are sent
   all_sent : (octets : List ℕ) (found : Found) (items : List ℕ) → IsRun a (map event_of events) octets found → AreItemLines found items
       → PrintsSent a events status.Done (encode_lower octets ++ 10 ∷ items)
-  -- the line of the first event that is refused
-  one_refused : (n : ℕ) (e : PackFault) (text : List ℕ) → IsStopped a no_entries (map event_of events) n e → IsEventFault e (n + 1) text
+  -- the line of the first event that is refused, which is one line
+  one_refused : (n : ℕ) (e : PackFault) (text : List ℕ) → IsStopped a no_entries (map event_of events) n e → IsEventFault e (n + 1) text → IsLine text
       → PrintsSent a events status.Refused (text ++ 10 ∷ [])
 
 -- ---- what is received
@@ -78,6 +79,9 @@ line_part_name Receiving = codes "octets"
 abbrev pub bad_event_text : ℕ → List ℕ
 bad_event_text n = codes "events:" ++ decimal n ++ codes ": I3 bad event"
 
+abbrev pub bad_hex_text : List ℕ
+bad_hex_text = codes "octets: I5 bad hex"
+
 -- What is answered at the sending end, by the octets of events.
 pub data AnsweredEvents (a : Accepting) (input : List ℕ) : Status → List ℕ → Type 0 where
   -- a line is no event
@@ -87,7 +91,7 @@ pub data AnsweredEvents (a : Accepting) (input : List ℕ) : Status → List ℕ
 -- What is answered at the receiving end, by the octets of hex digits.
 pub data AnsweredHex (a : Accepting) (input : List ℕ) : Status → List ℕ → Type 0 where
   -- they are no octets
-  bad_hex : ((octets : List ℕ) → AreOctets input octets → ⊥) → AnsweredHex a input status.Refused (codes "octets: I5 bad hex" ++ 10 ∷ [])
+  bad_hex : ((octets : List ℕ) → AreOctets input octets → ⊥) → AnsweredHex a input status.Refused (bad_hex_text ++ 10 ∷ [])
   received_octets : {s : Status} {output : List ℕ} (octets : List ℕ) → AreOctets input octets → PrintsReceived a octets s output → AnsweredHex a input s output
 
 abbrev pub AnsweredEnd : End → Accepting → List ℕ → Status → List ℕ → Type 0

@@ -2,6 +2,7 @@
 
 ghost use Rattle.std.specs.Prelude.{◌≡◌, ◌++◌, IfOk, OnOk, codes, decimal, string_bytes};
 ghost use Rattle.rohcfn_tool.specs.Lined as spec;
+ghost use Rattle.rohcfn_tool.specs.OneLine.{IsLine};
 
 use crate::accepting::{Judged, accept};
 use crate::bundle::Parts;
@@ -125,14 +126,24 @@ fn print_sent(alloc: Global, sent: &Sent) -> Result<Answer, AllocError>
 
 /// The line of a refused event.
 fn event_fault(alloc: Global, number: usize, fault: PackFault) -> Result<String, AllocError>
-    ensures { IfOk result (λ text. spec.IsEventFault fault number (string_bytes text)) }
+    ensures says { IfOk result (λ text. spec.IsEventFault fault number (string_bytes text)) }
+    ensures line { IfOk result (λ text. IsLine (string_bytes text)) }
 {
     match fault {
-        PackFault::HeaderLength => format!(in alloc; "event {number}: F1 HeaderLength"),
-        PackFault::Asked(name) => asked_event(alloc, number, name.as_str()),
-        PackFault::NoFormat => format!(in alloc; "event {number}: F3 NoFormat"),
+        PackFault::HeaderLength => plain_event(alloc, number, ": F1 HeaderLength"),
+        PackFault::Asked(name) => {
+            name.keeps();
+            asked_event(alloc, number, name.as_str())
+        }
+        PackFault::NoFormat => plain_event(alloc, number, ": F3 NoFormat"),
         PackFault::OutOfMemory => Err(AllocError),
     }
+}
+
+fn plain_event(alloc: Global, number: usize, words: &str) -> Result<String, AllocError>
+    ensures { IfOk result (λ text. string_bytes text ≡ codes "event " ++ decimal number ++ words.now) }
+{
+    format!(in alloc; "event {number}{words}")
 }
 
 fn asked_event(alloc: Global, number: usize, name: &str) -> Result<String, AllocError>

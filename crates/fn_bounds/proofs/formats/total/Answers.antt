@@ -1,5 +1,5 @@
-use Rattle.fn_bounds.proofs.Totals.{past-anywhere}
+use Rattle.fn_bounds.proofs.Totals.{part-is-number}
 use Rattle.fn_bounds.proofs.formats.total.Goals as goal
 
-pub returns-in-None : goal.returns-in-None
-returns-in-None c = past-anywhere _ c.loop-part.part-index c.loop-part.sum c.loop-part-test.true c.loop-part.invariant (c.in-None.ensures {u = tt})
+pub plus-sum-requires : goal.plus-sum-requires
+plus-sum-requires c = part-is-number _ c.loop-part.part-index c.loop-part.sum c.loop-part-test.true c.loop-part.invariant c.requires

@@ -1,4 +1,4 @@
-use Rattle.fn_bounds.specs.Methods.{IsWithinAt, IsWide}
+use Rattle.fn_bounds.specs.Methods.{IsShortAt, IsWide}
 use Rattle.fn_bounds.proofs.Folding.{judged-next}
 use Rattle.fn_bounds.proofs.methods.widest.Goals as goal
 
@@ -6,4 +6,4 @@ pub loop-index-preserved : goal.loop-index-preserved
 loop-index-preserved c =
     let methods = c.args.methods.now in
     let table = c.args.table.now in
-    rw c.earlier-found.ensures (judged-next (IsWithinAt methods table) (IsWide methods table) c.loop-index.index c.loop-index.invariant c.too_wide.ensures)
+    rw c.earlier-found.ensures (judged-next (IsShortAt methods table) (IsWide methods table) c.loop-index.index c.loop-index.invariant c.too_wide.ensures)

@@ -20,13 +20,13 @@ pub field_holds-is_coded-requires-clause-ranged : goal.field_holds-is_coded-requ
 field_holds-is_coded-requires-clause-ranged t c = λ n e here.
     let at = ap (λ xs. slice_get xs c.args.place) (sym c.as_slice.ensures)
     ∙ slice_get_read c.as_slice.result.now _ c.args.place c.index-as_slice-place.result (ap length (sym c.as_slice.ensures)) c.requires.1.1.0 c.index-as_slice-place.is in
-    c.requires.1.1.1.0.expressions e (in_encoding c.args.place n at (ap (λ x. slice_get (encoding_exprs x) n) c.in-Library.is ∙ here))
+    c.requires.1.1.1.0.expressions e (in_encoding c.args.place n at (ap (λ x. slice_get (encoding_exprs x) n) (sym c.get.ensures ∙ c.in-Library.is) ∙ here))
 
 pub field_holds-call_holds-requires : goal.field_holds-call_holds-requires
 field_holds-call_holds-requires t c =
     let at = ap (λ xs. slice_get xs c.args.place) (sym c.as_slice.ensures)
     ∙ slice_get_read c.as_slice.result.now _ c.args.place c.index-as_slice-place.result (ap length (sym c.as_slice.ensures)) c.requires.1.1.0 c.index-as_slice-place.is in
-    let is : c.index-as_slice-place.result.encoding ≡ encoding.Call c.in-Call.method c.as_slice-in-Call.result.now = c.in-Call.is ∙ ap (encoding.Call c.in-Call.method) (sym c.as_slice-in-Call.ensures) in (
+    let is : c.index-as_slice-place.result.encoding ≡ encoding.Call c.in-Call.method c.as_slice-in-Call.result.now = sym c.get.ensures ∙ c.in-Call.is ∙ ap (encoding.Call c.in-Call.method) (sym c.as_slice-in-Call.ensures) in (
       (search rules),
       (
         c.requires.1.1.1.0.callees c.args.place c.in-Call.method _ _ at is,
@@ -42,7 +42,7 @@ field_holds-returns-in-Bare t c =
     let at = ap (λ xs. slice_get xs c.args.place) (sym c.as_slice.ensures)
     ∙ slice_get_read c.as_slice.result.now _ c.args.place c.index-as_slice-place.result (ap length (sym c.as_slice.ensures)) c.requires.1.1.0 c.index-as_slice-place.is in
     bare_holds c.args.profile.now.methods (bits_at c.args.context.now) c.args.path.now c.args.level.now.format.now c.args.level.now.filling.now (assignment_of c.args.level.now.known) c.args.place
-    c.index-as_slice-place.result c.args.filled.now c.is_bare.result at c.in-Bare.is c.is_bare.ensures
+    c.index-as_slice-place.result c.args.filled.now c.is_bare.result at (sym c.get.ensures ∙ c.in-Bare.is) c.is_bare.ensures
 
 pub field_holds-returns-in-Library : goal.field_holds-returns-in-Library
 field_holds-returns-in-Library t c =
@@ -54,14 +54,14 @@ field_holds-returns-in-Library t c =
     ok_weaker (λ b. IsTrue b ↔ IsCoded ctx c.args.path.now f a c.index-as_slice-place.result c.in-Library.library c.args.filled.now)
     (λ b. IsTrue b ↔ FieldFitsAt c.args.profile.now.methods ctx c.args.path.now c.args.level.now.format.now f a c.args.place c.args.filled.now) c.is_coded.result
     (λ b same. coded_holds c.args.profile.now.methods ctx c.args.path.now c.args.level.now.format.now f a c.args.place c.index-as_slice-place.result c.in-Library.library c.args.filled.now b at
-    c.in-Library.is same)
+    (sym c.get.ensures ∙ c.in-Library.is) same)
     c.is_coded.ensures
 
 pub field_holds-returns-in-Call : goal.field_holds-returns-in-Call
 field_holds-returns-in-Call t c =
     let at = ap (λ xs. slice_get xs c.args.place) (sym c.as_slice.ensures)
     ∙ slice_get_read c.as_slice.result.now _ c.args.place c.index-as_slice-place.result (ap length (sym c.as_slice.ensures)) c.requires.1.1.0 c.index-as_slice-place.is in
-    let is : c.index-as_slice-place.result.encoding ≡ encoding.Call c.in-Call.method c.as_slice-in-Call.result.now = c.in-Call.is ∙ ap (encoding.Call c.in-Call.method) (sym c.as_slice-in-Call.ensures) in
+    let is : c.index-as_slice-place.result.encoding ≡ encoding.Call c.in-Call.method c.as_slice-in-Call.result.now = sym c.get.ensures ∙ c.in-Call.is ∙ ap (encoding.Call c.in-Call.method) (sym c.as_slice-in-Call.ensures) in
     let f = c.args.level.now.filling.now in
     let a = assignment_of c.args.level.now.known in
     let ctx = bits_at c.args.context.now in

@@ -13,14 +13,14 @@ pub is_coded-requires-clause-ranged : goal.is_coded-requires-clause-ranged
 is_coded-requires-clause-ranged c = λ n e here.
     let at = ap (λ xs. slice_get xs c.args.place) (sym c.as_slice.ensures)
     ∙ slice_get_read c.as_slice.result.now _ c.args.place c.index-as_slice-place.result (ap length (sym c.as_slice.ensures)) c.requires.within c.index-as_slice-place.is in
-    c.requires.ready.expressions e (in_encoding c.args.place n at (ap (λ x. slice_get (encoding_exprs x) n) c.in-Library.is ∙ here))
+    c.requires.ready.expressions e (in_encoding c.args.place n at (ap (λ x. slice_get (encoding_exprs x) n) (sym c.get.ensures ∙ c.in-Library.is) ∙ here))
 
 pub returns-in-Bare : goal.returns-in-Bare
 returns-in-Bare c =
     let at = ap (λ xs. slice_get xs c.args.place) (sym c.as_slice.ensures)
     ∙ slice_get_read c.as_slice.result.now _ c.args.place c.index-as_slice-place.result (ap length (sym c.as_slice.ensures)) c.requires.within c.index-as_slice-place.is in
     not_where_false c.is_bare.result (bare_holds c.args.profile.now.methods (bits_at c.args.context.now) c.args.path.now c.args.level.now.format.now c.args.level.now.filling.now
-    (assignment_of c.args.level.now.known) c.args.place c.index-as_slice-place.result c.args.filled.now c.is_bare.result at c.in-Bare.is c.is_bare.ensures)
+    (assignment_of c.args.level.now.known) c.args.place c.index-as_slice-place.result c.args.filled.now c.is_bare.result at (sym c.get.ensures ∙ c.in-Bare.is) c.is_bare.ensures)
 
 pub returns-in-Library : goal.returns-in-Library
 returns-in-Library c =
@@ -32,5 +32,5 @@ returns-in-Library c =
     ok_weaker (λ b. IsTrue b ↔ IsCoded ctx c.args.path.now f a c.index-as_slice-place.result c.in-Library.library c.args.filled.now)
     (λ b. b ≡ false → FieldFitsAt c.args.profile.now.methods ctx c.args.path.now c.args.level.now.format.now f a c.args.place c.args.filled.now → ⊥) c.is_coded.result
     (λ b same. not_where_false b (coded_holds c.args.profile.now.methods ctx c.args.path.now c.args.level.now.format.now f a c.args.place c.index-as_slice-place.result c.in-Library.library
-    c.args.filled.now b at c.in-Library.is same))
+    c.args.filled.now b at (sym c.get.ensures ∙ c.in-Library.is) same))
     c.is_coded.ensures

@@ -8,7 +8,7 @@ use Rattle.fn_methods.proofs.listing.listed_formats.Goals as goal
 pub add_section-requires-clause-section : goal.add_section-requires-clause-section
 add_section-requires-clause-section c =
     subst (SectionIsWorded c.args.setting.now.text.now) (sym c.section-item.is)
-    (one_of (SectionIsWorded c.args.setting.now.text.now) c.args.setting.now.sections.now c.loop-place.place _ c.requires c.loop-place-test.true)
+    (one_of (SectionIsWorded c.args.setting.now.text.now) c.args.setting.now.sections.now c.loop-place.place _ c.requires.sections c.loop-place-test.true)
 
 pub loop-place-preserved : goal.loop-place-preserved
 loop-place-preserved c = λ base default.

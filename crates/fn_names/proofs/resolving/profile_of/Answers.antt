@@ -1,6 +1,7 @@
 use Rattle.std.proofs.Common.{refl, length}
 use Rattle.fn_names.specs.Resolved.{too_large}
 use Rattle.fn_names.proofs.Passes.{bounds_refused, sound}
+use Rattle.fn_names.proofs.KeptWeights.{kept_are_light, kept_are_called}
 use Rattle.fn_names.proofs.Using.{uses_within, order_of_kept}
 use Rattle.fn_names.proofs.resolving.profile_of.Goals as goal
 
@@ -10,8 +11,18 @@ returns-in-Some-clause-refused c = too_large ((rw c.as_slice-2.ensures at c.in_o
 pub reached_methods-requires-clause-within : goal.reached_methods-requires-clause-within
 reached_methods-requires-clause-within c = uses_within c.args.order.now c.args.methods c.requires.order
 
-pub sizes-requires : goal.sizes-requires
-sizes-requires c = rw c.as_slice-5.ensures (order_of_kept (length c.args.methods) c.args.order.now c.args.methods c.in_ok-methods.methods c.args.top refl c.requires.order c.in_ok-methods.ensures)
+pub sizes-requires-clause-order : goal.sizes-requires-clause-order
+sizes-requires-clause-order c =
+    rw c.as_slice-5.ensures (order_of_kept (length c.args.methods) c.args.order.now c.args.methods c.in_ok-methods.methods c.args.top refl c.requires.order c.in_ok-methods.ensures)
+
+pub sizes-requires-clause-light : goal.sizes-requires-clause-light
+sizes-requires-clause-light c =
+    let limits = (rw c.as_slice-2.ensures at c.in_ok-fault.ensures).fine c.in_default.is in
+    rw c.as_slice-5.ensures (kept_are_light c.args.methods c.in_ok-methods.methods c.args.top c.args.order.now c.requires.order limits.light c.requires.well_formed c.in_ok-methods.ensures)
+
+pub sizes-requires-clause-called : goal.sizes-requires-clause-called
+sizes-requires-clause-called c =
+    rw c.as_slice-5.ensures (kept_are_called c.args.methods c.in_ok-methods.methods c.args.top c.requires.plain c.requires.well_formed c.in_ok-methods.ensures)
 
 pub of-requires : goal.of-requires
 of-requires c =

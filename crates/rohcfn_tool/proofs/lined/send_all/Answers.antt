@@ -7,4 +7,4 @@ returns-in-Ok c = sent_printed c.args.accepted.now c.args.events.now _ _ c.print
 
 pub returns-in_ok-line-in-Err-Refused : goal.returns-in_ok-line-in-Err-Refused
 returns-in_ok-line-in-Err-Refused c =
-    refused_event_is c.args.accepted.now c.args.events.now c.in-Err-Refused.field-0 c.in-Err-Refused.index _ c.in-Err-Refused.fault _ _ c.refusal.result c.in-Err-Refused.ensures.fault c.in-Err-Refused.field-0-is c.in_ok-line-in-Err-Refused.ensures (search rules) c.as_str.ensures.value c.refusal.ensures
+    refused_event_is c.args.accepted.now c.args.events.now c.in-Err-Refused.field-0 c.in-Err-Refused.index _ c.in-Err-Refused.fault _ _ c.refusal.result c.in-Err-Refused.ensures.fault c.in-Err-Refused.field-0-is c.in_ok-line-in-Err-Refused.ensures.says c.in_ok-line-in-Err-Refused.ensures.line (search rules) c.as_str.ensures.value c.refusal.ensures

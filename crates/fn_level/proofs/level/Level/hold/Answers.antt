@@ -19,9 +19,9 @@ invariant_of-self c =
     let new = slice_set old c.args.field (with_inner c.args.inner slot) in
     let same = sides_same c.args.inner old c.args.field slot (here c) in
     record {
-      numbers = up_to_date_held c.args.inner i.format.now i.sizes.now old c.args.field slot (here c) i.headers i.known c.self.invariant.numbers;
-      uncompressed = front_same old new same Uncompressed i.headers i.fronts.uncompressed i.known.whole.uncompressed c.self.invariant.uncompressed;
-      compressed = front_same old new same Compressed i.format.now.listing i.fronts.compressed i.known.whole.compressed c.self.invariant.compressed;
+      numbers = up_to_date_held c.args.inner i.format.now i.sizes.now old c.args.field slot (here c) i.headers i.whole i.parameters c.self.invariant.numbers;
+      uncompressed = front_same old new same Uncompressed i.headers i.fronts.uncompressed i.whole.uncompressed c.self.invariant.uncompressed;
+      compressed = front_same old new same Compressed i.format.now.listing i.fronts.compressed i.whole.compressed c.self.invariant.compressed;
     }
 
 pub returns : goal.returns

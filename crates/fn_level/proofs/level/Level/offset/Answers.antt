@@ -2,7 +2,7 @@ use Rattle.std.proofs.Common.{◌∙◌, sym, ap, subst, ◌<◌, ◌^◌, lengt
 use Rattle.fn_rules.specs.Facts.{before}
 use Rattle.fn_level.specs.Joined.{joined_bits}
 use Rattle.fn_level.specs.Fronts.{IsMeasured}
-use Rattle.fn_level.specs.Level.{parts_of}
+use Rattle.fn_level.specs.Level.{parts_of, known_by}
 use Rattle.fn_level.proofs.Kept.{offset_short}
 use Rattle.fn_level.proofs.level.Level.offset.Goals as goal
 
@@ -14,6 +14,6 @@ offset_by-requires-clause-measured c =
 pub offset_by-requires-clause-short : goal.offset_by-requires-clause-short
 offset_by-requires-clause-short c =
     let i = c.self.inside in
-    let short = offset_short i.format.now i.sizes.now i.headers i.slots.items i.known c.self.invariant.numbers c.args.side c.args.field in
+    let short = offset_short i.format.now i.sizes.now i.headers i.slots.items (known_by i.slots.items i.whole i.parameters) c.self.invariant.numbers c.args.side c.args.field in
     let parts = ap (before c.args.field) (c.parts.ensures ∙ ap (λ z. parts_of z.format c.args.side) (sym c.self.view_is)) in
     subst (λ xs. length (joined_bits xs c.args.side (before c.args.field c.parts.result.now)) < 2 ^ 31) (sym c.as_slice.ensures.value) (subst (λ p. length (joined_bits i.slots.items c.args.side p) < 2 ^ 31) (sym parts) short)

@@ -1,0 +1,205 @@
+//! What UNCOMPRESSED and CONTROL say, kept once for all formats of a method.
+
+ghost use Rattle.std.specs.Prelude.{◌≡◌, None, IfOk, IfSome};
+ghost use Rattle.std.specs.List.{AllZip};
+ghost use Rattle.std.specs.Option.{option_copied};
+ghost use Rattle.fn_statements.specs.Encodings as encodings;
+ghost use Rattle.fn_formats.specs.Kept as spec;
+
+use crate::drafts::Setting;
+use fn_expr::Side;
+use fn_normal::{Constraint, Encoding, Shared, fault_of};
+use fn_sections::mention::is_in;
+use fn_sections::{Group, Mention, in_order};
+use fn_statements::{Methods, encoding, section_constraints};
+use fn_terms::Scope;
+use fn_tree::{Bound, Item, Section};
+use sqlite_items::Items;
+use std::alloc::{AllocError, Global};
+use std::slice::from_ref;
+
+/// The constraints and the encoding of a statement. What is None has to be resolved in each format.
+#[derive(Drop)]
+pub struct KeptStatement {
+    pub constraints: Option<Items<Shared<Constraint>>>,
+    pub encoding: Option<Shared<Encoding>>,
+}
+
+/// The statements of a method's sections in their order; none of a section other than UNCOMPRESSED and CONTROL.
+#[derive(Drop)]
+pub struct Kept {
+    pub sections: Items<Items<KeptStatement>>,
+}
+
+impl Kept {
+    /// The constraints that are kept of a statement, by the numbers of its section and its place there.
+    pub(crate) fn constraints(
+        &self,
+        section: usize,
+        place: usize,
+    ) -> Option<&Items<Shared<Constraint>>>
+        ensures { option_copied result ≡ spec.constraints_at self.now section place }
+    {
+        let statements = self.sections.get(section)?;
+        let statement = statements.get(place)?;
+        match &statement.constraints {
+            Some(constraints) => Some(constraints),
+            None => None,
+        }
+    }
+
+    /// The encoding that is kept of the statement of a mention.
+    pub(crate) fn encoding(&self, mention: Mention) -> Option<&Shared<Encoding>>
+        ensures { option_copied result ≡ spec.encoding_kept self.now mention }
+    {
+        let statements = self.sections.get(mention.section)?;
+        let statement = statements.get(mention.item)?;
+        match &statement.encoding {
+            Some(encoding) => Some(encoding),
+            None => None,
+        }
+    }
+}
+
+/// What the statements of UNCOMPRESSED and CONTROL say in each format of the method of this setting, as far as they name no local field.
+pub fn kept_statements(alloc: Global, setting: &Setting<'_, '_>) -> Result<Kept, AllocError>
+    ensures { IfOk result (spec.HasKept setting.now) }
+{
+    let fields = in_order(alloc, setting.text, setting.sections, &[])?;
+    let scope = Scope::new(
+        setting.text,
+        setting.constants,
+        setting.values,
+        setting.parameters,
+        &fields.words,
+    );
+    let sections = kept_sections(alloc, &scope, setting.methods, setting.sections)?;
+    Ok(Kept { sections })
+}
+
+fn kept_sections(
+    alloc: Global,
+    scope: &Scope<'_, '_>,
+    methods: &Methods<'_>,
+    sections: &[Section],
+) -> Result<Items<Items<KeptStatement>>, AllocError>
+    ensures { IfOk result (AllZip (spec.SectionIsKept scope.now methods.now) sections.now) }
+{
+    let mut kept = Items::new(alloc);
+    for section in sections {
+        kept.push(kept_section(alloc, scope, methods, section)?)?;
+    }
+    Ok(kept)
+}
+
+fn kept_section(
+    alloc: Global,
+    scope: &Scope<'_, '_>,
+    methods: &Methods<'_>,
+    section: &Section,
+) -> Result<Items<KeptStatement>, AllocError>
+    ensures { IfOk result (spec.SectionIsKept scope.now methods.now section.now) }
+{
+    if is_in(Group::Base, section.kind) {
+        kept_items(alloc, scope, methods, section.items.as_slice())
+    } else {
+        Ok(Items::new(alloc))
+    }
+}
+
+fn kept_items(
+    alloc: Global,
+    scope: &Scope<'_, '_>,
+    methods: &Methods<'_>,
+    items: &[Item],
+) -> Result<Items<KeptStatement>, AllocError>
+    ensures { IfOk result (AllZip (spec.IsKept scope.now methods.now) items.now) }
+{
+    let mut kept = Items::new(alloc);
+    for item in items {
+        kept.push(kept_statement(alloc, scope, methods, item)?)?;
+    }
+    Ok(kept)
+}
+
+fn kept_statement(
+    alloc: Global,
+    scope: &Scope<'_, '_>,
+    methods: &Methods<'_>,
+    item: &Item,
+) -> Result<KeptStatement, AllocError>
+    ensures { IfOk result (spec.IsKept scope.now methods.now item.now) }
+{
+    let constraints = kept_constraints(alloc, scope, item)?;
+    let encoding = kept_encoding(alloc, scope, methods, item)?;
+    Ok(KeptStatement {
+        constraints,
+        encoding,
+    })
+}
+
+/// The constraints of a statement, where it has no fault and its field is in the scope.
+fn kept_constraints(
+    alloc: Global,
+    scope: &Scope<'_, '_>,
+    item: &Item,
+) -> Result<Option<Items<Shared<Constraint>>>, AllocError>
+    ensures { IfOk result (λ kept. IfSome kept (spec.Says scope.now item.now)) }
+{
+    if !names_field(scope, item) {
+        return Ok(None);
+    }
+    match section_constraints(alloc, scope, Side::Uncompressed, from_ref(item)) {
+        Ok(found) => Ok(Some(found)),
+        Err(error) => {
+            let _fault = fault_of(error)?;
+            Ok(None)
+        }
+    }
+}
+
+/// Whether the field of a statement is in the scope. An ENFORCE has none.
+fn names_field(scope: &Scope<'_, '_>, item: &Item) -> bool
+    ensures { result ≡ spec.names_field scope.now item.now }
+{
+    match item {
+        Item::Field(name, _) => scope.field(*name).is_some(),
+        Item::Bound(bound) => scope.field(bound.name).is_some(),
+        Item::Enforce(_, _) => true,
+    }
+}
+
+/// The encoding that a statement gives, where it has no fault.
+fn kept_encoding(
+    alloc: Global,
+    scope: &Scope<'_, '_>,
+    methods: &Methods<'_>,
+    item: &Item,
+) -> Result<Option<Shared<Encoding>>, AllocError>
+    ensures { IfOk result (λ kept. IfSome kept (spec.Gives scope.now methods.now item.now)) }
+{
+    match item {
+        Item::Bound(bound) => bound_encoding(alloc, scope, methods, bound),
+        _ => Ok(None),
+    }
+}
+
+fn bound_encoding(
+    alloc: Global,
+    scope: &Scope<'_, '_>,
+    methods: &Methods<'_>,
+    bound: &Bound,
+) -> Result<Option<Shared<Encoding>>, AllocError>
+    ensures { IfOk result (λ kept. IfSome kept (spec.IsGiven scope.now methods.now bound.now.encoding)) }
+{
+    match encoding(alloc, scope, methods, &bound.encoding) {
+        Ok(found) => {
+            let shared = Shared::new(alloc, found)?;
+            Ok(Some(shared))
+        }
+        Err(error) => {
+            let _fault = fault_of(error)?;
+            Ok(None)
+        }
+    }
+}
