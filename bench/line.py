@@ -1,22 +1,14 @@
 #!/usr/bin/env python3
 """Growth of `line` and `line --receive` over the packets of 16 flows, on the built program, and what a packet costs the receiver by its octets, since it tries after each. What is printed is computed here, by the
 layout of the two formats of tick."""
-from measure import best_of, grows, report
+import pathlib
+import sys
 
-PROFILE = """tick
-{
-  UNCOMPRESSED { sn [8]; }
-  COMPRESSED short {
-    d =:= '0' [1];
-    sn =:= lsb(4, 1) [4];
-    c =:= crc(3, 0x06, 0x07, THIS.UVALUE, THIS.ULENGTH) [3];
-  }
-  COMPRESSED full {
-    d =:= '1' [1];
-    sn =:= irregular(8) [8];
-  }
-}
-"""
+sys.path.append(str(pathlib.Path(__file__).parent.parent / "examples"))
+
+from measure import best_of, grows, report
+from samples import TICK as PROFILE
+
 SIZES = [3750, 7500, 15000, 30000, 60000]
 FLOWS = 16
 

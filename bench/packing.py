@@ -3,40 +3,17 @@
 
 The lines are of five profiles: `plain` (two fields), `tick` (a reference, a checksum, two formats), `opt` (a call whose method goes by a flag), `six` (64 formats) and `wide` (64 bits). What is due is worked out here, from the
 notation's rules."""
+import pathlib
 import random
+import sys
+
+sys.path.append(str(pathlib.Path(__file__).parent.parent / "examples"))
+
 from growth import PROFILE as PLAIN
 from measure import best_of, grows, report
+from samples import OPT, TICK
 
 SIZES = [2000, 15000, 30000, 60000]
-TICK = """tick
-{
-  UNCOMPRESSED { sn [8]; }
-  COMPRESSED short {
-    d =:= '0' [1];
-    sn =:= lsb(4, 1) [4];
-    c =:= crc(3, 0x06, 0x07, THIS.UVALUE, THIS.ULENGTH) [3];
-  }
-  COMPRESSED full {
-    d =:= '1' [1];
-    sn =:= irregular(8) [8];
-  }
-}
-"""
-OPT = """static_or_irreg(flag, width)
-{
-  UNCOMPRESSED { field [width]; }
-  COMPRESSED irreg_enc { ENFORCE(flag == 1); field =:= irregular(width) [width]; }
-  COMPRESSED static_enc { ENFORCE(flag == 0); field =:= static [0]; }
-}
-opt
-{
-  UNCOMPRESSED { ttl [8]; }
-  COMPRESSED {
-    flag =:= irregular(1) [1];
-    ttl =:= static_or_irreg(flag.CVALUE, 8) [0, 8];
-  }
-}
-"""
 SIX = "six { UNCOMPRESSED { x [6]; }\n%s}\n" % "".join("  COMPRESSED f%d { d =:= '%s' [6]; x =:= uncompressed_value(6, %d); }\n" % (i, format(i, "06b"), i) for i in range(64))
 WIDE = "wide { UNCOMPRESSED { x [64]; } COMPRESSED { x =:= irregular(64) [64]; } }\n"
 PROFILES = {"plain": PLAIN, "tick": TICK, "opt": OPT, "six": SIX, "wide": WIDE}

@@ -124,12 +124,15 @@ def words(size):
     return profile
 
 
+def case(profile):
+    """A row's case: `show` of the text."""
+    text = ("\n".join(profile.lines) + "\n").encode()
+    due = ("\n".join(profile.shown) + "\n").encode()
+    return len(text), b"=== words\nshow --top top\n=== profile\n" + text, 0, due, len(text)
+
+
 def cases(make):
-    for size in SIZES:
-        profile = make(size)
-        text = ("\n".join(profile.lines) + "\n").encode()
-        due = ("\n".join(profile.shown) + "\n").encode()
-        yield len(text), b"=== words\nshow --top top\n=== profile\n" + text, 0, due, len(text)
+    return (case(make(size)) for size in SIZES)
 
 
 def main():

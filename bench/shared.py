@@ -4,7 +4,7 @@
 Each text is one method of 64 formats over one long UNCOMPRESSED, whose statements each format has. It is free of faults and is shown whole. What UNCOMPRESSED
 says is kept once, so the memory is that of the text and not of 64 copies of it."""
 from measure import MIB, grows, report
-from resolve import SIZES, Profile
+from resolve import SIZES, Profile, case
 
 FORMATS = 64
 STATEMENT = MIB // 124
@@ -36,9 +36,7 @@ def cases(make):
         profile = Profile()
         formats = [("f%d" % k, 0, 0, []) for k in range(FORMATS)]
         profile.method("top", make(size // STATEMENT), formats)
-        text = ("\n".join(profile.lines) + "\n").encode()
-        due = ("\n".join(profile.shown) + "\n").encode()
-        yield len(text), b"=== words\nshow --top top\n=== profile\n" + text, 0, due, len(text)
+        yield case(profile)
 
 
 def main():
@@ -47,4 +45,5 @@ def main():
     report("shared", all([grows(make.__name__, cases(make), 64) for make in (brackets, encodings, conditions)]))
 
 
-main()
+if __name__ == "__main__":
+    main()
