@@ -11,3 +11,4 @@ pub mod Widening
 pub mod Rows
 pub mod Weighing
 pub mod Agreeing
+pub mod Reaching

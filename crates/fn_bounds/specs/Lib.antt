@@ -7,6 +7,8 @@ pub mod Weights
 pub mod Ranging
 pub mod Known
 pub mod Faults
+pub mod Reach
+pub mod Quiet
 pub mod Parameters
 pub mod Outcome
 pub mod Laws

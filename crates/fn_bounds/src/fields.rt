@@ -209,12 +209,12 @@ fn encoded_fields(
 ) -> Result<Items<Sizes>, AllocError>
     ensures { IfOk result (λ t. t ≡ indexed (spec.encoded_sizes methods.now format.now) 0 format.now.fields) }
 {
-    let mut sizes = Items::new(alloc);
+    let mut sizes = Vec::with_capacity(alloc, format.fields.len())?;
     for field in format.fields.as_slice() {
         let index = sizes.len();
         sizes.push(encoded_sizes(alloc, methods, format, index, field))?;
     }
-    Ok(sizes)
+    Ok(Items::from_vec(sizes))
 }
 
 /// The bounds of the fields of a format, from those of the methods. It passes once over the constraints.

@@ -50,56 +50,38 @@ fn header_bounds(sizes: &[Sizes], index: usize, field: &Field) -> Bounds
     }
 }
 
-fn header_parts(
-    alloc: Global,
-    sizes: &[Sizes],
-    fields: &[Field],
-) -> Result<Items<Bounds>, AllocError>
-    ensures { IfOk result (λ t. t ≡ indexed (spec.header_bounds sizes.now) 0 fields.now) }
-{
-    let mut parts = Items::new(alloc);
-    for field in fields {
-        let index = parts.len();
-        parts.push(header_bounds(sizes, index, field))?;
-    }
-    Ok(parts)
-}
-
-fn packed_parts(
-    alloc: Global,
-    sizes: &[Sizes],
-    listing: &[usize],
-) -> Result<Items<Bounds>, AllocError>
-    ensures { IfOk result (λ t. t ≡ map (λ i. (spec.sizes_at sizes.now i).compressed) listing.now) }
-{
-    let mut parts = Items::new(alloc);
-    for listed in listing {
-        parts.push(sizes_at(sizes, *listed).compressed)?;
-    }
-    Ok(parts)
-}
-
-fn total(parts: &[Bounds]) -> Bounds
-    requires { spec.AreNumbers (spec.total parts.now) }
-    ensures { result ≡ spec.total parts.now }
+fn header_total(sizes: &[Sizes], fields: &[Field]) -> Bounds
+    requires { spec.AreNumbers (spec.total (indexed (spec.header_bounds sizes.now) 0 fields.now)) }
+    ensures { result ≡ spec.total (indexed (spec.header_bounds sizes.now) 0 fields.now) }
 {
     let mut sum = NO_BITS;
-    for part in parts {
-        sum = plus(sum, *part);
+    let mut place = 0;
+    for field in fields {
+        sum = plus(sum, header_bounds(sizes, place, field));
+        place += 1;
     }
     sum
 }
 
-fn whole_sizes(alloc: Global, format: &Format, fields: &[Sizes]) -> Result<Sizes, AllocError>
-    requires { spec.HaveNumbers (spec.whole_sizes format.now fields.now) }
-    ensures { IfOk result (λ s. s ≡ spec.whole_sizes format.now fields.now) }
+fn packed_total(sizes: &[Sizes], listing: &[usize]) -> Bounds
+    requires { spec.AreNumbers (spec.total (map (λ i. (spec.sizes_at sizes.now i).compressed) listing.now)) }
+    ensures { result ≡ spec.total (map (λ i. (spec.sizes_at sizes.now i).compressed) listing.now) }
 {
-    let header = header_parts(alloc, fields, format.fields.as_slice())?;
-    let packed = packed_parts(alloc, fields, format.listing.as_slice())?;
-    Ok(Sizes {
-        uncompressed: total(header.as_slice()),
-        compressed: total(packed.as_slice()),
-    })
+    let mut sum = NO_BITS;
+    for listed in listing {
+        sum = plus(sum, sizes_at(sizes, *listed).compressed);
+    }
+    sum
+}
+
+fn whole_sizes(format: &Format, fields: &[Sizes]) -> Sizes
+    requires { spec.HaveNumbers (spec.whole_sizes format.now fields.now) }
+    ensures { result ≡ spec.whole_sizes format.now fields.now }
+{
+    Sizes {
+        uncompressed: header_total(fields, format.fields.as_slice()),
+        compressed: packed_total(fields, format.listing.as_slice()),
+    }
 }
 
 /// The bounds of a format from those of the methods.
@@ -112,6 +94,6 @@ pub(crate) fn format_sizes(
     ensures { IfOk result (λ s. s ≡ spec.format_sizes methods.now format.now) }
 {
     let fields = fields_sizes(alloc, methods, format)?;
-    let whole = whole_sizes(alloc, format, fields.as_slice())?;
+    let whole = whole_sizes(format, fields.as_slice());
     Ok(FormatSizes { fields, whole })
 }

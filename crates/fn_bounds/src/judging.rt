@@ -4,9 +4,11 @@ ghost use Rattle.std.specs.Prelude.{◌≡◌, Some, IfOk};
 ghost use Rattle.std.specs.Option.{option_copied};
 ghost use Rattle.fn_normal.specs.Judging.{earlier};
 ghost use Rattle.fn_bounds.specs.Faults as spec;
+ghost use Rattle.fn_bounds.specs.Ranging.{format_ranges};
 
 use crate::formats::sizes_at;
 use crate::known::{Extent, condition_range_fault, range_fault};
+use crate::quiet::format_quiet;
 use crate::ranging::{WIDEST_VALUE, format_ranges};
 use fn_expr::{Attribute, Cond, Expr, Interval, Measure, Ranges, Side, Subject};
 use fn_normal::{
@@ -20,7 +22,7 @@ use std::alloc::{AllocError, Global};
 /// How many octets the word THIS has.
 const THIS_LENGTH: usize = 4;
 
-fn side_bounds(side: Side, sizes: Sizes) -> Bounds
+pub(crate) fn side_bounds(side: Side, sizes: Sizes) -> Bounds
     ensures { result ≡ spec.side_bounds side sizes }
 {
     match side {
@@ -291,6 +293,22 @@ pub(crate) fn format_fault(
     )
 }
 
+fn judged(
+    alloc: Global,
+    extent: Extent,
+    parameters: &[Interval],
+    format: &Format,
+    sizes: &FormatSizes,
+) -> Result<Option<ProfileFault>, AllocError>
+    ensures { IfOk result (λ o. o ≡ spec.format_fault extent format.now sizes.now (format_ranges sizes.now parameters.now)) }
+{
+    if format_quiet(extent, sizes, parameters, format) {
+        return Ok(None);
+    }
+    let ranges = format_ranges(alloc, sizes, parameters)?;
+    Ok(format_fault(extent, format, sizes, &ranges))
+}
+
 fn sized_fault(
     alloc: Global,
     extent: Extent,
@@ -301,10 +319,7 @@ fn sized_fault(
     ensures { IfOk result (λ o. o ≡ spec.sized_fault extent parameters.now format.now (option_copied sizes.entry)) }
 {
     match sizes {
-        Some(sizes) => {
-            let ranges = format_ranges(alloc, sizes, parameters)?;
-            Ok(format_fault(extent, format, sizes, &ranges))
-        }
+        Some(sizes) => judged(alloc, extent, parameters, format, sizes),
         None => Ok(None),
     }
 }

@@ -12,4 +12,6 @@ mod known;
 pub mod laws;
 pub mod methods;
 mod parameters;
+mod quiet;
 pub mod ranging;
+mod reach;

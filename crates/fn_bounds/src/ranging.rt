@@ -20,9 +20,10 @@ const GREATEST: u128 = 0x1_0000_0000_0000_0000;
 fn value_range(most: u128) -> Interval
     ensures { result ≡ spec.value_range most }
 {
+    let many: u128 = 1 << most.min(WIDEST_RANGE);
     Interval {
         from: 0,
-        to: 2i128.pow(most.min(WIDEST_RANGE) as u32) - 1,
+        to: (many - 1) as i128,
     }
 }
 
@@ -56,11 +57,11 @@ fn side_ranges(sizes: Sizes) -> SideIntervals
 fn fields_ranges(alloc: Global, sizes: &[Sizes]) -> Result<Items<SideIntervals>, AllocError>
     ensures { IfOk result (λ r. r ≡ map spec.side_ranges sizes.now) }
 {
-    let mut ranges = Items::new(alloc);
+    let mut ranges = Vec::with_capacity(alloc, sizes.len())?;
     for size in sizes {
         ranges.push(side_ranges(*size))?;
     }
-    Ok(ranges)
+    Ok(Items::from_vec(ranges))
 }
 
 /// The ranges in a format, from its bounds and from the ranges of the method's parameters.

@@ -24,14 +24,13 @@ use Rattle.fn_sections.specs.Mentions.{first_of, firsts, names_of, mentions_in}
 use Rattle.fn_terms.specs.Names.{Names, names}
 use Rattle.fn_terms.proofs.Staying.{widened}
 use Rattle.fn_statements.specs.declared.callee.Methods.{Methods}
-use Rattle.fn_statements.specs.Constraints.{AreConstraints, item_fault, items_fault}
+use Rattle.fn_statements.specs.Constraints.{ItemMeans, item_fault}
 use Rattle.fn_formats.specs.declared.drafts.Setting.{Setting}
 use Rattle.fn_formats.specs.declared.kept.Kept.{Kept}
 use Rattle.fn_formats.specs.declared.kept.KeptStatement.{KeptStatement}
 use Rattle.fn_formats.specs.Encodings.{GivenMeans, encoded, given_fault, FieldMeans, field_fault}
 use Rattle.fn_formats.specs.Kept.{names_field, Says, IsGiven, Gives, gives, IsKept, SectionIsKept, each, none, AreKept, base_scope, HasKept, statement_at, AreSaid, AreGiven}
 use Rattle.fn_formats.proofs.Gathering.{all_more}
-use Rattle.fn_formats.proofs.Numbering.{single, or_none}
 use Rattle.fn_formats.proofs.Staying.{said_stays, gives_stays}
 
 -- ---- lists side by side
@@ -57,8 +56,8 @@ zip_as R S f (x ∷ xs) (y ∷ ys) h = (f x y h.0, zip_as R S f xs ys h.1)
 
 -- ---- what is kept of one statement
 
-pub said_here : (s : Names) (item : Item) (cs : List Constraint) (b : Bool) → b ≡ names_field s item → b ≡ true → AreConstraints s Uncompressed (item ∷ []) cs → items_fault s (item ∷ []) ≡ None → Says s item cs
-said_here s item cs b is e are fine = record { named = sym is ∙ e; means = single item cs are; fine = sym (or_none (item_fault s item)) ∙ fine }
+pub said_here : (s : Names) (item : Item) (cs : List Constraint) (b : Bool) → b ≡ names_field s item → b ≡ true → ItemMeans s Uncompressed item cs → item_fault s item ≡ None → Says s item cs
+said_here s item cs b is e means fine = record { named = sym is ∙ e; means = means; fine = fine }
 
 pub bound_kept : {E : Type 0} (s : Names) (methods : Methods) (b : Bound) (r : Result (Option Encoding) E) → IfOk r (λ kept. IfSome kept (IsGiven s methods b.encoding))
     → IfOk r (λ kept. IfSome kept (Gives s methods (items.Bound b)))
@@ -182,7 +181,7 @@ field_given : (s : Names) (methods : Methods) (sections : List Section) (m : Men
     → FieldMeans s methods sections (Some m) e × (field_fault s methods sections (Some m) ≡ None)
 field_given s methods sections m g e at h = (subst (λ o. GivenMeans s methods o e) (sym at) (encoded h.means), ap (given_fault s methods) at ∙ h.fine)
 
-at_place : (sections : List Section) (m : Mention) (section : Section) (item : Item) → slice_get sections m.section ≡ Some section → slice_get section.items m.item ≡ Some item
+pub at_place : (sections : List Section) (m : Mention) (section : Section) (item : Item) → slice_get sections m.section ≡ Some section → slice_get section.items m.item ≡ Some item
     → encoding_at sections m ≡ encoding_of item
 at_place sections m section item at item_at =
     ap (option_and_then (λ (z : Section). option_and_then encoding_of (slice_get z.items m.item))) at ∙ ap (option_and_then encoding_of) item_at

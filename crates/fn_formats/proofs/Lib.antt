@@ -3,3 +3,4 @@ pub mod Numbering
 pub mod Wording
 pub mod Staying
 pub mod Keeping
+pub mod Hiding

@@ -1,7 +1,6 @@
 -- The constraints of a format's statements, one statement after the other.
 use Rattle.std.proofs.Common.{◌≡◌, ◌∙◌, ap, ℕ, ◌+◌, List, [], ◌∷◌, ◌++◌, ◌≤◌, length, refl, sym, subst, suc, zero, drop, fold, arith, cond, Bool, true, false, append_assoc, append-nil}
 use Rattle.std.specs.Prelude.{slice_get, Some, None, Option}
-use Rattle.std.specs.Option.{option_or}
 use Rattle.fn_tree.specs.declared.tree.Item.{Item}
 use Rattle.fn_expr.specs.declared.expr.Side.{Side}
 use Rattle.fn_expr.specs.declared.expr.Side.TheVariants.{Uncompressed}
@@ -10,38 +9,29 @@ use Rattle.fn_normal.specs.declared.profile.Constraint.{Constraint}
 use Rattle.fn_normal.specs.Judging.{earlier}
 use Rattle.fn_normal.proofs.Judgements.{neither}
 use Rattle.fn_terms.specs.Names.{Names}
-use Rattle.fn_statements.specs.Constraints.{ItemMeans, item_fault, items_fault, AreConstraints}
-use Rattle.fn_statements.specs.Constraints as parts
+use Rattle.fn_statements.specs.Constraints.{ItemMeans, item_fault}
 use Rattle.fn_formats.specs.Constraints.{Statement, on, AreNumbered, none, more, statement_fault, Leads}
 use Rattle.fn_formats.specs.Kept.{Says}
 use Rattle.fn_formats.proofs.Gathering.{kept}
 
-pub or_none : (o : Option ProfileFault) → option_or o None ≡ o
-or_none None = refl
-or_none (Some f) = refl
-
-pub single : {s : Names} {side : Side} (item : Item) (cs : List Constraint) → AreConstraints s side (item ∷ []) cs → ItemMeans s side item cs
-single {s} {side} item _ (parts.more {cs = cs} means parts.none) = subst (ItemMeans s side item) (sym (append-nil cs)) means
-
 -- a statement without a fault
 pub with_found : {s : Names} {side : Side} {rest whole : List Statement} {found : List Constraint} {fault : Option ProfileFault} (item : Item) (cs new : List Constraint)
-    → AreConstraints s side (item ∷ []) cs → items_fault s (item ∷ []) ≡ None → new ≡ found ++ cs → Leads s (on side item ∷ rest) whole found fault → Leads s rest whole new fault
-with_found {s} {side} {rest} {whole} {found} {fault} item cs new are fine is so = subst (λ z. Leads s rest whole z fault) (sym is) (record {
-  faults = ap (λ o. fold (λ f x. earlier f (statement_fault s x)) o rest) (sym (kept fault) ∙ ap (earlier fault) (sym fine ∙ or_none (item_fault s item))) ∙ so.faults;
-  finds = λ e ds rests. subst (AreNumbered s whole) (sym (append_assoc found cs ds)) (so.finds e (cs ++ ds) (more (single item cs are) rests));
+    → ItemMeans s side item cs → item_fault s item ≡ None → new ≡ found ++ cs → Leads s (on side item ∷ rest) whole found fault → Leads s rest whole new fault
+with_found {s} {side} {rest} {whole} {found} {fault} item cs new means fine is so = subst (λ z. Leads s rest whole z fault) (sym is) (record {
+  faults = ap (λ o. fold (λ f x. earlier f (statement_fault s x)) o rest) (sym (kept fault) ∙ ap (earlier fault) (sym fine)) ∙ so.faults;
+  finds = λ e ds rests. subst (AreNumbered s whole) (sym (append_assoc found cs ds)) (so.finds e (cs ++ ds) (more means rests));
 })
 
 -- a statement whose constraints are kept
 pub with_kept : {s : Names} {rest whole : List Statement} {found : List Constraint} {fault : Option ProfileFault} (item : Item) (cs new : List Constraint)
     → Says s item cs → new ≡ found ++ cs → Leads s (on Uncompressed item ∷ rest) whole found fault → Leads s rest whole new fault
-with_kept {s} item cs new says is so =
-    with_found item cs new (subst (AreConstraints s Uncompressed (item ∷ [])) (append-nil cs) (parts.more says.means parts.none)) (or_none (item_fault s item) ∙ says.fine) is so
+with_kept item cs new says is so = with_found item cs new says.means says.fine is so
 
 -- a statement with one
 pub with_fault : {s : Names} {side : Side} {rest whole : List Statement} {found : List Constraint} {fault : Option ProfileFault} (item : Item) (g : ProfileFault) (next : Option ProfileFault)
-    → items_fault s (item ∷ []) ≡ Some g → next ≡ earlier fault (Some g) → Leads s (on side item ∷ rest) whole found fault → Leads s rest whole found next
+    → item_fault s item ≡ Some g → next ≡ earlier fault (Some g) → Leads s (on side item ∷ rest) whole found fault → Leads s rest whole found next
 with_fault {s} {side} {rest} {whole} {found} {fault} item g next bad is so = subst (Leads s rest whole found) (sym is) (record {
-  faults = ap (λ o. fold (λ f x. earlier f (statement_fault s x)) (earlier fault o) rest) (sym bad ∙ or_none (item_fault s item)) ∙ so.faults;
+  faults = ap (λ o. fold (λ f x. earlier f (statement_fault s x)) (earlier fault o) rest) (sym bad) ∙ so.faults;
   finds = λ e. let wrong : Some g ≡ None = (neither fault (Some g) e).1 in absurd cc;
 })
 

@@ -1,6 +1,6 @@
 -- The encoding of a field of a format (docs/NOTATION.md).
-use Rattle.std.specs.Prelude.{List, Option, Some, None}
-use Rattle.std.specs.Option.{option_and_then}
+use Rattle.std.specs.Prelude.{◌≡◌, ℕ, true, List, [], Option, Some, None, slice_get}
+use Rattle.std.specs.Option.{option_and_then, option_map}
 use Rattle.fn_tree.specs.declared.tree.Encoding.{Encoding as TreeEncoding}
 use Rattle.fn_tree.specs.declared.tree.Item.{Item}
 use Rattle.fn_tree.specs.declared.tree.Item.TheVariants as items
@@ -14,6 +14,7 @@ use Rattle.fn_sections.specs.Fields.{encoding_at}
 use Rattle.fn_terms.specs.Names.{Names}
 use Rattle.fn_statements.specs.declared.callee.Methods.{Methods}
 use Rattle.fn_statements.specs.Encodings.{Means, fault_of}
+use Rattle.fn_formats.specs.Constraints.{is_at, choice_of}
 
 -- the encoding that a field's statement gives, as the tree has it
 abbrev pub given : List Section → Option Mention → Option TreeEncoding
@@ -43,3 +44,18 @@ own_fault s methods (items.Enforce at condition) = None
 -- the earliest fault of encodings: those of the fields, and all that the section gives, also where another section encodes the field
 unfoldable pub format_fault : Names → Methods → List Section → List (Option Mention) → List Item → Option ProfileFault
 format_fault s methods sections chosen items = earlier (earliest (field_fault s methods sections) chosen) (earliest (own_fault s methods) items)
+
+-- ---- statements that need not be judged again
+
+abbrev pub items_at : List Section → ℕ → Option (List Item)
+items_at sections number = option_map (λ (s : Section). s.items) (slice_get sections number)
+
+-- the choices whose encodings have no fault, where this is their earliest one
+abbrev pub fine_ones : Option ProfileFault → List (Option Mention) → List (Option Mention)
+fine_ones None chosen = chosen
+fine_ones (Some f) chosen = []
+
+-- the statements of the section of this number that a choice names have no fault in their encodings
+abbrev pub AreFine : Names → Methods → List (Option Mention) → ℕ → List Item → Type 0
+AreFine s methods fine number items =
+    (field : Option ℕ) (place : ℕ) (item : Item) → is_at number place (choice_of fine field) ≡ true → slice_get items place ≡ Some item → own_fault s methods item ≡ None

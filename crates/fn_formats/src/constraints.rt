@@ -10,12 +10,11 @@ use fn_expr::Side;
 use fn_normal::{Constraint, ProfileFault, Shared, earlier, fault_of};
 use fn_sections::mention::is_in;
 use fn_sections::{Group, Mention};
-use fn_statements::section_constraints;
+use fn_statements::item_constraints;
 use fn_terms::Scope;
 use fn_tree::{Item, Section};
 use sqlite_items::Items;
 use std::alloc::{AllocError, Global};
-use std::slice::from_ref;
 
 /// The constraints of a format by their numbers, and the earliest fault in its statements. With a fault some are missing.
 #[derive(Drop)]
@@ -58,8 +57,8 @@ fn add_statement(
 ) -> Result<(), AllocError>
     ensures { OnOk result ((rest whole : List spec.Statement) → spec.Leads scope.now (spec.on side item.now ∷ rest) whole all.old.found all.old.fault → spec.Leads scope.now rest whole all.new.found all.new.fault) }
 {
-    match section_constraints(alloc, scope, side, from_ref(item)) {
-        Ok(found) => all.found.append(found)?,
+    match item_constraints(alloc, scope, side, item) {
+        Ok(said) => said.add_to(&mut all.found)?,
         Err(error) => all.fault = earlier(all.fault, Some(fault_of(error)?)),
     }
     Ok(())
@@ -201,7 +200,8 @@ fn is_used(
     }
 }
 
-fn choice_of(chosen: &[Option<Mention>], field: Option<usize>) -> Option<Mention>
+/// The choice of a field.
+pub(crate) fn choice_of(chosen: &[Option<Mention>], field: Option<usize>) -> Option<Mention>
     ensures { result ≡ spec.choice_of chosen.now field }
 {
     match field {
@@ -213,7 +213,8 @@ fn choice_of(chosen: &[Option<Mention>], field: Option<usize>) -> Option<Mention
     }
 }
 
-fn is_at(section: usize, place: usize, choice: Option<Mention>) -> bool
+/// Whether a choice is the statement at this place of the section of this number.
+pub(crate) fn is_at(section: usize, place: usize, choice: Option<Mention>) -> bool
     ensures { result ≡ spec.is_at section place choice }
 {
     match choice {

@@ -1,6 +1,6 @@
 //! The parts of a format.
 
-ghost use Rattle.std.specs.Prelude.{◌≡◌, IfOk};
+ghost use Rattle.std.specs.Prelude.{◌≡◌, Some, IfOk, slice_get};
 ghost use Rattle.fn_sections.specs.Tables.{IsTable};
 ghost use Rattle.fn_formats.specs.Drafts as spec;
 ghost use Rattle.fn_formats.specs.Kept.{HasKept};
@@ -55,7 +55,8 @@ pub(crate) fn draft_format<'t>(
     number: usize,
     section: &Section,
 ) -> Result<Draft<'t>, AllocError>
-    requires { HasKept setting.now kept.now }
+    requires kept { HasKept setting.now kept.now }
+    requires section { slice_get setting.now.sections.now number ≡ Some section.now }
     ensures fields { IfOk result (λ d. d.fields.firsts ≡ spec.fields setting.now number section.now) }
     ensures draft { IsTable setting.now.text.now (spec.base setting.now) setting.now.base.now → IsTable setting.now.text.now (spec.default setting.now) setting.now.default.now → IfOk result (spec.IsDraft setting.now number section.now) }
 {
@@ -78,6 +79,8 @@ pub(crate) fn draft_format<'t>(
         setting.sections,
         kept,
         chosen.as_slice(),
+        number,
+        listing.as_slice(),
         section.items.as_slice(),
     )?;
     let constraints = format_constraints(

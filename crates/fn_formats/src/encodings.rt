@@ -1,6 +1,6 @@
 //! The encodings of a format's fields.
 
-ghost use Rattle.std.specs.Prelude.{◌≡◌, None, IfOk, IfErr};
+ghost use Rattle.std.specs.Prelude.{◌≡◌, true, Some, None, IfOk, IfErr};
 ghost use Rattle.std.specs.List.{AllZip};
 ghost use Rattle.fn_normal.specs.Faults as faults;
 ghost use Rattle.fn_terms.specs.Judged.{Refuses};
@@ -9,6 +9,7 @@ ghost use Rattle.fn_sections.specs.Causes.{earliest};
 ghost use Rattle.fn_formats.specs.Encodings as spec;
 ghost use Rattle.fn_formats.specs.Kept.{AreGiven};
 
+use crate::constraints::{choice_of, is_at};
 use crate::kept::Kept;
 use fn_normal::{Encoding, ProfileFault, ResolveError, Shared, earlier, fault_of};
 use fn_sections::{Mention, encoding_at};
@@ -26,7 +27,7 @@ pub struct Encodings {
 }
 
 /// The encodings of the fields whose encoding statements these are, and the earliest fault in them and in all that the section's statements
-/// give, whether a field is encoded by them or not.
+/// give, whether a field is encoded by them or not. The section has this number, and its mentions stand for these fields.
 #[tactic(auto, unfolding(crate::specs::Encodings::format_fault))]
 pub(crate) fn format_encodings(
     alloc: Global,
@@ -35,14 +36,18 @@ pub(crate) fn format_encodings(
     sections: &[Section],
     kept: &Kept,
     chosen: &[Option<Mention>],
+    number: usize,
+    listing: &[usize],
     items: &[Item],
 ) -> Result<Encodings, AllocError>
-    requires { AreGiven scope.now methods.now kept.now sections.now }
+    requires given { AreGiven scope.now methods.now kept.now sections.now }
+    requires own { spec.items_at sections.now number ≡ Some items.now }
     ensures fault { IfOk result (λ e. e.fault ≡ spec.format_fault scope.now methods.now sections.now chosen.now items.now) }
     ensures found { IfOk result (λ e. e.fault ≡ None → AllZip (spec.FieldMeans scope.now methods.now sections.now) chosen.now e.found) }
 {
     let encodings = field_encodings(alloc, scope, methods, sections, kept, chosen)?;
-    let own_fault = own_fault(alloc, scope, methods, items)?;
+    let fine = fine_ones(chosen, &encodings.fault);
+    let own_fault = own_fault(alloc, scope, methods, number, fine, listing, items)?;
     Ok(Encodings {
         found: encodings.found,
         fault: earlier(encodings.fault, own_fault),
@@ -116,22 +121,69 @@ fn resolved_encoding(
     }
 }
 
-/// The earliest fault in the encodings that statements give.
+/// The choices whose encodings have no fault: all where none was found.
+fn fine_ones<'a>(
+    chosen: &'a [Option<Mention>],
+    fault: &Option<ProfileFault>,
+) -> &'a [Option<Mention>]
+    ensures { result.now ≡ spec.fine_ones fault.now chosen.now }
+{
+    match fault {
+        None => chosen,
+        Some(_) => &[],
+    }
+}
+
+/// The earliest fault in the encodings that the statements of a section give. Those that are chosen by the fine ones have none,
+/// and these are found by the fields that the section's mentions stand for.
 fn own_fault(
     alloc: Global,
     scope: &Scope<'_, '_>,
     methods: &Methods<'_>,
+    number: usize,
+    fine: &[Option<Mention>],
+    listing: &[usize],
     items: &[Item],
 ) -> Result<Option<ProfileFault>, AllocError>
+    requires { spec.AreFine scope.now methods.now fine.now number items.now }
     ensures { IfOk result (λ fault. fault ≡ earliest (spec.own_fault scope.now methods.now) items.now) }
 {
     let mut fault = None;
-    for item in items {
-        if let Item::Bound(bound) = item {
-            fault = earlier(fault, encoding_fault(alloc, scope, methods, bound)?);
-        }
+    let mut next = 0;
+    for (place, item) in items.iter().enumerate() {
+        let is_fine = is_at(number, place, choice_of(fine, listing.get(next).copied()));
+        fault = earlier(fault, item_fault(alloc, scope, methods, item, is_fine)?);
+        next = after(item, next);
     }
     Ok(fault)
+}
+
+/// The place of the next mention, after a statement. An ENFORCE has none.
+fn after(item: &Item, place: usize) -> usize {
+    match item {
+        Item::Enforce(_, _) => place,
+        _ => place.wrapping_add(1),
+    }
+}
+
+/// The first fault in the encoding of a statement, if it gives one.
+fn item_fault(
+    alloc: Global,
+    scope: &Scope<'_, '_>,
+    methods: &Methods<'_>,
+    item: &Item,
+    is_fine: bool,
+) -> Result<Option<ProfileFault>, AllocError>
+    requires { is_fine ≡ true → spec.own_fault scope.now methods.now item.now ≡ None }
+    ensures { IfOk result (λ fault. fault ≡ spec.own_fault scope.now methods.now item.now) }
+{
+    if is_fine {
+        return Ok(None);
+    }
+    match item {
+        Item::Bound(bound) => encoding_fault(alloc, scope, methods, bound),
+        _ => Ok(None),
+    }
 }
 
 /// The first fault in the encoding of a statement.

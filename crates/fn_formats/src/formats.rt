@@ -1,6 +1,6 @@
 //! The format that a section gives.
 
-ghost use Rattle.std.specs.Prelude.{◌≡◌, IfOk, IfSome};
+ghost use Rattle.std.specs.Prelude.{◌≡◌, Some, IfOk, IfSome, slice_get};
 ghost use Rattle.std.specs.Option.{option_map};
 ghost use Rattle.fn_normal.specs.Words.{word as words};
 ghost use Rattle.fn_sections.specs.Tables.{IsTable};
@@ -35,6 +35,7 @@ pub fn section_format(
     requires sections { worded.AreSectionsWorded setting.now.text.now setting.now.sections.now }
     requires section { worded.SectionIsWorded setting.now.text.now section.now }
     requires kept { HasKept setting.now kept.now }
+    requires own { slice_get setting.now.sections.now number ≡ Some section.now }
     ensures { IsTable setting.now.text.now (drafts.base setting.now) setting.now.base.now → IsTable setting.now.text.now (drafts.default setting.now) setting.now.default.now → IfOk result (spec.IsResolved setting.now number section.now) }
 {
     let draft = draft_format(alloc, setting, kept, number, section)?;

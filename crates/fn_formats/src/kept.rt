@@ -11,12 +11,11 @@ use fn_expr::Side;
 use fn_normal::{Constraint, Encoding, Shared, fault_of};
 use fn_sections::mention::is_in;
 use fn_sections::{Group, Mention, in_order};
-use fn_statements::{Methods, encoding, section_constraints};
+use fn_statements::{Methods, encoding, item_constraints};
 use fn_terms::Scope;
 use fn_tree::{Bound, Item, Section};
 use sqlite_items::Items;
 use std::alloc::{AllocError, Global};
-use std::slice::from_ref;
 
 /// The constraints and the encoding of a statement. What is None has to be resolved in each format.
 #[derive(Drop)]
@@ -149,8 +148,11 @@ fn kept_constraints(
     if !names_field(scope, item) {
         return Ok(None);
     }
-    match section_constraints(alloc, scope, Side::Uncompressed, from_ref(item)) {
-        Ok(found) => Ok(Some(found)),
+    match item_constraints(alloc, scope, Side::Uncompressed, item) {
+        Ok(said) => {
+            let found = said.listed(alloc)?;
+            Ok(Some(found))
+        }
         Err(error) => {
             let _fault = fault_of(error)?;
             Ok(None)

@@ -7,3 +7,4 @@ pub mod Asked
 pub mod Held
 pub mod Making
 pub mod Advancing
+mod Others

@@ -108,6 +108,11 @@ joined_numbers slots side fields = record { value = option_map pos (joined_value
 abbrev pub whole_numbers : List Slot → List ℕ → List ℕ → SideNumbers
 whole_numbers slots headers listing = record { uncompressed = joined_numbers slots Uncompressed headers; compressed = joined_numbers slots Compressed listing }
 
+-- the numbers of the other side are those of the slots
+abbrev pub OtherIs : Side → List Slot → List ℕ → List ℕ → SideNumbers → Type 0
+OtherIs Uncompressed slots headers listing whole = whole.compressed ≡ joined_numbers slots Compressed listing
+OtherIs Compressed slots headers listing whole = whole.uncompressed ≡ joined_numbers slots Uncompressed headers
+
 -- those of the slots, with those of the whole and the arguments
 abbrev pub known_by : List Slot → SideNumbers → List ℤ → Known
 known_by slots whole args = record { fields = map slot_numbers slots; whole = whole; parameters = args }

@@ -142,6 +142,7 @@ impl<'a> Level<'a> {
         let is_learnt = learn_at(&mut self.slots, field, side, bounds, found);
         if is_learnt {
             note(
+                side,
                 &mut self.whole,
                 &mut self.fronts,
                 self.headers.as_slice(),

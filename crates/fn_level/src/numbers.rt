@@ -10,8 +10,9 @@ use crate::joining::{joined_length, joined_value};
 use fn_expr::{Numbers, Side, SideNumbers};
 use fn_rules::Slot;
 
-/// Brings the numbers of the whole and the fronts up to date with the slots.
+/// Brings the numbers of a side of the whole, of a part of which something was learnt, and its front up to date with the slots.
 pub(crate) fn note(
+    side: Side,
     whole: &mut SideNumbers,
     fronts: &mut Fronts,
     headers: &[usize],
@@ -22,24 +23,27 @@ pub(crate) fn note(
     requires packed { length (joined_bits slots.now Side.Compressed listing.now) < 2 ^ 31 }
     requires uncompressed { IsFront slots.now Side.Uncompressed headers.now fronts.old.uncompressed whole.old.uncompressed }
     requires compressed { IsFront slots.now Side.Compressed listing.now fronts.old.compressed whole.old.compressed }
+    requires other { spec.OtherIs side slots.now headers.now listing.now whole.old }
     ensures whole { whole.new ≡ spec.whole_numbers slots.now headers.now listing.now }
     ensures uncompressed { IsFront slots.now Side.Uncompressed headers.now fronts.new.uncompressed whole.new.uncompressed }
     ensures compressed { IsFront slots.now Side.Compressed listing.now fronts.new.compressed whole.new.compressed }
 {
-    go_on(
-        &mut fronts.uncompressed,
-        &mut whole.uncompressed,
-        slots,
-        Side::Uncompressed,
-        headers,
-    );
-    go_on(
-        &mut fronts.compressed,
-        &mut whole.compressed,
-        slots,
-        Side::Compressed,
-        listing,
-    );
+    match side {
+        Side::Uncompressed => go_on(
+            &mut fronts.uncompressed,
+            &mut whole.uncompressed,
+            slots,
+            Side::Uncompressed,
+            headers,
+        ),
+        Side::Compressed => go_on(
+            &mut fronts.compressed,
+            &mut whole.compressed,
+            slots,
+            Side::Compressed,
+            listing,
+        ),
+    }
 }
 
 /// The numbers of the whole.

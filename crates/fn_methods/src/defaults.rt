@@ -10,11 +10,10 @@ use fn_formats::{Setting, encoding_fault};
 use fn_normal::{ProfileFault, earlier, fault_of};
 use fn_sections::mention::is_in;
 use fn_sections::{Group, Table, mentions};
-use fn_statements::{Methods, section_constraints};
+use fn_statements::{Methods, item_constraints};
 use fn_terms::Scope;
 use fn_tree::{Item, Section};
 use std::alloc::{AllocError, Global};
-use std::slice::from_ref;
 
 /// The earliest fault in the statements of DEFAULT, where a field may be any that some format of the method has.
 pub(crate) fn default_fault(
@@ -109,7 +108,7 @@ fn bracket_fault(
 ) -> Result<Option<ProfileFault>, AllocError>
     ensures { IfOk result (λ fault. fault ≡ spec.item_fault scope.now item.now) }
 {
-    match section_constraints(alloc, scope, Side::Compressed, from_ref(item)) {
+    match item_constraints(alloc, scope, Side::Compressed, item) {
         Ok(_) => Ok(None),
         Err(error) => Ok(Some(fault_of(error)?)),
     }

@@ -55,7 +55,8 @@ fn add_section(
     requires sections { AreSectionsWorded setting.now.text.now setting.now.sections.now }
     requires section { SectionIsWorded setting.now.text.now section.now }
     requires kept { HasKept setting.now kept.now }
-    ensures { IsTable setting.now.text.now (drafts.base setting.now) setting.now.base.now → IsTable setting.now.text.now (drafts.default setting.now) setting.now.default.now → slice_get setting.now.sections.now place ≡ Some section.now → OnOk result ((rest : List GivenSection) → spec.Leads setting.now place (section.now ∷ rest) all.old → spec.Leads setting.now (place + 1) rest all.new) }
+    requires own { slice_get setting.now.sections.now place ≡ Some section.now }
+    ensures { IsTable setting.now.text.now (drafts.base setting.now) setting.now.base.now → IsTable setting.now.text.now (drafts.default setting.now) setting.now.default.now → OnOk result ((rest : List GivenSection) → spec.Leads setting.now place (section.now ∷ rest) all.old → spec.Leads setting.now (place + 1) rest all.new) }
 {
     if is_in(Group::Formats, section.kind) {
         let resolved = section_format(alloc, setting, kept, place, section)?;

@@ -1,4 +1,5 @@
 pub mod Tabled
+pub mod Inserting
 pub mod Seconds
 pub mod Folding
 pub mod Naming

@@ -1,20 +1,23 @@
 -- The causes of a method's faults, as sums.
-use Rattle.std.proofs.Common.{◌≡◌, ◌∙◌, ℕ, ◌<◌, ◌≤◌, ◌+◌, ◌⊎◌, inl, inr, true, false, List, [], map, refl, sym, Some, None, Option, arith, subst, length}
-use Rattle.std.specs.Prelude.{slice_get}
+use Rattle.std.proofs.Common.{◌≡◌, ◌∙◌, ℕ, ◌<◌, ◌≤◌, ◌+◌, ◌⊎◌, inl, inr, Bool, true, false, cond, List, [], map, refl, sym, Some, None, Option, arith, subst, length}
+use Rattle.std.specs.Prelude.{slice_get, is_some}
 use Rattle.std.specs.Option.{option_or}
 use Rattle.std.proofs.lemmas.Option.{slice_get_within}
 use Rattle.std.proofs.lemmas.Bool.{cases_order}
 use Rattle.fn_source.specs.declared.span.Span.{Span}
 use Rattle.fn_tree.specs.declared.tree.Section.{Section}
 use Rattle.fn_normal.specs.declared.fault.ProfileFault.{ProfileFault}
+use Rattle.fn_normal.specs.declared.fault.ProfileFaultKind.TheVariants as kinds
+use Rattle.fn_normal.specs.Faults.{about}
 use Rattle.fn_normal.specs.Judging.{earlier}
+use Rattle.fn_normal.specs.Words.{word}
 use Rattle.fn_sections.specs.declared.mention.Mention.{Mention}
 use Rattle.fn_sections.specs.declared.mention.Group.TheVariants as groups
 use Rattle.fn_sections.specs.declared.names.Lists.{Lists}
 use Rattle.fn_sections.specs.declared.table.Table.{Table}
 use Rattle.fn_sections.specs.Mentions.{first_of, encoded, listed, is_in, mentions_of}
 use Rattle.fn_sections.specs.Tables.{IsTable, find_in}
-use Rattle.fn_sections.specs.Causes.{Answers, IsSecond, IsOneOf, defined_before, encoded_before, unknown, not_encoded, not_kept, look_in, earliest}
+use Rattle.fn_sections.specs.Causes.{Answers, IsSecond, IsOneOf, is_one_of, defined_before, encoded_before, unknown, not_encoded, not_kept, look_in, earliest}
 use Rattle.fn_sections.specs.Names.{ParameterCause, second_parameter, constant_too, EncodingCause, in_format_too, in_default_too, KnownCause, unknown_initial, unknown_default, ContextCause, local_in_format, local_in_default, SectionCause, second_in_section, unencoded_in_format, SectionsCause, in_section}
 use Rattle.fn_sections.proofs.Folding.{answers_as, answers_join, one_answers, finds, nothing}
 
@@ -53,15 +56,42 @@ encodings_judged text lists table is formats defaults joined =
     cases f (in_format_too x) = inl x
     cases f (in_default_too y) = inr y
 
-pub known_judged : (text : List ℕ) (lists : Lists) (base formats none : Table) {a b o : Option ProfileFault} → IsTable text lists.base base → IsTable text lists.formats formats → IsTable text [] none
-    → a ≡ earliest (unknown text (look_in (find_in base) (find_in none))) lists.initial → b ≡ earliest (unknown text (look_in (find_in base) (find_in formats))) lists.default → o ≡ earlier a b
+-- both look-ups find nothing for a name in DEFAULT
+pub defaults_judged : (text : List ℕ) (lists : Lists) (base formats : Table) {o : Option ProfileFault} → IsTable text lists.base base → IsTable text lists.formats formats
+    → o ≡ earliest (unknown text (look_in (find_in base) (find_in formats))) lists.default → Answers (IsOneOf (unknown text (look_in (first_of text lists.base) (first_of text lists.formats))) lists.default) o
+defaults_judged text lists base formats base_is formats_are defaults =
+    one_answers (unknown text) lists.default (look_in (find_in base) (find_in formats)) (look_in (first_of text lists.base) (first_of text lists.formats)) _
+    (both_looks text lists.base lists.formats base formats base_is formats_are) defaults
+
+known_by_more : (o p : Option Mention) (v f : ProfileFault) → cond (is_some (option_or o p)) None (Some v) ≡ Some f → cond (is_some o) None (Some v) ≡ Some f
+known_by_more None None v f h = h
+known_by_more None (Some y) v f h = let wrong : None ≡ Some f = h in absurd cc
+known_by_more (Some x) p v f h = h
+
+-- where the first look-up finds all names, both do
+pub none_unknown : (text : List ℕ) (lists : Lists) (base none : Table) {o : Option ProfileFault} → IsTable text lists.base base → IsTable text [] none
+    → o ≡ earliest (unknown text (look_in (find_in base) (find_in none))) lists.default → o ≡ None
+    → Answers (IsOneOf (unknown text (look_in (first_of text lists.base) (first_of text lists.formats))) lists.default) None
+none_unknown text lists base none {o} base_is none_is defaults no_fault =
+    let judged : Answers (IsOneOf (unknown text (first_of text lists.base)) lists.default) o =
+    one_answers (unknown text) lists.default (look_in (find_in base) (find_in none)) (first_of text lists.base) o (one_look text lists.base base none base_is none_is) defaults in
+    record {
+      fine = λ e f wrong. judged.fine no_fault f (fewer f wrong);
+      cause = λ f e. let wrong : None ≡ Some f = e in absurd cc;
+    }
+  where
+    fewer : (f : ProfileFault) → IsOneOf (unknown text (look_in (first_of text lists.base) (first_of text lists.formats))) lists.default f → IsOneOf (unknown text (first_of text lists.base)) lists.default f
+    fewer f (is_one_of k {x} at h) =
+        is_one_of k at (known_by_more (first_of text lists.base (word text x.name)) (first_of text lists.formats (word text x.name)) (about kinds.UnknownName x.name) f h)
+
+pub known_judged : (text : List ℕ) (lists : Lists) (base none : Table) {a b o : Option ProfileFault} → IsTable text lists.base base → IsTable text [] none
+    → a ≡ earliest (unknown text (look_in (find_in base) (find_in none))) lists.initial → Answers (IsOneOf (unknown text (look_in (first_of text lists.base) (first_of text lists.formats))) lists.default) b → o ≡ earlier a b
     → Answers (KnownCause text lists) o
-known_judged text lists base formats none base_is formats_are none_is initial defaults joined =
+known_judged text lists base none base_is none_is initial defaults joined =
     answers_join {C = IsOneOf (unknown text (first_of text lists.base)) lists.initial} {D = IsOneOf (unknown text (look_in (first_of text lists.base) (first_of text lists.formats))) lists.default}
     (λ f c. elim c as (λ _. KnownCause text lists f) [ inl x ↦ unknown_initial x | inr y ↦ unknown_default y ]) cases
     (one_answers (unknown text) lists.initial (look_in (find_in base) (find_in none)) (first_of text lists.base) _ (one_look text lists.base base none base_is none_is) initial)
-    (one_answers (unknown text) lists.default (look_in (find_in base) (find_in formats)) (look_in (first_of text lists.base) (first_of text lists.formats)) _
-    (both_looks text lists.base lists.formats base formats base_is formats_are) defaults) joined
+    defaults joined
   where
     cases : (f : ProfileFault) → KnownCause text lists f
         → IsOneOf (unknown text (first_of text lists.base)) lists.initial f ⊎ IsOneOf (unknown text (look_in (first_of text lists.base) (first_of text lists.formats))) lists.default f
@@ -90,14 +120,39 @@ plain_judged text encodings place s base format second = answers_as (λ f c. sec
     cases f (second_in_section b c) = c
     cases f (unencoded_in_format yes_format c) = let wrong : false ≡ true = sym format ∙ yes_format in absurd cc
 
-pub format_judged : (text : List ℕ) (encodings : List Mention) (place : ℕ) (s : Section) (shared own : Table) {a b o : Option ProfileFault} → is_in groups.Base s.kind ≡ false → is_in groups.Formats s.kind ≡ true
-    → IsTable text encodings shared → IsTable text (encoded (mentions_of text place s.items)) own → Answers (IsSecond text (mentions_of text place s.items)) a
-    → b ≡ earliest (not_encoded text (look_in (find_in shared) (find_in own))) (mentions_of text place s.items) → o ≡ earlier a b → Answers (SectionCause text encodings place s) o
-format_judged text encodings place s shared own base format shared_is own_is second bare joined =
-    let look = both_looks text encodings (encoded (mentions_of text place s.items)) shared own shared_is own_is in
+-- both look-ups find nothing for a listed field
+pub bare_judged : (text : List ℕ) (encodings own : List Mention) (shared table : Table) {o : Option ProfileFault} → IsTable text encodings shared → IsTable text (encoded own) table
+    → o ≡ earliest (not_encoded text (look_in (find_in shared) (find_in table))) own → Answers (IsOneOf (not_encoded text (look_in (first_of text encodings) (first_of text (encoded own)))) own) o
+bare_judged text encodings own shared table shared_is own_is bare =
+    one_answers (not_encoded text) own (look_in (find_in shared) (find_in table)) (look_in (first_of text encodings) (first_of text (encoded own))) _ (both_looks text encodings (encoded own) shared table shared_is own_is) bare
+
+found_by_more : (b : Bool) (o p : Option Mention) (v f : ProfileFault) → cond b None (cond (is_some (option_or o p)) None (Some v)) ≡ Some f → cond b None (cond (is_some o) None (Some v)) ≡ Some f
+found_by_more true o p v f h = h
+found_by_more false None None v f h = h
+found_by_more false None (Some y) v f h = let wrong : None ≡ Some f = h in absurd cc
+found_by_more false (Some x) p v f h = h
+
+-- where the first look-up leaves no field bare, both leave none
+pub none_bare : (text : List ℕ) (encodings own : List Mention) (shared none : Table) (more : List ℕ → Option Mention) {o : Option ProfileFault} → IsTable text encodings shared → IsTable text [] none
+    → o ≡ earliest (not_encoded text (look_in (find_in shared) (find_in none))) own → o ≡ None → Answers (IsOneOf (not_encoded text (look_in (first_of text encodings) more)) own) None
+none_bare text encodings own shared none more {o} shared_is none_is bare no_fault =
+    let judged : Answers (IsOneOf (not_encoded text (first_of text encodings)) own) o =
+    one_answers (not_encoded text) own (look_in (find_in shared) (find_in none)) (first_of text encodings) o (one_look text encodings shared none shared_is none_is) bare in
+    record {
+      fine = λ e f wrong. judged.fine no_fault f (fewer f wrong);
+      cause = λ f e. let wrong : None ≡ Some f = e in absurd cc;
+    }
+  where
+    fewer : (f : ProfileFault) → IsOneOf (not_encoded text (look_in (first_of text encodings) more)) own f → IsOneOf (not_encoded text (first_of text encodings)) own f
+    fewer f (is_one_of k {x} at h) =
+        is_one_of k at (found_by_more x.is_encoded (first_of text encodings (word text x.name)) (more (word text x.name)) (about kinds.NoEncoding x.name) f h)
+
+pub format_judged : (text : List ℕ) (encodings : List Mention) (place : ℕ) (s : Section) {a b o : Option ProfileFault} → is_in groups.Base s.kind ≡ false → is_in groups.Formats s.kind ≡ true
+    → Answers (IsSecond text (mentions_of text place s.items)) a
+    → Answers (IsOneOf (not_encoded text (look_in (first_of text encodings) (first_of text (encoded (mentions_of text place s.items))))) (mentions_of text place s.items)) b → o ≡ earlier a b → Answers (SectionCause text encodings place s) o
+format_judged text encodings place s base format second bare joined =
     answers_join {C = IsSecond text (mentions_of text place s.items)} {D = IsOneOf (not_encoded text (look_in (first_of text encodings) (first_of text (encoded (mentions_of text place s.items))))) (mentions_of text place s.items)}
-    (λ f c. elim c as (λ _. SectionCause text encodings place s f) [ inl x ↦ second_in_section base x | inr y ↦ unencoded_in_format format y ]) cases second
-    (one_answers (not_encoded text) (mentions_of text place s.items) (look_in (find_in shared) (find_in own)) (look_in (first_of text encodings) (first_of text (encoded (mentions_of text place s.items)))) _ look bare) joined
+    (λ f c. elim c as (λ _. SectionCause text encodings place s f) [ inl x ↦ second_in_section base x | inr y ↦ unencoded_in_format format y ]) cases second bare joined
   where
     cases : (f : ProfileFault) → SectionCause text encodings place s f
         → IsSecond text (mentions_of text place s.items) f ⊎ IsOneOf (not_encoded text (look_in (first_of text encodings) (first_of text (encoded (mentions_of text place s.items))))) (mentions_of text place s.items) f

@@ -45,6 +45,17 @@ second_here text mentions i s t table name here name_is is found f_is =
     let second : IsSecond text mentions (second_statement s t) = is_second i here (ap (first_of text (take i mentions)) (sym name_is) ∙ (sym (is.finds name) ∙ found)) in
     second_is text mentions _ (subst (IsSecond text mentions) (sym f_is) second)
 
+-- the same where the earlier mentions were looked through
+pub few_further : (text : List ℕ) (mentions : List Mention) (i : ℕ) (t : Mention) (name : List ℕ) → NoneSecond text mentions i → slice_get mentions i ≡ Some t → name ≡ word text t.name
+    → first_of text (take i mentions) name ≡ None → NoneSecond text mentions (i + 1)
+few_further text mentions i t name before here name_is none = further text mentions i t before here (ap (first_of text (take i mentions)) (sym name_is) ∙ none)
+
+pub few_here : (text : List ℕ) (mentions : List Mention) (i : ℕ) (s t : Mention) (name : List ℕ) {f : ProfileFault} → slice_get mentions i ≡ Some t → name ≡ word text t.name
+    → first_of text (take i mentions) name ≡ Some s → f ≡ second_statement s t → Answers (IsSecond text mentions) (Some f)
+few_here text mentions i s t name here name_is found f_is =
+    let second : IsSecond text mentions (second_statement s t) = is_second i here (ap (first_of text (take i mentions)) (sym name_is) ∙ found) in
+    second_is text mentions _ (subst (IsSecond text mentions) (sym f_is) second)
+
 pub none_in_all : (text : List ℕ) (mentions : List Mention) (i : ℕ) → length mentions ≤ i → NoneSecond text mentions i → Answers (IsSecond text mentions) None
 none_in_all text mentions i past none_yet = record {
   fine = λ e f second. none_of f second;

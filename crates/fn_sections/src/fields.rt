@@ -1,13 +1,12 @@
 //! The fields of a format, in order, and what each is encoded by.
 
-ghost use Rattle.std.specs.Prelude.{◌≡◌, ◌++◌, IfOk, map, List};
+ghost use Rattle.std.specs.Prelude.{◌≡◌, ◌++◌, IfOk, OnOk, map, List};
 ghost use Rattle.std.specs.Option.{option_copied};
-ghost use Rattle.fn_sections.specs.Mentions.{first_of};
+ghost use Rattle.fn_sections.specs.Mentions.{first_of, mentions_in, mentions_of};
 ghost use Rattle.fn_sections.specs.Tables.{IsTable, find_in};
 ghost use Rattle.fn_sections.specs.Fields as spec;
 
-use crate::mention::{Group, Mention, mentions};
-use crate::names::joined;
+use crate::mention::{Group, Mention, is_in, mention_of};
 use crate::table::Table;
 use fn_normal::word;
 use fn_tree::{Encoding, Item, Section};
@@ -23,11 +22,43 @@ pub fn in_order<'a>(
 ) -> Result<Table<'a>, AllocError>
     ensures { IfOk result (IsTable text.now (spec.in_field_order text.now sections.now own.now)) }
 {
-    let header = mentions(alloc, text, sections, Group::Header)?;
-    let control = mentions(alloc, text, sections, Group::Control)?;
-    let base = joined(alloc, header.as_slice(), control.as_slice())?;
-    let all = joined(alloc, base.as_slice(), own)?;
-    Table::of(alloc, text, all.as_slice())
+    let mut fields = Table::with_room(alloc, own.len())?;
+    add_group(text, sections, Group::Header, &mut fields)?;
+    add_group(text, sections, Group::Control, &mut fields)?;
+    fields.insert_all(text, own)?;
+    Ok(fields)
+}
+
+fn add_group<'a>(
+    text: &'a [u8],
+    sections: &[Section],
+    group: Group,
+    fields: &mut Table<'a>,
+) -> Result<(), AllocError>
+    ensures { OnOk result ((before : List Mention) → IsTable text.now before fields.old → IsTable text.now (before ++ mentions_in text.now group 0 sections.now) fields.new) }
+{
+    for (place, section) in sections.iter().enumerate() {
+        if is_in(group, section.kind) {
+            add_items(text, place, section.items.as_slice(), fields)?;
+        }
+    }
+    Ok(())
+}
+
+fn add_items<'a>(
+    text: &'a [u8],
+    section: usize,
+    items: &[Item],
+    fields: &mut Table<'a>,
+) -> Result<(), AllocError>
+    ensures { OnOk result ((before : List Mention) → IsTable text.now before fields.old → IsTable text.now (before ++ mentions_of text.now section items.now) fields.new) }
+{
+    for (place, item) in items.iter().enumerate() {
+        if let Some(mention) = mention_of(text, section, place, item) {
+            fields.insert(text, mention)?;
+        }
+    }
+    Ok(())
 }
 
 fn place(text: &[u8], fields: &Table<'_>, mention: Mention) -> usize
@@ -48,7 +79,7 @@ pub fn listing(
 ) -> Result<Items<usize>, AllocError>
     ensures { IfOk result (λ places. places ≡ map (spec.place text.now fields.now.words) own.now) }
 {
-    let mut places = Items::new(alloc);
+    let mut places = Items::from_vec(Vec::with_capacity(alloc, own.len())?);
     for mention in own {
         places.push(place(text, fields, *mention))?;
     }
@@ -78,7 +109,7 @@ fn find_all(
 ) -> Result<Items<Option<Mention>>, AllocError>
     ensures { IfOk result (λ all. all ≡ map (spec.encoding text.now (find_in base.now) (find_in own.now) (find_in default.now)) fields.now) }
 {
-    let mut all = Items::new(alloc);
+    let mut all = Items::from_vec(Vec::with_capacity(alloc, fields.len())?);
     for field in fields {
         all.push(encoding(text, base, own, default, *field))?;
     }

@@ -66,7 +66,7 @@ fn needs_context(text: &[u8], encoding: &Encoding) -> bool
     }
 }
 
-fn mention_of(text: &[u8], section: usize, place: usize, item: &Item) -> Option<Mention>
+pub(crate) fn mention_of(text: &[u8], section: usize, place: usize, item: &Item) -> Option<Mention>
     ensures { result ≡ spec.mention_of text.now section place item.now }
 {
     match item {
@@ -113,7 +113,7 @@ pub fn of_section(
 ) -> Result<Items<Mention>, AllocError>
     ensures { IfOk result (λ found. found ≡ spec.mentions_of text.now place section.now.items) }
 {
-    let mut found = Items::new(alloc);
+    let mut found = Items::from_vec(Vec::with_capacity(alloc, section.items.len())?);
     add_mentions(text, place, section.items.as_slice(), &mut found)?;
     Ok(found)
 }
@@ -140,7 +140,7 @@ pub fn mentions(
 pub fn encoded(alloc: Global, mentions: &[Mention]) -> Result<Items<Mention>, AllocError>
     ensures { IfOk result (λ found. found ≡ spec.encoded mentions.now) }
 {
-    let mut found = Items::new(alloc);
+    let mut found = Items::from_vec(Vec::with_capacity(alloc, mentions.len())?);
     for mention in mentions {
         if mention.is_encoded {
             found.push(*mention)?;
@@ -166,7 +166,7 @@ pub fn listed(name: Span) -> Mention
 pub(crate) fn all_listed(alloc: Global, names: &[Span]) -> Result<Items<Mention>, AllocError>
     ensures { IfOk result (λ found. found ≡ map spec.listed names.now) }
 {
-    let mut found = Items::new(alloc);
+    let mut found = Items::from_vec(Vec::with_capacity(alloc, names.len())?);
     for name in names {
         found.push(listed(*name))?;
     }

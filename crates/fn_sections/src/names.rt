@@ -3,7 +3,8 @@
 ghost use Rattle.std.specs.Prelude.{◌≡◌, ◌++◌, ℕ, List, IfOk, map};
 ghost use Rattle.std.specs.List.{filter_map};
 ghost use Rattle.fn_sections.specs.Tables.{IsTable};
-ghost use Rattle.fn_sections.specs.Causes.{Answers, IsSecond};
+ghost use Rattle.fn_sections.specs.Mentions.{first_of, encoded as encoded_ones};
+ghost use Rattle.fn_sections.specs.Causes.{Answers, IsOneOf, IsSecond, look_in, not_encoded, unknown};
 ghost use Rattle.fn_sections.specs.Names as spec;
 
 use crate::lookups::{
@@ -100,34 +101,57 @@ pub(crate) fn judge_encodings(
     Ok(earlier(in_formats, in_defaults))
 }
 
-/// A name that must be a header or control field, or a listed one, and isn't.
+/// A name in DEFAULT that no format has. The table is that of the header and control fields.
+fn judge_defaults(
+    alloc: Global,
+    text: &[u8],
+    base: &Table<'_>,
+    lists: &Lists,
+) -> Result<Option<ProfileFault>, AllocError>
+    ensures { IsTable text.now lists.now.base base.now → IfOk result (Answers (IsOneOf (unknown text.now (look_in (first_of text.now lists.now.base) (first_of text.now lists.now.formats))) lists.now.default)) }
+{
+    let none = Table::new(alloc);
+    match all_not_found(text, base, &none, lists.default.as_slice()) {
+        None => Ok(None),
+        Some(_) => judge_defaults_among(alloc, text, base, lists),
+    }
+}
+
+/// The same by a table of what the formats mention.
+fn judge_defaults_among(
+    alloc: Global,
+    text: &[u8],
+    base: &Table<'_>,
+    lists: &Lists,
+) -> Result<Option<ProfileFault>, AllocError>
+    ensures { IsTable text.now lists.now.base base.now → IfOk result (Answers (IsOneOf (unknown text.now (look_in (first_of text.now lists.now.base) (first_of text.now lists.now.formats))) lists.now.default)) }
+{
+    let formats = Table::of(alloc, text, lists.formats.as_slice())?;
+    Ok(all_not_found(text, base, &formats, lists.default.as_slice()))
+}
+
+/// A name that must be a header or control field, or a listed one, and isn't. The table is that of the header and control fields.
 pub(crate) fn judge_known(
     alloc: Global,
     text: &[u8],
+    base: &Table<'_>,
     lists: &Lists,
 ) -> Result<Option<ProfileFault>, AllocError>
-    ensures { IfOk result (Answers (spec.KnownCause text.now lists.now)) }
+    ensures { IsTable text.now lists.now.base base.now → IfOk result (Answers (spec.KnownCause text.now lists.now)) }
 {
-    let base = Table::of(alloc, text, lists.base.as_slice())?;
-    let formats = Table::of(alloc, text, lists.formats.as_slice())?;
     let none = Table::new(alloc);
-    let initial = all_not_found(text, &base, &none, lists.initial.as_slice());
-    let defaults = all_not_found(text, &base, &formats, lists.default.as_slice());
+    let initial = all_not_found(text, base, &none, lists.initial.as_slice());
+    let defaults = judge_defaults(alloc, text, base, lists)?;
     Ok(earlier(initial, defaults))
 }
 
-/// A local field with `static` or `lsb`.
-pub(crate) fn judge_contexts(
-    alloc: Global,
-    text: &[u8],
-    lists: &Lists,
-) -> Result<Option<ProfileFault>, AllocError>
-    ensures { IfOk result (Answers (spec.ContextCause text.now lists.now)) }
+/// A local field with `static` or `lsb`. The table is that of the header and control fields.
+pub(crate) fn judge_contexts(text: &[u8], base: &Table<'_>, lists: &Lists) -> Option<ProfileFault>
+    ensures { IsTable text.now lists.now.base base.now → Answers (spec.ContextCause text.now lists.now) result }
 {
-    let base = Table::of(alloc, text, lists.base.as_slice())?;
-    let formats = all_not_kept(text, &base, lists.formats.as_slice());
-    let defaults = all_not_kept(text, &base, lists.default.as_slice());
-    Ok(earlier(formats, defaults))
+    let formats = all_not_kept(text, base, lists.formats.as_slice());
+    let defaults = all_not_kept(text, base, lists.default.as_slice());
+    earlier(formats, defaults)
 }
 
 /// The first mentions, then the second.
@@ -141,6 +165,36 @@ pub(crate) fn joined(
     let mut all = Items::from_slice(alloc, first)?;
     all.append(Items::from_slice(alloc, second)?)?;
     Ok(all)
+}
+
+/// A listed field of a format that has no encoding, neither in the table nor among the format's own mentions.
+fn judge_bare(
+    alloc: Global,
+    text: &[u8],
+    shared: &Table<'_>,
+    own: &[Mention],
+) -> Result<Option<ProfileFault>, AllocError>
+    ensures { (encodings : List Mention) → IsTable text.now encodings shared.now → IfOk result (Answers (IsOneOf (not_encoded text.now (look_in (first_of text.now encodings) (first_of text.now (encoded_ones own.now)))) own.now)) }
+{
+    let none = Table::new(alloc);
+    match all_not_encoded(text, shared, &none, own) {
+        None => Ok(None),
+        Some(_) => judge_bare_among(alloc, text, shared, own),
+    }
+}
+
+/// The same by a table of the own mentions that give encodings.
+fn judge_bare_among(
+    alloc: Global,
+    text: &[u8],
+    shared: &Table<'_>,
+    own: &[Mention],
+) -> Result<Option<ProfileFault>, AllocError>
+    ensures { (encodings : List Mention) → IsTable text.now encodings shared.now → IfOk result (Answers (IsOneOf (not_encoded text.now (look_in (first_of text.now encodings) (first_of text.now (encoded_ones own.now)))) own.now)) }
+{
+    let bound = encoded(alloc, own)?;
+    let table = Table::of(alloc, text, bound.as_slice())?;
+    Ok(all_not_encoded(text, shared, &table, own))
 }
 
 /// A second statement on a name in a section for some formats or contexts, or a listed field that has no encoding.
@@ -161,9 +215,7 @@ pub(crate) fn judge_section(
     if !is_in(Group::Formats, section.kind) {
         return Ok(repeated);
     }
-    let bound = encoded(alloc, own.as_slice())?;
-    let table = Table::of(alloc, text, bound.as_slice())?;
-    let bare = all_not_encoded(text, shared, &table, own.as_slice());
+    let bare = judge_bare(alloc, text, shared, own.as_slice())?;
     Ok(earlier(repeated, bare))
 }
 
@@ -212,8 +264,9 @@ fn judge_fields(
     let lists = split(alloc, text, sections)?;
     let base = second(alloc, text, lists.base.as_slice())?;
     let encodings = judge_encodings(alloc, text, &lists)?;
-    let known = judge_known(alloc, text, &lists)?;
-    let contexts = judge_contexts(alloc, text, &lists)?;
+    let fields = Table::of(alloc, text, lists.base.as_slice())?;
+    let known = judge_known(alloc, text, &fields, &lists)?;
+    let contexts = judge_contexts(text, &fields, &lists);
     let all = joined(alloc, lists.base.as_slice(), lists.default.as_slice())?;
     let bound = encoded(alloc, all.as_slice())?;
     let shared = Table::of(alloc, text, bound.as_slice())?;

@@ -2,15 +2,58 @@
 
 ghost use Rattle.std.specs.Prelude.{◌≡◌, IfOk};
 ghost use Rattle.fn_sections.specs.Causes as spec;
+ghost use Rattle.fn_sections.specs.Mentions.{first_of};
 
 use crate::judging::second_statement;
 use crate::mention::Mention;
 use crate::table::Table;
-use fn_normal::{ProfileFault, word};
+use fn_normal::{ProfileFault, same, word};
 use std::alloc::{AllocError, Global};
+
+/// How many mentions are compared with each other rather than put into a table.
+const FEW: usize = 16;
 
 /// The first mention of a name that an earlier one has.
 pub(crate) fn second(
+    alloc: Global,
+    text: &[u8],
+    mentions: &[Mention],
+) -> Result<Option<ProfileFault>, AllocError>
+    ensures { IfOk result (spec.Answers (spec.IsSecond text.now mentions.now)) }
+{
+    if mentions.len() <= FEW {
+        return Ok(second_of_few(text, mentions));
+    }
+    second_of_many(alloc, text, mentions)
+}
+
+/// The first of these mentions with the name.
+fn first_among(text: &[u8], mentions: &[Mention], name: &[u8]) -> Option<Mention>
+    ensures { result ≡ first_of text.now mentions.now name.now }
+{
+    for mention in mentions {
+        if same(name, word(text, mention.name)) {
+            return Some(*mention);
+        }
+    }
+    None
+}
+
+/// The same by comparing each with those before it.
+fn second_of_few(text: &[u8], mentions: &[Mention]) -> Option<ProfileFault>
+    ensures { spec.Answers (spec.IsSecond text.now mentions.now) result }
+{
+    for (place, mention) in mentions.iter().enumerate() {
+        let name = word(text, mention.name);
+        if let Some(first) = first_among(text, &mentions[..place], name) {
+            return Some(second_statement(first, *mention));
+        }
+    }
+    None
+}
+
+/// The same by a table.
+fn second_of_many(
     alloc: Global,
     text: &[u8],
     mentions: &[Mention],

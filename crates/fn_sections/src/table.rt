@@ -9,6 +9,9 @@ use fn_normal::{Words, word};
 use sqlite_items::Items;
 use std::alloc::{AllocError, Global};
 
+/// How many mentions a table has room for at first, at most.
+const ROOM: usize = 32;
+
 /// The first mention of each name. A look-up takes the time of the name's length.
 #[derive(Drop)]
 pub struct Table<'a> {
@@ -25,6 +28,16 @@ impl<'a> Table<'a> {
             words: Words::new(alloc),
             firsts: Items::new(alloc),
         }
+    }
+
+    /// No mentions, with room for as many, or for `ROOM`.
+    pub(crate) fn with_room(alloc: Global, count: usize) -> Result<Table<'a>, AllocError>
+        ensures { IfOk result (λ table. (text : List ℕ) → tables.IsTable text [] table) }
+    {
+        Ok(Table {
+            words: Words::new(alloc),
+            firsts: Items::from_vec(Vec::with_capacity(alloc, count.min(ROOM))?),
+        })
     }
 
     /// The first mention of the name.
@@ -50,14 +63,26 @@ impl<'a> Table<'a> {
         Ok(())
     }
 
+    /// Adds these mentions.
+    pub(crate) fn insert_all(
+        &mut self,
+        text: &'a [u8],
+        mentions: &[Mention],
+    ) -> Result<(), AllocError>
+        ensures { OnOk result ((before : List Mention) → tables.IsTable text.now before self.old → tables.IsTable text.now (before ++ mentions.now) self.new) }
+    {
+        for mention in mentions {
+            self.insert(text, *mention)?;
+        }
+        Ok(())
+    }
+
     /// The table of these mentions.
     pub fn of(alloc: Global, text: &'a [u8], mentions: &[Mention]) -> Result<Table<'a>, AllocError>
         ensures { IfOk result (tables.IsTable text.now mentions.now) }
     {
-        let mut table = Table::new(alloc);
-        for mention in mentions {
-            table.insert(text, *mention)?;
-        }
+        let mut table = Table::with_room(alloc, mentions.len())?;
+        table.insert_all(text, mentions)?;
         Ok(table)
     }
 }

@@ -1,10 +1,9 @@
 -- Texts and tables that grow by one entry at each turn of a loop.
-use Rattle.std.proofs.Common.{◌≡◌, ℕ, zero, suc, ◌+◌, ◌<◌, ◌≤◌, List, [], ◌∷◌, ◌++◌, length, drop, get_or, ap, sym, ◌∙◌, subst, append_assoc, length-append}
+use Rattle.std.proofs.Common.{◌≡◌, ℕ, zero, suc, ◌+◌, ◌*◌, ◌<◌, ◌≤◌, List, [], ◌∷◌, ◌++◌, length, drop, get_or, ap, sym, ◌∙◌, subst, append_assoc, length-append}
 use Rattle.std.specs.Prelude.{Some, flat_map}
 use Rattle.std.specs.List.{slice_get, enumerate_from}
 use Rattle.std.proofs.lemmas.List.{append-nil, drop_more, drop_all}
 use Rattle.std.proofs.lemmas.Option.{none-some, same_Some}
-use Rattle.fn_source.specs.Places.{line_of, column_of}
 use Rattle.fn_source.specs.declared.source.Position.{Position}
 use Rattle.fn_show.specs.Known.{IsPlace, AreKnown}
 
@@ -28,12 +27,11 @@ pushed_holds P [] y h p (suc k) x e = absurd (none-some x e)
 pushed_holds P (z ∷ xs) y h p zero x e = h 0 x e
 pushed_holds P (z ∷ xs) y h p (suc k) x e = pushed_holds (λ n. P (suc n)) xs y (λ n. h (suc n)) p k x e
 
-pub known_on : (octets : List ℕ) (table next : List Position) (i : ℕ) (place : Position) → AreKnown octets table → length table ≡ i → place.line ≡ line_of octets i → place.column ≡ column_of octets i → next ≡ table ++ place ∷ [] → AreKnown octets next
-known_on octets table next i place known count line column n =
+pub known_on : (octets : List ℕ) (table next : List Position) (k : ℕ) (place : Position) → AreKnown octets table → length table ≡ k → IsPlace octets (k * 16) place → next ≡ table ++ place ∷ [] → AreKnown octets next
+known_on octets table next k place known count here n =
     let P : List Position → Type 0 = λ t. AreKnown octets t in
-    let Q : ℕ → Type 0 = λ k. IsPlace octets k place in
-    let here : IsPlace octets i place = record { line = line; column = column } in
-    subst P (sym n) (pushed_holds (IsPlace octets) table place known (subst Q (sym count) here))
+    let Q : ℕ → Type 0 = λ n. IsPlace octets (n * 16) place in
+    subst P (sym n) (pushed_holds (λ n. IsPlace octets (n * 16)) table place known (subst Q (sym count) here))
 
 pub count_on : (table next : List Position) (place : Position) (i : ℕ) → length table ≡ i → next ≡ table ++ place ∷ [] → length next ≡ i + 1
 count_on table next place i e n = ap length n ∙ length-append table (place ∷ []) ∙ ap (λ k. k + 1) e

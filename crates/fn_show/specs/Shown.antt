@@ -45,19 +45,27 @@ constraint_line octets number constraint =
 abbrev pub format_line : List ℕ → Bounds → List ℕ
 format_line name bounds = codes "format " ++ name ++ codes " least " ++ decimal bounds.least ++ codes " most " ++ decimal bounds.most ++ 10 ∷ []
 
+-- the constraints of a format, by their numbers
+abbrev pub constraints_text : List ℕ → List Constraint → List ℕ
+constraints_text octets constraints = flat_map (λ c. constraint_line octets c.0 c.1) (enumerate_from 0 constraints)
+
 -- a format and its constraints
 abbrev pub format_text : List ℕ → Bounds → Format → List ℕ
 format_text octets bounds format =
-    format_line (name_of format.name) bounds ++ flat_map (λ c. constraint_line octets c.0 c.1) (enumerate_from 0 format.constraints)
+    format_line (name_of format.name) bounds ++ constraints_text octets format.constraints
 
 -- the line of a method, none where it has no formats
 abbrev pub title : List ℕ → List Format → List ℕ
 title name [] = []
 title name (format ∷ formats) = codes "method " ++ name ++ 10 ∷ []
 
+-- the formats of a method
+abbrev pub formats_text : List ℕ → List FormatSizes → List Format → List ℕ
+formats_text octets sizes formats = flat_map (λ f. format_text octets (packed_bounds (slice_get sizes f.0)) f.1) (enumerate_from 0 formats)
+
 -- a method and its formats
 abbrev pub method_text : List ℕ → List FormatSizes → Method → List ℕ
-method_text octets sizes method = title method.name method.formats ++ flat_map (λ f. format_text octets (packed_bounds (slice_get sizes f.0)) f.1) (enumerate_from 0 method.formats)
+method_text octets sizes method = title method.name method.formats ++ formats_text octets sizes method.formats
 
 -- all methods of a profile
 abbrev pub shown : List ℕ → List Method → List MethodSizes → List ℕ

@@ -1,11 +1,12 @@
 //! The lines that list a resolved profile: its methods with their formats and their constraints.
 
-ghost use Rattle.std.specs.Prelude.{◌≡◌, IfOk, slice_get, string_bytes};
+ghost use Rattle.std.specs.Prelude.{◌≡◌, ◌++◌, IfOk, OnOk, slice_get, string_bytes};
 ghost use Rattle.fn_show.specs.Shown as spec;
 
 use crate::places::Places;
-use fn_normal::{Bounds, Constraint, Format, FormatSizes, Method, MethodSizes, Name};
+use fn_normal::{Bounds, Constraint, Format, FormatSizes, Method, MethodSizes, Name, Shared};
 use fn_source::Span;
+use itoa::Buffer;
 use std::alloc::{AllocError, Global};
 
 /// The lines of all methods that have formats, with the bounds on the packed bits of their formats and with the places
@@ -19,23 +20,24 @@ pub fn show(
     ensures { IfOk result (λ text. string_bytes text ≡ spec.shown octets.now methods.now sizes.now) }
 {
     let places = Places::new(alloc, octets)?;
-    methods_text(alloc, &places, methods, sizes)
+    let mut output = String::new(alloc);
+    push_methods(alloc, &mut output, &places, methods, sizes)?;
+    Ok(output)
 }
 
-fn methods_text(
+fn push_methods(
     alloc: Global,
+    output: &mut String,
     places: &Places<'_>,
     methods: &[Method],
     sizes: &[MethodSizes],
-) -> Result<String, AllocError>
-    ensures { IfOk result (λ text. string_bytes text ≡ spec.shown places.now methods.now sizes.now) }
+) -> Result<(), AllocError>
+    ensures { OnOk result (string_bytes output.new ≡ string_bytes output.old ++ spec.shown places.now methods.now sizes.now) }
 {
-    let mut output = String::new(alloc);
     for (k, method) in methods.iter().enumerate() {
-        let text = method_text(alloc, places, format_sizes(sizes, k), method)?;
-        output.push_str(text.as_str())?;
+        push_method(alloc, output, places, format_sizes(sizes, k), method)?;
     }
-    Ok(output)
+    Ok(())
 }
 
 /// The sizes of a method's formats.
@@ -49,21 +51,34 @@ fn format_sizes(sizes: &[MethodSizes], k: usize) -> &[FormatSizes]
 }
 
 /// A method and its formats.
-fn method_text(
+fn push_method(
     alloc: Global,
+    output: &mut String,
     places: &Places<'_>,
     sizes: &[FormatSizes],
     method: &Method,
-) -> Result<String, AllocError>
-    ensures { IfOk result (λ text. string_bytes text ≡ spec.method_text places.now sizes.now method.now) }
+) -> Result<(), AllocError>
+    ensures { OnOk result (string_bytes output.new ≡ string_bytes output.old ++ spec.method_text places.now sizes.now method.now) }
 {
     let formats = method.formats.as_slice();
-    let mut output = title(alloc, &method.name, formats)?;
+    let title = title(alloc, &method.name, formats)?;
+    output.push_str(title.as_str())?;
+    push_formats(alloc, output, places, sizes, formats)
+}
+
+fn push_formats(
+    alloc: Global,
+    output: &mut String,
+    places: &Places<'_>,
+    sizes: &[FormatSizes],
+    formats: &[Format],
+) -> Result<(), AllocError>
+    ensures { OnOk result (string_bytes output.new ≡ string_bytes output.old ++ spec.formats_text places.now sizes.now formats.now) }
+{
     for (n, format) in formats.iter().enumerate() {
-        let text = format_text(alloc, places, packed_bounds(sizes, n), format)?;
-        output.push_str(text.as_str())?;
+        push_format(alloc, output, places, packed_bounds(sizes, n), format)?;
     }
-    Ok(output)
+    Ok(())
 }
 
 /// The line of a method, none where it has no formats.
@@ -88,21 +103,18 @@ fn packed_bounds(sizes: &[FormatSizes], n: usize) -> Bounds
 }
 
 /// A format and its constraints.
-fn format_text(
+fn push_format(
     alloc: Global,
+    output: &mut String,
     places: &Places<'_>,
     bounds: Bounds,
     format: &Format,
-) -> Result<String, AllocError>
-    ensures { IfOk result (λ text. string_bytes text ≡ spec.format_text places.now bounds format.now) }
+) -> Result<(), AllocError>
+    ensures { OnOk result (string_bytes output.new ≡ string_bytes output.old ++ spec.format_text places.now bounds format.now) }
 {
-    let mut output = format_line(alloc, name_of(&format.name), bounds)?;
-    let constraints = format.constraints.as_slice();
-    for (number, constraint) in constraints.iter().enumerate() {
-        let line = constraint_line(alloc, places, number, constraint.get())?;
-        output.push_str(line.as_str())?;
-    }
-    Ok(output)
+    let line = format_line(alloc, name_of(&format.name), bounds)?;
+    output.push_str(line.as_str())?;
+    push_constraints(output, places, format.constraints.as_slice())
 }
 
 /// The name of a format, or `-`.
@@ -122,28 +134,48 @@ fn format_line(alloc: Global, name: &str, bounds: Bounds) -> Result<String, Allo
     format!(in alloc; "format {name} least {least} most {most}\n")
 }
 
+/// The lines of constraints by their numbers.
+fn push_constraints(
+    output: &mut String,
+    places: &Places<'_>,
+    constraints: &[Shared<Constraint>],
+) -> Result<(), AllocError>
+    ensures { OnOk result (string_bytes output.new ≡ string_bytes output.old ++ spec.constraints_text places.now constraints.now) }
+{
+    for (number, constraint) in constraints.iter().enumerate() {
+        push_constraint(output, places, number, constraint.get())?;
+    }
+    Ok(())
+}
+
 /// A constraint: its number and its place.
-fn constraint_line(
-    alloc: Global,
+fn push_constraint(
+    output: &mut String,
     places: &Places<'_>,
     number: usize,
     constraint: &Constraint,
-) -> Result<String, AllocError>
-    ensures { IfOk result (λ text. string_bytes text ≡ spec.constraint_line places.now number constraint.now) }
+) -> Result<(), AllocError>
+    ensures { OnOk result (string_bytes output.new ≡ string_bytes output.old ++ spec.constraint_line places.now number constraint.now) }
 {
     let position = places.position(place_of(constraint).from);
-    numbered_place(alloc, number, position.line, position.column)
+    push_place(output, number, position.line, position.column)
 }
 
-fn numbered_place(
-    alloc: Global,
+fn push_place(
+    output: &mut String,
     number: usize,
     line: usize,
     column: usize,
-) -> Result<String, AllocError>
-    ensures { IfOk result (λ text. string_bytes text ≡ spec.numbered_place number line column) }
+) -> Result<(), AllocError>
+    ensures { OnOk result (string_bytes output.new ≡ string_bytes output.old ++ spec.numbered_place number line column) }
 {
-    format!(in alloc; "{number} {line}:{column}\n")
+    let mut buffer = Buffer::new();
+    output.push_str(buffer.format(number))?;
+    output.push(' ')?;
+    output.push_str(buffer.format(line))?;
+    output.push(':')?;
+    output.push_str(buffer.format(column))?;
+    output.push('\n')
 }
 
 /// The place of a bracket, or of the first token of a conjunct.

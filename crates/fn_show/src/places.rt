@@ -1,14 +1,14 @@
 //! Where the octets of a text stand.
 
-ghost use Rattle.std.specs.Prelude.{◌≡◌, IfOk};
+ghost use Rattle.std.specs.Prelude.{◌≡◌, ◌≤◌, length, IfOk};
 ghost use Rattle.fn_source.specs.Places.{begins_character, line_of, column_of};
-ghost use Rattle.fn_show.specs.Known.{AreKnown};
+ghost use Rattle.fn_show.specs.Known.{IsPlace, AreKnown};
 
 use fn_source::{Position, line_column};
 use std::alloc::{AllocError, Global};
 use std::marker::Model;
 
-/// The places of all octets of a text, found by one walk. Contracts see the octets.
+/// The places of every sixteenth octet of a text, found by one walk. Contracts see the octets.
 #[derive(Drop)]
 pub struct Places<'a> {
     octets: &'a [u8],
@@ -40,22 +40,41 @@ impl<'a> Places<'a> {
         ensures line { result.line ≡ line_of self.now offset }
         ensures column { result.column ≡ column_of self.now offset }
     {
-        match self.table.get(offset) {
-            Some(position) => *position,
+        if offset > self.octets.len() {
+            return line_column(self.octets, offset);
+        }
+        match self.table.get(offset / 16) {
+            Some(start) => place_after(self.octets, offset / 16 * 16, offset, *start),
             None => line_column(self.octets, offset),
         }
     }
 }
 
-/// The place of each octet, in their order.
+/// The place of every sixteenth octet, in their order.
 fn positions(alloc: Global, octets: &[u8]) -> Result<Vec<Position>, AllocError>
     ensures { IfOk result (λ table. AreKnown octets.now table.items) }
 {
-    let mut table = Vec::with_capacity(alloc, octets.len())?;
-    let mut line = 1;
-    let mut column = 1;
-    for octet in octets {
-        table.push(Position { line, column })?;
+    let parts = octets.len() / 16;
+    let mut table = Vec::with_capacity(alloc, parts + 1)?;
+    let mut place = Position { line: 1, column: 1 };
+    table.push(place)?;
+    for k in 0..parts {
+        place = place_after(octets, k * 16, k * 16 + 16, place);
+        table.push(place)?;
+    }
+    Ok(table)
+}
+
+/// The place of an octet, found from that of an octet before it.
+fn place_after(octets: &[u8], from: usize, to: usize, place: Position) -> Position
+    requires order { from ≤ to }
+    requires within { to ≤ length octets.now }
+    requires here { IsPlace octets.now from place }
+    ensures { IsPlace octets.now to result }
+{
+    let mut line = place.line;
+    let mut column = place.column;
+    for octet in &octets[from..to] {
         if *octet == b'\n' {
             line += 1;
             column = 1;
@@ -63,7 +82,7 @@ fn positions(alloc: Global, octets: &[u8]) -> Result<Vec<Position>, AllocError>
             column += 1;
         }
     }
-    Ok(table)
+    Position { line, column }
 }
 
 /// Whether a character begins at the octet: in UTF-8 it goes on at those from 128 to 191.

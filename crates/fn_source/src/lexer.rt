@@ -1,7 +1,7 @@
 //! From octets to tokens.
 
-ghost use Rattle.std.specs.Prelude.{[], ◌∷◌, ◌≡◌, ◌<◌, ◌-◌, ℕ, List, length, drop, option_map, Some, None, Ok, Err, IfOk, IfErr, MatchResult};
-ghost use Rattle.std.specs.Char.{is_ascii_digit};
+ghost use Rattle.std.specs.Prelude.{[], ◌∷◌, ◌≡◌, ◌<◌, ◌-◌, ℕ, List, length, drop, get_or, option_map, Some, None, Ok, Err, IfOk, IfErr, MatchResult};
+ghost use Rattle.std.specs.Char.{is_ascii_digit, is_ascii_alphabetic};
 ghost use Rattle.fn_source.specs.Lexical as spec;
 ghost use Rattle.fn_source.specs.declared.token.Token.{Token};
 ghost use Rattle.fn_source.specs.Scan as scan;
@@ -11,6 +11,17 @@ use crate::source::Source;
 use crate::span::Span;
 use crate::token::{Kind, Mark, Token};
 use std::alloc::Global;
+
+// For each octet what it is: `-` white space, `a` a letter, `0` a digit, `_` itself, `.` another.
+static CLASSES: [u8; 256] = *b"\
+    .........--.--..................\
+    -...............0000000000......\
+    .aaaaaaaaaaaaaaaaaaaaaaaaaa...._\
+    .aaaaaaaaaaaaaaaaaaaaaaaaaa.....\
+    ................................\
+    ................................\
+    ................................\
+    ................................";
 
 /// A token, or none for a gap, and what is left after it.
 type Lexeme<'a> = Result<(Option<Kind>, &'a [u8]), Stop<'a>>;
@@ -43,16 +54,35 @@ fn mark(found: Mark, rest: &[u8]) -> Lexeme<'_>
     Ok((Some(Kind::Mark(found)), rest))
 }
 
+/// What the octet is, in the words of the table.
+fn class_of(c: u8) -> u8
+    ensures { result ≡ get_or CLASSES c 0 }
+{
+    CLASSES[usize::from(c)]
+}
+
 fn is_word(c: u8) -> bool
     ensures { result ≡ spec.is_word c }
 {
-    c.is_ascii_alphabetic() || c.is_ascii_digit() || c == b'_'
+    class_of(c) >= b'0'
 }
 
 fn is_space(c: u8) -> bool
     ensures { result ≡ spec.is_space c }
 {
-    c == b' ' || c == b'\t' || c == b'\r' || c == b'\n' || c == 12
+    class_of(c) == b'-'
+}
+
+fn is_letter(c: u8) -> bool
+    ensures { result ≡ is_ascii_alphabetic c }
+{
+    class_of(c) == b'a'
+}
+
+fn is_digit(c: u8) -> bool
+    ensures { result ≡ is_ascii_digit c }
+{
+    class_of(c) == b'0'
 }
 
 fn is_bit(c: u8) -> bool
@@ -64,7 +94,7 @@ fn is_bit(c: u8) -> bool
 fn is_hex(c: u8) -> bool
     ensures { result ≡ spec.is_hex c }
 {
-    c.is_ascii_digit() || (b'a' <= c && c <= b'f') || (b'A' <= c && c <= b'F')
+    is_digit(c) || (b'a' <= c && c <= b'f') || (b'A' <= c && c <= b'F')
 }
 
 /// The octets of which a run is made.
@@ -82,7 +112,7 @@ fn is_in(class: Class, c: u8) -> bool
 {
     match class {
         Class::Word => is_word(c),
-        Class::Digit => c.is_ascii_digit(),
+        Class::Digit => is_digit(c),
         Class::Bit => is_bit(c),
         Class::Hex => is_hex(c),
         Class::Line => c != b'\n',
@@ -291,10 +321,10 @@ fn quoted<'a>(text: &'a [u8], digits: &[u8], rest: &'a [u8]) -> Lexeme<'a>
         at: text,
         to: rest,
     };
-    let count = digits.len();
-    if count > 64 {
+    if digits.len() > 64 {
         return Err(large);
     }
+    let count = digits.len() as u8;
     match value(2, digits) {
         Some(value) => Ok((Some(Kind::BitText { count, value }), rest)),
         None => Err(large),
@@ -426,10 +456,10 @@ fn lexeme(text: &[u8]) -> Lexeme<'_>
     let first = *first;
     if is_space(first) {
         Ok((None, rest))
-    } else if first.is_ascii_alphabetic() {
+    } else if is_letter(first) {
         let after = after_run(Class::Word, rest);
         Ok((Some(word(text_of(text, after))), after))
-    } else if first.is_ascii_digit() {
+    } else if is_digit(first) {
         numeral(text, first, rest)
     } else {
         other(text, first, rest)

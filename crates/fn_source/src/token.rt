@@ -95,7 +95,7 @@ pub enum Mark {
 pub enum Kind {
     Name,
     Number(u64),
-    BitText { count: usize, value: u64 },
+    BitText { count: u8, value: u64 },
     Mark(Mark),
 }
 

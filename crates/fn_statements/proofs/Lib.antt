@@ -1,3 +1,2 @@
 pub mod Counted
-pub mod Gathered
 pub mod Valueless

@@ -1,5 +1,5 @@
 -- The constraints that statements give (docs/NOTATION.md), and the first fault in their expressions.
-use Rattle.std.specs.Prelude.{ℕ, List, [], ◌∷◌, ◌++◌, Option, None, Some}
+use Rattle.std.specs.Prelude.{ℕ, List, [], ◌∷◌, Option, None, Some}
 use Rattle.std.specs.List.{AllZip}
 use Rattle.fn_source.specs.declared.span.Span.{Span}
 use Rattle.fn_tree.specs.declared.tree.Bound.{Bound}
@@ -17,6 +17,8 @@ use Rattle.fn_terms.specs.declared.term.Kind.TheVariants as kind
 use Rattle.fn_terms.specs.Conjuncts.{AreConjuncts}
 use Rattle.fn_terms.specs.Judged.{fault_of, first_of}
 use Rattle.fn_terms.specs.Names.{Names, field_of}
+use Rattle.fn_statements.specs.declared.constraints.Said.{Said}
+use Rattle.fn_statements.specs.declared.constraints.Said.TheVariants as said
 use Rattle.fn_statements.specs.Arguments.{IsNumber}
 
 abbrev pub on_index : Side → Span → List Expr → Option ℕ → List Constraint
@@ -43,10 +45,11 @@ pub data ItemMeans (s : Names) (side : Side) : Item → List Constraint → Type
   bound : {b : Bound} {cs : List Constraint} → OptionalMeans s side b.name b.bracket cs → ItemMeans s side (items.Bound b) cs
   enforced : {at : Span} {condition : Tree} {cs : List Constraint} → AreConjuncts s condition cs → ItemMeans s side (items.Enforce at condition) cs
 
--- those of statements, in text order
-pub data AreConstraints (s : Names) (side : Side) : List Item → List Constraint → Type 0 where
-  none : AreConstraints s side [] []
-  more : {item : Item} {items : List Item} {cs ds : List Constraint} → ItemMeans s side item cs → AreConstraints s side items ds → AreConstraints s side (item ∷ items) (cs ++ ds)
+-- what the code found of one, as a list
+abbrev pub listed : Said → List Constraint
+listed said.Nothing = []
+listed (said.One c) = c ∷ []
+listed (said.Several cs) = cs
 
 -- ---- faults
 
@@ -62,7 +65,3 @@ abbrev pub item_fault : Names → Item → Option ProfileFault
 item_fault s (items.Field name bracket) = optional_fault s bracket
 item_fault s (items.Bound b) = optional_fault s b.bracket
 item_fault s (items.Enforce at condition) = fault_of kind.Truth s condition
-
--- the first fault of statements
-abbrev pub items_fault : Names → List Item → Option ProfileFault
-items_fault s items = first_of (item_fault s) items

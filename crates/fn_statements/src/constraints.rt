@@ -10,42 +10,54 @@ use fn_source::Span;
 use fn_terms::{Scope, conjuncts, numbers};
 use fn_tree::{Bracket, Item};
 use sqlite_items::Items;
-use std::alloc::Global;
+use std::alloc::{AllocError, Global};
 
-/// The constraints of a section's statements in text order: brackets on this side of their fields, and the conjuncts of each ENFORCE.
-/// The fault is the first one in their expressions.
-pub fn section_constraints(
-    alloc: Global,
-    scope: &Scope<'_, '_>,
-    side: Side,
-    items: &[Item],
-) -> Result<Items<Shared<Constraint>>, ResolveError>
-    ensures means { IfOk result (spec.AreConstraints scope.now side items.now) }
-    ensures right { IfOk result (λ _. spec.items_fault scope.now items.now ≡ None) }
-    ensures refused { IfErr result (Refuses (spec.items_fault scope.now items.now)) }
-{
-    let mut found = Items::new(alloc);
-    for item in items {
-        let more = item_constraints(alloc, scope, side, item)?;
-        found.append(more)?;
-    }
-    Ok(found)
+/// What a statement says: no constraint, one, or those of an ENFORCE.
+#[derive(Drop)]
+pub enum Said {
+    Nothing,
+    One(Shared<Constraint>),
+    Several(Items<Shared<Constraint>>),
 }
 
-fn item_constraints(
+impl Said {
+    /// The constraints in their order.
+    pub fn listed(self, alloc: Global) -> Result<Items<Shared<Constraint>>, AllocError>
+        ensures { IfOk result (λ found. found ≡ spec.listed self) }
+    {
+        let mut found = Items::new(alloc);
+        self.add_to(&mut found)?;
+        Ok(found)
+    }
+
+    /// Moves the constraints to the end.
+    pub fn add_to(self, found: &mut Items<Shared<Constraint>>) -> Result<(), AllocError>
+        ensures { OnOk result (found.new ≡ found.old ++ spec.listed self) }
+    {
+        match self {
+            Said::Nothing => Ok(()),
+            Said::One(constraint) => found.push(constraint),
+            Said::Several(more) => found.append(more),
+        }
+    }
+}
+
+/// The constraints of a statement: its bracket on this side of its field, or the conjuncts of an ENFORCE.
+/// The fault is the first one in its expressions.
+pub fn item_constraints(
     alloc: Global,
     scope: &Scope<'_, '_>,
     side: Side,
     item: &Item,
-) -> Result<Items<Shared<Constraint>>, ResolveError>
-    ensures means { IfOk result (spec.ItemMeans scope.now side item.now) }
+) -> Result<Said, ResolveError>
+    ensures means { IfOk result (λ said. spec.ItemMeans scope.now side item.now (spec.listed said)) }
     ensures right { IfOk result (λ _. spec.item_fault scope.now item.now ≡ None) }
     ensures refused { IfErr result (Refuses (spec.item_fault scope.now item.now)) }
 {
     match item {
         Item::Field(name, bracket) => { optional_bracket(alloc, scope, side, *name, bracket) }
         Item::Bound(bound) => { optional_bracket(alloc, scope, side, bound.name, &bound.bracket) }
-        Item::Enforce(_, condition) => conjuncts(alloc, scope, condition),
+        Item::Enforce(_, condition) => Ok(Said::Several(conjuncts(alloc, scope, condition)?)),
     }
 }
 
@@ -55,13 +67,13 @@ fn optional_bracket(
     side: Side,
     name: Span,
     bracket: &Option<Bracket>,
-) -> Result<Items<Shared<Constraint>>, ResolveError>
-    ensures means { IfOk result (spec.OptionalMeans scope.now side name bracket.now) }
+) -> Result<Said, ResolveError>
+    ensures means { IfOk result (λ said. spec.OptionalMeans scope.now side name bracket.now (spec.listed said)) }
     ensures right { IfOk result (λ _. spec.optional_fault scope.now bracket.now ≡ None) }
     ensures refused { IfErr result (Refuses (spec.optional_fault scope.now bracket.now)) }
 {
     match bracket {
-        None => Ok(Items::new(alloc)),
+        None => Ok(Said::Nothing),
         Some(bracket) => bracket_constraint(alloc, scope, side, name, bracket),
     }
 }
@@ -72,13 +84,13 @@ fn bracket_constraint(
     side: Side,
     name: Span,
     bracket: &Bracket,
-) -> Result<Items<Shared<Constraint>>, ResolveError>
-    ensures means { IfOk result (spec.BracketMeans scope.now side name bracket.now) }
+) -> Result<Said, ResolveError>
+    ensures means { IfOk result (λ said. spec.BracketMeans scope.now side name bracket.now (spec.listed said)) }
     ensures right { IfOk result (λ _. spec.bracket_fault scope.now bracket.now ≡ None) }
     ensures refused { IfErr result (Refuses (spec.bracket_fault scope.now bracket.now)) }
 {
     match bracket {
-        Bracket::Variable(_) => Ok(Items::new(alloc)),
+        Bracket::Variable(_) => Ok(Said::Nothing),
         Bracket::Lengths(place, lengths) => {
             let lengths = numbers(alloc, scope, lengths.as_slice())?;
             lengths_constraint(alloc, scope, side, name, *place, lengths)
@@ -94,19 +106,20 @@ fn lengths_constraint(
     name: Span,
     place: Span,
     lengths: Items<Expr>,
-) -> Result<Items<Shared<Constraint>>, ResolveError>
-    ensures means { IfOk result (λ found. found ≡ spec.on_field scope.now side name place lengths) }
+) -> Result<Said, ResolveError>
+    ensures means { IfOk result (λ said. spec.listed said ≡ spec.on_field scope.now side name place lengths) }
     ensures refused { IfErr result (λ e. e ≡ ResolveError.OutOfMemory) }
 {
-    let mut found = Items::new(alloc);
-    if let Some(field) = scope.field(name) {
-        let constraint = Constraint::Bracket {
-            field,
-            side,
-            lengths,
-            place,
-        };
-        found.push(Shared::new(alloc, constraint)?)?;
+    match scope.field(name) {
+        Some(field) => {
+            let constraint = Constraint::Bracket {
+                field,
+                side,
+                lengths,
+                place,
+            };
+            Ok(Said::One(Shared::new(alloc, constraint)?))
+        }
+        None => Ok(Said::Nothing),
     }
-    Ok(found)
 }

@@ -2,7 +2,7 @@
 #![tactic(auto)]
 
 pub use callee::{Callee, Methods, is_library};
-pub use constraints::section_constraints;
+pub use constraints::{Said, item_constraints};
 pub use initial::initial_bits;
 pub use resolving::encoding;
 

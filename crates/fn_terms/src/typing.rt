@@ -1,6 +1,6 @@
 //! From the tree's expressions to typed ones.
 
-ghost use Rattle.std.specs.Prelude.{◌≡◌, pos, neg_ℤ, IfOk, IfErr};
+ghost use Rattle.std.specs.Prelude.{◌≡◌, None, pos, neg_ℤ, IfOk, IfErr};
 ghost use Rattle.std.specs.List.{AllZip};
 ghost use Rattle.fn_terms.specs.Judged as spec;
 ghost use Rattle.fn_terms.specs.Means.{Means};
@@ -17,6 +17,7 @@ use sqlite_items::Items;
 use std::alloc::{AllocError, Global};
 
 /// The meaning of an expression, whichever its kind.
+#[cycle(terms)]
 pub(crate) fn term(
     alloc: Global,
     scope: &Scope<'_, '_>,
@@ -36,29 +37,29 @@ pub(crate) fn term(
         }
         tree::Expr::Group(_, inner) => term(alloc, scope, inner.get()),
         tree::Expr::Not(at, inner) => {
-            let inner = term(alloc, scope, inner.get())?.condition()?;
+            let inner = condition(alloc, scope, inner.get())?;
             Ok(Term::Truth(Cond::Not(*at, Box::new(alloc, inner)?)))
         }
         tree::Expr::Binary(at, operator, _, left, right) => match meaning_of(*operator) {
             Meaning::Arithmetic(operator) => {
-                let left = Box::new(alloc, term(alloc, scope, left.get())?.number()?)?;
-                let right = Box::new(alloc, term(alloc, scope, right.get())?.number()?)?;
+                let left = Box::new(alloc, number(alloc, scope, left.get())?)?;
+                let right = Box::new(alloc, number(alloc, scope, right.get())?)?;
                 let expr = Expr::Binary(*at, operator, left, right);
                 Ok(Term::Number(within(alloc, scope, expr)?))
             }
             Meaning::Comparison(comparison) => {
-                let left = term(alloc, scope, left.get())?.number()?;
-                let right = term(alloc, scope, right.get())?.number()?;
+                let left = number(alloc, scope, left.get())?;
+                let right = number(alloc, scope, right.get())?;
                 Ok(Term::Truth(Cond::Compare(*at, comparison, left, right)))
             }
             Meaning::And => {
-                let left = Box::new(alloc, term(alloc, scope, left.get())?.condition()?)?;
-                let right = Box::new(alloc, term(alloc, scope, right.get())?.condition()?)?;
+                let left = Box::new(alloc, condition(alloc, scope, left.get())?)?;
+                let right = Box::new(alloc, condition(alloc, scope, right.get())?)?;
                 Ok(Term::Truth(Cond::And(*at, left, right)))
             }
             Meaning::Or => {
-                let left = Box::new(alloc, term(alloc, scope, left.get())?.condition()?)?;
-                let right = Box::new(alloc, term(alloc, scope, right.get())?.condition()?)?;
+                let left = Box::new(alloc, condition(alloc, scope, left.get())?)?;
+                let right = Box::new(alloc, condition(alloc, scope, right.get())?)?;
                 Ok(Term::Truth(Cond::Or(*at, left, right)))
             }
         },
@@ -114,23 +115,35 @@ fn attribute(
     ))
 }
 
-/// The meaning of an expression where a whole number is wanted.
+/// The meaning of an expression where a whole number is wanted. What is one by itself is read without a term around it.
+#[cycle(terms)]
 pub fn number(alloc: Global, scope: &Scope<'_, '_>, part: &tree::Expr) -> Result<Expr, ResolveError>
     ensures means { IfOk result (λ e. Means scope.now part.now (Term.Number e)) }
+    ensures judged { IfOk result (λ e. spec.judged scope.now part.now ≡ spec.found (Term.Number e)) }
     ensures right { IfOk result (λ _. spec.fault_of Kind.Number scope.now part.now ≡ None) }
     ensures refused { IfErr result (spec.Refuses (spec.fault_of Kind.Number scope.now part.now)) }
 {
-    let found = term(alloc, scope, part)?;
-    Ok(found.number()?)
+    match part {
+        tree::Expr::Number(at, n) => Ok(within(alloc, scope, positive(*at, *n))?),
+        tree::Expr::Negative(at, n) => Ok(within(alloc, scope, negative(*at, *n))?),
+        tree::Expr::Name(at) => Ok(name(alloc, scope, *at)?),
+        tree::Expr::Attribute(at, owner, which) => Ok(attribute(scope, *at, *owner, *which)?),
+        _ => {
+            let found = term(alloc, scope, part)?;
+            Ok(found.number()?)
+        }
+    }
 }
 
 /// The meaning of an expression where a truth is wanted.
+#[cycle(terms)]
 pub(crate) fn condition(
     alloc: Global,
     scope: &Scope<'_, '_>,
     part: &tree::Expr,
 ) -> Result<Cond, ResolveError>
     ensures means { IfOk result (λ c. Means scope.now part.now (Term.Truth c)) }
+    ensures judged { IfOk result (λ c. spec.judged scope.now part.now ≡ spec.found (Term.Truth c)) }
     ensures right { IfOk result (λ _. spec.fault_of Kind.Truth scope.now part.now ≡ None) }
     ensures refused { IfErr result (spec.Refuses (spec.fault_of Kind.Truth scope.now part.now)) }
 {
@@ -148,7 +161,7 @@ pub fn numbers(
     ensures right { IfOk result (λ _. spec.first_of (spec.fault_of Kind.Number scope.now) parts.now ≡ None) }
     ensures refused { IfErr result (spec.Refuses (spec.first_of (spec.fault_of Kind.Number scope.now) parts.now)) }
 {
-    let mut found = Items::new(alloc);
+    let mut found = Items::from_vec(Vec::with_capacity(alloc, parts.len())?);
     for part in parts {
         found.push(number(alloc, scope, part)?)?;
     }

@@ -1,5 +1,5 @@
 -- How expressions are read, one step at a time.
-use Rattle.std.proofs.Common.{◌≡◌, ℕ, zero, suc, ◌+◌, ◌-◌, ◌<◌, ◌&&◌, List, [], ◌∷◌, length, Option, Some, None, Ok, Err, true, false, refl, sym, ap, subst, ◌∙◌, arith, inl}
+use Rattle.std.proofs.Common.{◌≡◌, ℕ, zero, suc, ◌+◌, ◌-◌, ◌<◌, ◌&&◌, List, [], ◌∷◌, length, Option, Some, None, is_some, Ok, Err, true, false, refl, sym, ap, subst, ◌∙◌, arith, inl}
 use Rattle.fn_source.specs.declared.span.Span.{Span}
 use Rattle.fn_source.specs.declared.fault.FaultKind.TheVariants as f
 use Rattle.fn_source.specs.declared.token.Kind.{Kind}
@@ -20,11 +20,11 @@ use Rattle.fn_tree.specs.declared.progress.Sum.TheVariants as sums
 use Rattle.fn_tree.specs.declared.progress.Progress.{Progress}
 use Rattle.fn_tree.specs.declared.expr.Counted.{Counted}
 use Rattle.fn_tree.specs.Spans.{cover}
-use Rattle.fn_tree.specs.Operators.{operator, is_late, follows, step, start, inside}
+use Rattle.fn_tree.specs.Operators.{operator, operator_of, in_tier, is_operator, is_late, follows, step, start, inside}
 use Rattle.fn_tree.specs.Rules.{Rules, is_full, nesting, most_operators}
 use Rattle.fn_tree.specs.Grammar.{attribute_of}
-use Rattle.fn_tree.specs.Reading.{Reader, stops, is_next, kind_at, Fails}
-use Rattle.fn_tree.specs.Expr.{counted, joined, grouped, denied, mixed, attribute_as, attribute_by, attribute, named, this, negative_by, negative, leaf_by, leaf, admit, operation, turn_by, turn, power_by, power, tiers, operations, group, denial, prim_by, flat, nested, prim, whole}
+use Rattle.fn_tree.specs.Reading.{Reader, Outcome, and_then, stops, is_next, kind_at, Fails}
+use Rattle.fn_tree.specs.Expr.{counted, joined, grouped, denied, mixed, attribute_as, attribute_by, attribute, named, this, negative_by, negative, leaf_by, leaf, admit, operation, turn_by, turn, power_by, power, tiers, climb, operations, group, denial, prim_by, flat, nested, prim, whole}
 use Rattle.fn_tree.proofs.Local.{IsLocal, Looks, local_peek_at, stops_looks, Advances, IsTurn, local_pure, local_refuse, local_peek, local_take, local_bind, local_map, local_either, local_expect, local_repeat, unroll, turn_stop, turn_map, turn_peek}
 use Rattle.fn_tree.proofs.Many.{Consumes, consumes_either, consumes_bind, consumes_stops, consumes_refuse, consumes_one, consumes_mixed_at}
 
@@ -197,10 +197,6 @@ module _ (r : Rules) where
   unfolding prim
   prim_more depth progress = refl
 
-  pub tiers_zero : (depth : ℕ) (progress : Progress) → tiers r 0 (prim r depth) progress ≡ prim r depth progress
-  unfolding tiers
-  tiers_zero depth progress = refl
-
   advances : (depth below : ℕ) → Advances (turn r (tiers r below (prim r depth)) (suc below))
   advances depth below = turn_advances (local_expr depth below) (suc below)
 
@@ -231,18 +227,91 @@ module _ (r : Rules) where
   unfolding tiers operations
   tiers_on depth below progress ts mid first read = rw read refl
 
+  -- an operand, and then the operators of the tiers
+  pub tiers_climb : (depth tier : ℕ) (progress : Progress) (ts mid : List Token) (first : Counted) → prim r depth progress ts ≡ Ok (first, mid) → tiers r tier (prim r depth) progress ts ≡ climb r tier (prim r depth) first mid
+  unfolding tiers climb
+  tiers_climb depth zero progress ts mid first read = read
+  tiers_climb depth (suc zero) progress ts mid first read = rw read refl
+  tiers_climb depth (suc (suc below)) progress ts mid first read = rw (tiers_climb depth (suc below) progress ts mid first read) refl
+
+  pub tiers_fails : (depth tier : ℕ) (progress : Progress) (ts : List Token) (refusal : Refusal) → prim r depth progress ts ≡ Err refusal → tiers r tier (prim r depth) progress ts ≡ Err refusal
+  unfolding tiers
+  tiers_fails depth zero progress ts refusal read = read
+  tiers_fails depth (suc zero) progress ts refusal read = rw read refl
+  tiers_fails depth (suc (suc below)) progress ts refusal read = rw (tiers_fails depth (suc below) progress ts refusal read) refl
+
+  pub climb_on : (depth below : ℕ) (first left : Counted) (ts mid : List Token) → climb r (suc below) (prim r depth) first ts ≡ Ok (left, mid) → climb r (suc (suc below)) (prim r depth) first ts ≡ operations r (suc below) (prim r depth) left mid
+  unfolding climb operations
+  climb_on depth below first left ts mid read = rw read refl
+
+  pub climb_zero : (depth : ℕ) (first : Counted) (ts : List Token) → climb r 0 (prim r depth) first ts ≡ Ok (first, ts)
+  unfolding climb
+  climb_zero depth first ts = refl
+
+  pub climb_one : (depth : ℕ) (first : Counted) (ts : List Token) → climb r 1 (prim r depth) first ts ≡ power r (tiers r 0 (prim r depth)) first ts
+  unfolding climb tiers
+  climb_one depth first ts = refl
+
+  pub climb_fails : (depth below : ℕ) (first : Counted) (ts : List Token) (refusal : Refusal) → climb r (suc below) (prim r depth) first ts ≡ Err refusal → climb r (suc (suc below)) (prim r depth) first ts ≡ Err refusal
+  unfolding climb
+  climb_fails depth below first ts refusal read = rw read refl
+
+  -- without an operator no tier goes on
+  pub climb_stops : (depth tier : ℕ) (first : Counted) (ts : List Token) → ((n : ℕ) → operator n (kind_at ts) ≡ None) → climb r tier (prim r depth) first ts ≡ Ok (first, ts)
+  unfolding climb power
+  climb_stops depth zero first ts none = refl
+  climb_stops depth (suc zero) first ts none = rw (none 1) refl
+  climb_stops depth (suc (suc below)) first ts none = climb_on depth below first first ts ts (climb_stops depth (suc below) first ts none) ∙ operations_stop depth (suc below) first ts (none (suc (suc below)))
+
   pub tiers_one : (depth : ℕ) (progress : Progress) (ts mid : List Token) (first : Counted) → prim r depth progress ts ≡ Ok (first, mid) → tiers r 1 (prim r depth) progress ts ≡ power r (prim r depth) first mid
   unfolding tiers
   tiers_one depth progress ts mid first read = rw read refl
 
-pub tiers_next : (r : Rules) (depth tier : ℕ) (progress : Progress) (ts mid : List Token) (first : Counted) → 1 < tier → tiers r (tier - 1) (prim r depth) progress ts ≡ Ok (first, mid)
-    → tiers r tier (prim r depth) progress ts ≡ operations r (tier - 1) (prim r depth) first mid
-tiers_next r depth zero progress ts mid first some read = absurd (omega arith)
-tiers_next r depth (suc zero) progress ts mid first some read = absurd (omega arith)
-tiers_next r depth (suc (suc below)) progress ts mid first some read =
+pub climb_next : (r : Rules) (depth tier : ℕ) (first left : Counted) (ts mid : List Token) → 1 < tier → climb r (tier - 1) (prim r depth) first ts ≡ Ok (left, mid)
+    → climb r tier (prim r depth) first ts ≡ operations r (tier - 1) (prim r depth) left mid
+climb_next r depth zero first left ts mid some read = absurd (omega arith)
+climb_next r depth (suc zero) first left ts mid some read = absurd (omega arith)
+climb_next r depth (suc (suc below)) first left ts mid some read =
     let same : suc (suc below) - 1 ≡ suc below = omega arith in
-    let at : tiers r (suc below) (prim r depth) progress ts ≡ Ok (first, mid) = subst (λ (n : ℕ). tiers r n (prim r depth) progress ts ≡ Ok (first, mid)) same read in
-    tiers_on r depth below progress ts mid first at ∙ ap (λ (n : ℕ). operations r n (prim r depth) first mid) (sym same)
+    let at : climb r (suc below) (prim r depth) first ts ≡ Ok (left, mid) = subst (λ (n : ℕ). climb r n (prim r depth) first ts ≡ Ok (left, mid)) same read in
+    climb_on r depth below first left ts mid at ∙ ap (λ (n : ℕ). operations r n (prim r depth) left mid) (sym same)
+
+pub climb_err : (r : Rules) (depth tier : ℕ) (first : Counted) (ts : List Token) (error : ParseError) → 0 < tier → Fails error (climb r (tier - 1) (prim r depth) first ts) → Fails error (climb r tier (prim r depth) first ts)
+climb_err r depth tier first ts errors.Memory some read = tt
+climb_err r depth zero first ts (errors.Refused refusal) some read = absurd (omega arith)
+climb_err r depth (suc zero) first ts (errors.Refused refusal) some read =
+    let same : suc zero - 1 ≡ zero = omega arith in
+    let at : climb r zero (prim r depth) first ts ≡ Err refusal = subst (λ (n : ℕ). climb r n (prim r depth) first ts ≡ Err refusal) same read in
+    let wrong : Path (Outcome Counted) (Ok (first, ts)) (Err refusal) = sym (climb_zero r depth first ts) ∙ at in
+    absurd (cc)
+climb_err r depth (suc (suc below)) first ts (errors.Refused refusal) some read =
+    let same : suc (suc below) - 1 ≡ suc below = omega arith in
+    climb_fails r depth below first ts refusal (subst (λ (n : ℕ). climb r n (prim r depth) first ts ≡ Err refusal) same read)
+
+pub tiers_err : (r : Rules) (depth tier : ℕ) (progress : Progress) (ts : List Token) (error : ParseError) → Fails error (prim r depth progress ts) → Fails error (tiers r tier (prim r depth) progress ts)
+tiers_err r depth tier progress ts errors.Memory read = tt
+tiers_err r depth tier progress ts (errors.Refused refusal) read = tiers_fails r depth tier progress ts refusal read
+
+-- the first tier is that of `^`
+pub climb_power : (r : Rules) (depth tier : ℕ) (first left : Counted) (ts mid : List Token) → tier ≡ 1 → climb r (tier - 1) (prim r depth) first ts ≡ Ok (left, mid)
+    → climb r tier (prim r depth) first ts ≡ power r (tiers r 0 (prim r depth)) left mid
+climb_power r depth tier first left ts mid one read =
+    let none : tier - 1 ≡ 0 = omega (arith, one) in
+    let at : climb r 0 (prim r depth) first ts ≡ Ok (left, mid) = subst (λ (n : ℕ). climb r n (prim r depth) first ts ≡ Ok (left, mid)) none read in
+    let same : Ok (first, ts) ≡ Ok (left, mid) = sym (climb_zero r depth first ts) ∙ at in
+    ap (λ (n : ℕ). climb r n (prim r depth) first ts) one ∙ (climb_one r depth first ts ∙ (λ k. and_then (same k) (λ c. power r (tiers r 0 (prim r depth)) c)))
+
+-- no tier has what is no operator
+pub no_operator : (next : Option Kind) → is_operator next ≡ false → (tier : ℕ) → operator tier next ≡ None
+no_operator None h tier = refl
+no_operator (Some k.Name) h tier = refl
+no_operator (Some (k.Number n)) h tier = refl
+no_operator (Some (k.BitText count value)) h tier = refl
+no_operator (Some (k.Mark mark)) h tier = by (operator_of mark) h
+  where
+    by : (o : Option Operator) → is_some o ≡ false → in_tier tier o ≡ None
+    by None h = refl
+    by (Some o) h = absurd (cc)
 
 pub deeper : {X : Type 0} (g : ℕ → X) (n : ℕ) → 0 < n → g n ≡ g (suc (n - 1))
 deeper g n some = let same : n ≡ suc (n - 1) = omega arith in ap g same

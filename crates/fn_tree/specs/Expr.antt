@@ -114,6 +114,12 @@ module _ (r : Rules) where
   tiers (suc zero) prim progress = prim progress >>= power prim
   tiers (suc (suc below)) prim progress = tiers (suc below) prim progress >>= repeat (turn (tiers (suc below) prim) (suc (suc below)))
 
+  -- after an operand: operators of the tiers up to this one, and more operands
+  unfoldable pub climb : ℕ → (Progress → Reader Counted) → Counted → Reader Counted
+  climb zero prim first = pure first
+  climb (suc zero) prim first = power prim first
+  climb (suc (suc below)) prim first = climb (suc below) prim first >>= repeat (turn (tiers (suc below) prim) (suc (suc below)))
+
   unfoldable pub operations : ℕ → (Progress → Reader Counted) → Counted → Reader Counted
   operations below prim = repeat (turn (tiers below prim) (suc below))
 

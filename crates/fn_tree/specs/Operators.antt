@@ -1,5 +1,5 @@
 -- Operators, and what the rules on them look at.
-use Rattle.std.specs.Prelude.{ℕ, ◌+◌, ◌==◌, nat_lt, if◌then◌else◌, Bool, true, false, Option, Some, None}
+use Rattle.std.specs.Prelude.{ℕ, ◌+◌, ◌==◌, nat_lt, is_some, if◌then◌else◌, Bool, true, false, Option, Some, None}
 use Rattle.fn_source.specs.declared.span.Span.{Span}
 use Rattle.fn_source.specs.declared.token.Mark.{Mark}
 use Rattle.fn_source.specs.declared.token.Mark.TheVariants as m
@@ -48,6 +48,11 @@ in_tier tier None = None
 abbrev pub operator : ℕ → Option Kind → Option Operator
 operator tier (Some (k.Mark mark)) = in_tier tier (operator_of mark)
 operator tier _ = None
+
+-- whether the token is an operator, of whichever tier
+abbrev pub is_operator : Option Kind → Bool
+is_operator (Some (k.Mark mark)) = is_some (operator_of mark)
+is_operator _ = false
 
 -- ^ * / % + -
 abbrev pub is_integer : Operator → Bool

@@ -7,7 +7,9 @@ ghost use Rattle.fn_tree.specs.Grammar as grammar;
 ghost use Rattle.fn_tree.specs.Spans as spans;
 ghost use Rattle.fn_tree.specs.Expr as spec;
 
-use crate::progress::{Progress, Sum, follows, inside, is_late, operator, outside, step};
+use crate::progress::{
+    Progress, Sum, follows, inside, is_late, is_operator, operator, outside, step,
+};
 use crate::refusal::ParseError;
 use crate::tokens::{Tokens, stops_at};
 use crate::tree::{Attribute, Expr, Operator, Owner};
@@ -286,7 +288,6 @@ fn operation(
 
 /// An expression of the tier.
 #[cycle(expr)]
-#[tactic(auto, unfolding(crate::specs::Expr::tiers))]
 fn tiers(
     alloc: Global,
     tokens: &mut Tokens<'_>,
@@ -297,14 +298,33 @@ fn tiers(
     requires { tier < 8 }
     ensures { Reads (spec.tiers all tier (spec.prim all depth) progress tokens.old) result tokens.new }
 {
+    let first = prim(alloc, tokens, depth, progress)?;
+    climb(alloc, tokens, depth, tier, first)
+}
+
+/// Goes on after an operand with operators of the tiers up to this one. Most operands stand alone: no tier is looked at where no operator comes next.
+#[cycle(expr)]
+fn climb(
+    alloc: Global,
+    tokens: &mut Tokens<'_>,
+    depth: usize,
+    tier: usize,
+    first: Counted,
+) -> Result<Counted, ParseError>
+    requires { tier < 8 }
+    ensures { Reads (spec.climb all tier (spec.prim all depth) first tokens.old) result tokens.new }
+{
     if tier == 0 {
-        return prim(alloc, tokens, depth, progress);
+        return Ok(first);
     }
-    let first = tiers(alloc, tokens, depth, tier - 1, progress)?;
+    if !is_operator(tokens.peek()) {
+        return Ok(first);
+    }
+    let left = climb(alloc, tokens, depth, tier - 1, first)?;
     if tier == 1 {
-        power(alloc, tokens, depth, first)
+        power(alloc, tokens, depth, left)
     } else {
-        operations(alloc, tokens, depth, tier - 1, first)
+        operations(alloc, tokens, depth, tier - 1, left)
     }
 }
 

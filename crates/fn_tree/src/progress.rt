@@ -58,6 +58,16 @@ fn operator_of(mark: Mark) -> Option<Operator>
     }
 }
 
+/// Whether the token is an operator, of whichever tier.
+pub(crate) fn is_operator(next: Option<Kind>) -> bool
+    ensures { result ≡ spec.is_operator next }
+{
+    match next {
+        Some(Kind::Mark(mark)) => operator_of(mark).is_some(),
+        _ => false,
+    }
+}
+
 /// The operator of the tier that the token is.
 pub(crate) fn operator(tier: usize, next: Option<Kind>) -> Option<Operator>
     ensures { result ≡ spec.operator tier next }

@@ -18,6 +18,9 @@ use std::alloc::Global;
 /// The most arguments of a call, and the most lengths in a bracket.
 const MOST_VALUES: usize = 32;
 
+/// As many as most lists of them have.
+const MOSTLY: usize = 2;
+
 /// The most statements of a section.
 const MOST_STATEMENTS: usize = 128;
 
@@ -89,7 +92,7 @@ fn next_expr(alloc: Global, tokens: &mut Tokens<'_>, count: usize) -> Result<Exp
 fn exprs(alloc: Global, tokens: &mut Tokens<'_>) -> Result<Items<Expr>, ParseError>
     ensures { Reads (spec.exprs all tokens.old) result tokens.new }
 {
-    let mut found = Items::new(alloc);
+    let mut found = Items::from_vec(Vec::with_capacity(alloc, MOSTLY)?);
     found.push(whole(alloc, tokens)?)?;
     'more: while tokens.sees(Mark::Comma) {
         let count = found.len();
@@ -198,7 +201,7 @@ fn encoding(alloc: Global, tokens: &mut Tokens<'_>) -> Result<Encoding, ParseErr
     match tokens.peek() {
         Some(Kind::BitText { count, value }) => {
             let at = tokens.take()?;
-            Ok(Encoding::Bits(at, count, value))
+            Ok(Encoding::Bits(at, usize::from(count), value))
         }
         Some(Kind::Name) => {
             let at = tokens.take()?;

@@ -14,6 +14,7 @@ use fn_engine::{PackFault, Read, UnpackFault, Written, pack, unpack};
 use fn_filling::{AskedValue, Item};
 use fn_normal::Method;
 use fn_reader::Blamed;
+use itoa::Buffer;
 use std::alloc::{AllocError, Global};
 
 /// A line of the output.
@@ -214,14 +215,17 @@ fn unpack_one(
 fn read_line(alloc: Global, item: &Item, bits: usize) -> Result<String, AllocError>
     ensures { IfOk result (λ text. spec.IsTaken item.now bits (string_bytes text)) }
 {
-    let item = item_text(alloc, item)?;
-    took_words(alloc, item.as_str(), bits)
+    let mut text = item_text(alloc, item)?;
+    push_took(&mut text, bits)?;
+    Ok(text)
 }
 
-fn took_words(alloc: Global, item: &str, bits: usize) -> Result<String, AllocError>
-    ensures { IfOk result (λ text. string_bytes text ≡ item.now ++ codes " took " ++ decimal bits) }
+fn push_took(text: &mut String, bits: usize) -> Result<(), AllocError>
+    ensures { OnOk result (string_bytes text.new ≡ string_bytes text.old ++ codes " took " ++ decimal bits) }
 {
-    format!(in alloc; "{item} took {bits}")
+    let mut buffer = Buffer::new();
+    text.push_str(" took ")?;
+    text.push_str(buffer.format(bits))
 }
 
 /// The text of an item: its header, then each value after a blank.

@@ -9,7 +9,6 @@ returns-then-not-is_in c = λ encodings is.
 
 pub returns : goal.returns
 returns c = λ encodings is.
-    format_judged c.args.text.now encodings c.args.place c.args.section.now c.args.shared.now c.in_ok-table.table (sym c.is_in.ensures ∙ c.if-is_in.false) (sym c.is_in-2.ensures ∙ c.if-not-is_in.false) is
-    (rw (c.as_slice-3.ensures, c.in_ok-bound.ensures, c.as_slice-2.ensures, c.in_ok-own.ensures) at c.in_ok-table.ensures)
+    format_judged c.args.text.now encodings c.args.place c.args.section.now (sym c.is_in.ensures ∙ c.if-is_in.false) (sym c.is_in-2.ensures ∙ c.if-not-is_in.false)
     (rw (c.as_slice.ensures, c.in_ok-own.ensures) at c.in_ok-repeated.ensures)
-    (rw (c.as_slice-4.ensures, c.in_ok-own.ensures) at c.all_not_encoded-bare.ensures) c.earlier.ensures
+    (rw (c.as_slice-2.ensures, c.in_ok-own.ensures) at (c.in_ok-bare.ensures encodings is)) c.earlier.ensures

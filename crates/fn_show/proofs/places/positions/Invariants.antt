@@ -1,11 +1,10 @@
-use Rattle.std.proofs.Common.{◌≡◌, length}
-use Rattle.fn_show.specs.Known.{AreKnown}
-use Rattle.fn_show.proofs.Steps.{Stands}
+use Rattle.std.proofs.Common.{◌≡◌, ◌+◌, ◌*◌, length}
+use Rattle.fn_show.specs.Known.{IsPlace, AreKnown}
 use Rattle.fn_show.proofs.places.positions.Given as goal
 
-abbrev pub invariant-loop-octet : goal.invariant-loop-octet
-invariant-loop-octet l = record {
-  here : Stands l.octets l.octet-index l.line l.column;
+abbrev pub invariant-loop-k : goal.invariant-loop-k
+invariant-loop-k l = record {
+  here : IsPlace l.octets (l.k * 16) l.place;
   known : AreKnown l.octets l.table.items;
-  count : length l.table.items ≡ l.octet-index;
+  count : length l.table.items ≡ l.k + 1;
 }

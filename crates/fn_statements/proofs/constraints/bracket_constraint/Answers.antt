@@ -4,7 +4,7 @@ use Rattle.fn_statements.specs.Constraints.{BracketMeans, variable, lengths}
 use Rattle.fn_statements.proofs.constraints.bracket_constraint.Goals as goal
 
 pub returns-in-Variable-clause-means : goal.returns-in-Variable-clause-means
-returns-in-Variable-clause-means c = rw (c.in-Variable.is, c.new.ensures) variable
+returns-in-Variable-clause-means c = rw c.in-Variable.is variable
 
 pub returns-in_ok-lengths-in-Lengths-clause-means : goal.returns-in_ok-lengths-in-Lengths-clause-means
 returns-in_ok-lengths-in-Lengths-clause-means c =

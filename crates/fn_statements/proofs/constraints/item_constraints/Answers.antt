@@ -8,5 +8,5 @@ returns-in-Field-clause-means c = rw c.in-Field.is (IfOk-weaker c.optional_brack
 pub returns-in-Bound-clause-means : goal.returns-in-Bound-clause-means
 returns-in-Bound-clause-means c = rw c.in-Bound.is (IfOk-weaker c.optional_bracket-in-Bound.result _ _ (λ cs means. bound means) c.optional_bracket-in-Bound.ensures.means)
 
-pub returns-in-Enforce-clause-means : goal.returns-in-Enforce-clause-means
-returns-in-Enforce-clause-means c = rw c.in-Enforce.is (IfOk-weaker c.conjuncts.result _ _ (λ cs means. enforced means) c.conjuncts.ensures.means)
+pub returns-in_ok-conjuncts-in-Enforce-clause-means : goal.returns-in_ok-conjuncts-in-Enforce-clause-means
+returns-in_ok-conjuncts-in-Enforce-clause-means c = rw c.in-Enforce.is (enforced c.in_ok-conjuncts-in-Enforce.ensures.means)

@@ -1,8 +1,10 @@
-use Rattle.std.proofs.Common.{◌≡◌, ◌-◌, sym, ◌∙◌, arith, Some, None}
+use Rattle.std.proofs.Common.{◌≡◌, ◌-◌, sym, ap, ◌∙◌, arith, Some, None}
 use Rattle.std.proofs.lemmas.Result.{err_from_is_err_and}
 use Rattle.fn_tree.specs.Rules.{all}
 use Rattle.fn_tree.specs.Expr.{prim}
-use Rattle.fn_tree.proofs.Exprs.{prim_zero, prim_more, deeper, operations_stop, operations_on, operations_fails, operation_shorter, tier_at, tiers_next}
+use Rattle.fn_tree.specs.Operators.{is_operator}
+use Rattle.fn_tree.specs.Reading.{kind_at}
+use Rattle.fn_tree.proofs.Exprs.{prim_zero, prim_more, deeper, operations_stop, operations_on, operations_fails, operation_shorter, tier_at, tiers_climb, tiers_err, climb_zero, climb_stops, climb_power, climb_next, climb_err, no_operator}
 use Rattle.fn_tree.proofs.expr.+expr.Goals as goal
 
 pub operations-returns : goal.operations-returns
@@ -34,6 +36,34 @@ pub prim-returns-else-depth-eq0 : goal.prim-returns-else-depth-eq0
 prim-returns-else-depth-eq0 t c =
     rw (deeper (λ n. prim all n c.args.progress c.args.tokens.now) c.args.depth (omega arith), prim_more all (c.args.depth - 1) c.args.progress) c.nested.ensures
 
-pub tiers-returns-else-tier-eq1 : goal.tiers-returns-else-tier-eq1
-tiers-returns-else-tier-eq1 t c =
-    rw (tiers_next all c.args.depth c.args.tier c.args.progress c.args.tokens.now c.tiers.new.tokens c.in_ok-first.first (omega arith) c.in_ok-first.ensures) c.operations.ensures
+pub climb-returns-then-tier-eq0 : goal.climb-returns-then-tier-eq0
+climb-returns-then-tier-eq0 t c = rw (c.if-tier-eq0.true) (climb_zero all c.args.depth c.args.first c.args.tokens.now)
+
+pub climb-returns-then-not-is_operator : goal.climb-returns-then-not-is_operator
+climb-returns-then-not-is_operator t c =
+    climb_stops all c.args.depth c.args.tier c.args.first c.args.tokens.now
+    (no_operator (kind_at c.args.tokens.now) (ap is_operator (sym c.peek.ensures) ∙ (sym c.is_operator.ensures ∙ c.if-not-is_operator.true)))
+
+pub climb-returns-in_err-left : goal.climb-returns-in_err-left
+climb-returns-in_err-left t c =
+    let p = err_from_is_err_and c.from_residual.result c.from_residual.ensures.1 in
+    rw (p.1, p.2)
+    (climb_err all c.args.depth c.args.tier c.args.first c.args.tokens.now c.in_err-left.field-0.0 (omega (arith, c.if-tier-eq0.false)) c.in_err-left.ensures)
+
+pub climb-returns-then-tier-eq1 : goal.climb-returns-then-tier-eq1
+climb-returns-then-tier-eq1 t c =
+    rw (climb_power all c.args.depth c.args.tier c.args.first c.in_ok-left.left c.args.tokens.now c.climb.new.tokens c.if-tier-eq1.true c.in_ok-left.ensures) c.power.ensures
+
+pub climb-returns-else-tier-eq1 : goal.climb-returns-else-tier-eq1
+climb-returns-else-tier-eq1 t c =
+    rw (climb_next all c.args.depth c.args.tier c.args.first c.in_ok-left.left c.args.tokens.now c.climb.new.tokens (omega (arith, c.if-tier-eq0.false, c.if-tier-eq1.false)) c.in_ok-left.ensures) c.operations.ensures
+
+pub tiers-returns-in_err-first : goal.tiers-returns-in_err-first
+tiers-returns-in_err-first t c =
+    let p = err_from_is_err_and c.from_residual.result c.from_residual.ensures.1 in
+    rw (p.1, p.2)
+    (tiers_err all c.args.depth c.args.tier c.args.progress c.args.tokens.now c.in_err-first.field-0.0 c.in_err-first.ensures)
+
+pub tiers-returns : goal.tiers-returns
+tiers-returns t c =
+    rw (tiers_climb all c.args.depth c.args.tier c.args.progress c.args.tokens.now c.prim.new.tokens c.in_ok-first.first c.in_ok-first.ensures) c.climb.ensures

@@ -7,25 +7,28 @@ abbrev pub decreases-prim : goal.decreases-prim
 decreases-prim l = 32 * l.depth + 1
 
 abbrev pub decreases-group : goal.decreases-group
-decreases-group l = 32 * l.depth + 25
+decreases-group l = 32 * l.depth + 28
 
 abbrev pub decreases-denial : goal.decreases-denial
-decreases-denial l = 32 * l.depth + 25
+decreases-denial l = 32 * l.depth + 28
 
 abbrev pub decreases-nested : goal.decreases-nested
-decreases-nested l = 32 * l.depth + 26
+decreases-nested l = 32 * l.depth + 29
 
 abbrev pub decreases-tiers : goal.decreases-tiers
-decreases-tiers l = 32 * l.depth + 3 * l.tier + 2
+decreases-tiers l = 32 * l.depth + 4 * l.tier + 3
+
+abbrev pub decreases-climb : goal.decreases-climb
+decreases-climb l = 32 * l.depth + 4 * l.tier + 2
 
 abbrev pub decreases-operation : goal.decreases-operation
-decreases-operation l = 32 * l.depth + 3 * l.tier + 3
+decreases-operation l = 32 * l.depth + 4 * l.tier + 4
 
 abbrev pub decreases-power : goal.decreases-power
-decreases-power l = 32 * l.depth + 4
+decreases-power l = 32 * l.depth + 5
 
 abbrev pub decreases-operations : goal.decreases-operations
-decreases-operations l = 32 * l.depth + 3 * l.below + 4
+decreases-operations l = 32 * l.depth + 4 * l.below + 5
 
 abbrev pub invariant-operations-loop-found : goal.invariant-operations-loop-found
 invariant-operations-loop-found l = spec.operations all l.below (spec.prim all l.depth) l.left l.tokens ≡ spec.operations all l.below (spec.prim all l.depth) l.fn.first l.fn.tokens

@@ -14,7 +14,7 @@ returns-in_err-whole c = search rules
 
 pub more-init : goal.more-init
 unfolding exprs
-more-init c = rw (c.in_ok-push.ensures.ok, c.new-found.ensures, c.in_ok-whole.ensures) refl
+more-init c = rw (c.in_ok-push.ensures.ok, c.from_vec-found.ensures, c.in_ok-with_capacity.ensures.items, c.in_ok-whole.ensures) refl
 
 pub more-preserved : goal.more-preserved
 more-preserved c =

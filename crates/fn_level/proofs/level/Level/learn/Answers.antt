@@ -2,10 +2,11 @@ use Rattle.std.proofs.Common.{◌∙◌, sym, subst, ◌<◌, ◌^◌, length}
 use Rattle.fn_expr.specs.declared.expr.Side.TheVariants.{Uncompressed, Compressed}
 use Rattle.fn_level.specs.Joined.{joined_bits}
 use Rattle.fn_level.specs.Fronts.{IsFront}
-use Rattle.fn_level.specs.Level.{bounds_at, whole_numbers, known_by}
+use Rattle.fn_level.specs.Level.{OtherIs, bounds_at, whole_numbers, known_by}
 use Rattle.fn_level.proofs.Advancing.{front_after}
 use Rattle.fn_level.specs.Sides.{LearnsAt}
 use Rattle.fn_level.proofs.Kept.{short_after, up_to_date_after}
+use Rattle.fn_level.proofs.Others.{other_after}
 use Rattle.fn_level.proofs.level.Level.learn.Goals as goal
 
 pub note-requires-clause-header : goal.note-requires-clause-header
@@ -41,6 +42,16 @@ note-requires-clause-compressed c =
     let front = front_after (bounds_at i.sizes.now c.args.field c.args.side) c.args.field c.args.side c.args.found i.slots.items new l Compressed i.format.now.listing i.fronts.compressed i.whole.compressed c.self.invariant.compressed in
     subst (λ xs. IsFront xs Compressed c.as_slice-then-is_learnt.result.now i.fronts.compressed i.whole.compressed) (sym c.as_slice-then-is_learnt-2.ensures.value)
     (subst (λ h. IsFront new Compressed h i.fronts.compressed i.whole.compressed) (sym c.as_slice-then-is_learnt.ensures) front)
+
+pub note-requires-clause-other : goal.note-requires-clause-other
+note-requires-clause-other c =
+    let i = c.self.inside in
+    let new = c.learn_at-is_learnt.new.slots.items in
+    let l = subst (λ b. LearnsAt b c.args.field c.args.side c.args.found i.slots.items new) c.bounds_at-bounds.ensures (c.learn_at-is_learnt.ensures.learnt c.if-is_learnt.true) in
+    let other = other_after (bounds_at i.sizes.now c.args.field c.args.side) c.args.field c.args.side c.args.found i.slots.items new l i.format.now i.sizes.now i.headers i.whole i.parameters c.self.invariant.numbers in
+    subst (λ xs. OtherIs c.args.side xs c.as_slice.result.now c.as_slice-then-is_learnt.result.now i.whole) (sym c.as_slice-then-is_learnt-2.ensures.value)
+    (subst (λ h. OtherIs c.args.side new h c.as_slice-then-is_learnt.result.now i.whole) (sym c.as_slice.ensures)
+    (subst (λ h. OtherIs c.args.side new i.headers h i.whole) (sym c.as_slice-then-is_learnt.ensures) other))
 
 pub invariant_of-self : goal.invariant_of-self
 invariant_of-self c =

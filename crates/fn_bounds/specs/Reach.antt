@@ -1,0 +1,56 @@
+-- How far from 0 an expression may reach, where its range is seen to be within the limit.
+use Rattle.std.specs.Prelude.{◌≡◌, ℕ, ◌≤◌, ◌^◌, ℤ, pos, neg_ℤ, ◌≤ℤ◌, false, List, None, Result, Ok}
+use Rattle.fn_source.specs.declared.span.Span.{Span}
+use Rattle.fn_expr.specs.declared.expr.Attribute.{Attribute}
+use Rattle.fn_expr.specs.declared.expr.Subject.{Subject}
+use Rattle.fn_expr.specs.declared.expr.Operator.{Operator}
+use Rattle.fn_expr.specs.declared.expr.Expr.{Expr}
+use Rattle.fn_expr.specs.declared.interval.Interval.{Interval}
+use Rattle.fn_expr.specs.declared.fault.RangeFault.{RangeFault}
+use Rattle.fn_expr.specs.Ranged.{Bounding, ranged, joined, both_ranged}
+use Rattle.fn_expr.specs.Bounds.{bounding_of, subject_intervals}
+use Rattle.fn_normal.specs.declared.profile.Sizes.{Sizes}
+use Rattle.fn_normal.specs.declared.profile.FormatSizes.{FormatSizes}
+use Rattle.fn_normal.specs.declared.profile.Format.{Format}
+use Rattle.fn_bounds.specs.Ranging.{format_ranges, side_ranges}
+use Rattle.fn_bounds.specs.Faults.{subject_sizes, is_wide, wide_in}
+
+-- the ranges in a format
+abbrev pub bounding : FormatSizes → List Interval → Bounding
+bounding s parameters = bounding_of (format_ranges s parameters)
+
+-- the number is from -m to m
+pub record LiesUpTo (m : ℕ) (z : ℤ) : Type 0 where
+  pub low : neg_ℤ (pos m) ≤ℤ z
+  pub high : z ≤ℤ pos m
+
+-- both end points are, and m is within the limit of ranges
+pub record IsUpTo (i : Interval) (m : ℕ) : Type 0 where
+  pub from : LiesUpTo m i.from
+  pub to : LiesUpTo m i.to
+  pub limit : m ≤ 2 ^ 120
+
+-- it is a range of that kind
+pub record HasRange (o : Result Interval RangeFault) (m : ℕ) : Type 0 where
+  pub range : Interval
+  pub is : o ≡ Ok range
+  pub up_to : IsUpTo range m
+
+-- the bounds of what an attribute speaks of, whose ranges are by them
+pub record IsFound (s : FormatSizes) (subject : Subject) (found : Sizes) : Type 0 where
+  pub sizes : subject_sizes s subject ≡ found
+  pub ranges : (parameters : List Interval) → subject_intervals (format_ranges s parameters) subject ≡ side_ranges found
+
+-- no value of more than 64 bits is asked for
+pub record IsNarrow (s : FormatSizes) (t : Attribute) (m : ℕ) : Type 0 where
+  pub narrow : is_wide s t ≡ false
+  pub up_to : (parameters : List Interval) → IsUpTo ((bounding s parameters).attribute t) m
+
+-- the operator makes a range up to m of ranges up to l and r
+pub record Combines (op : Operator) (l r m : ℕ) : Type 0 where
+  pub joins : (at : Span) (o u : Result Interval RangeFault) → HasRange o l → HasRange u r → HasRange (both_ranged (joined at op) o u) m
+
+-- the expression has such a range, and no part of it asks for a value of more than 64 bits
+pub record Reaches (s : FormatSizes) (parameters : List Interval) (e : Expr) (m : ℕ) : Type 0 where
+  pub wide : (format : Format) → wide_in format s e ≡ None
+  pub ranged : HasRange (ranged (bounding s parameters) e) m

@@ -1,0 +1,6 @@
+use Rattle.std.proofs.Common.{arith}
+use Rattle.fn_source.proofs.Classes.{digit_class}
+use Rattle.fn_source.proofs.lexer.is_digit.Goals as goal
+
+pub returns : goal.returns
+returns c = rw c.class_of.ensures (digit_class c.args.c (omega arith))
