@@ -14,7 +14,7 @@ use Rattle.fn_rules.specs.declared.slots.Slot.{Slot}
 use Rattle.fn_rules.specs.Slots.{has_length, has_bits, side_of_slot, learnt_at, bits_of}
 use Rattle.fn_level.specs.Joined.{narrow}
 use Rattle.fn_level.specs.Sides.{with_side, LearnsAt}
-use Rattle.fn_level.specs.Level.{IsUpToDate, OtherIs, parts_of, joined_numbers, known_by}
+use Rattle.fn_level.specs.Level.{IsUpToDate, OtherIs, joined_numbers, known_by}
 use Rattle.fn_level.proofs.Parts.{side_numbers}
 
 -- a side that is as it was in the slot that is set

@@ -1,9 +1,8 @@
 -- What an expression means, and its fault, stay the same where fields are added behind the others.
 use Rattle.std.proofs.Common.{◌≡◌, ◌∙◌, ap, refl, sym, cond, not, ℕ, ◌+◌, ◌<◌, suc, Bool, true, false, List, [], ◌∷◌, ◌++◌, length, nat_lt, Option, Some, None, arith}
 use Rattle.std.specs.Prelude.{position}
-use Rattle.std.specs.List.{position_or_len, AllZip}
+use Rattle.std.specs.List.{position_or_len}
 use Rattle.std.specs.Option.{option_map, option_or}
-use Rattle.std.specs.Str.{bytes_eq}
 use Rattle.std.proofs.lemmas.Grind.{common_steps}
 use Rattle.std.proofs.lemmas.List.{length-append}
 use Rattle.fn_source.specs.declared.span.Span.{Span}
@@ -15,11 +14,9 @@ use Rattle.fn_tree.specs.declared.tree.Attribute.{Attribute as Word}
 use Rattle.fn_tree.specs.declared.tree.Operator.{Operator as Sign}
 use Rattle.fn_tree.specs.declared.tree.Operator.TheVariants as signs
 use Rattle.fn_tree.proofs.Shapes.{of_number, of_negative, of_truth, of_name, of_attribute, of_group, of_not, of_binary}
-use Rattle.fn_expr.specs.declared.expr.Expr.{Expr}
 use Rattle.fn_expr.specs.declared.expr.Subject.{Subject}
 use Rattle.fn_expr.specs.declared.expr.Subject.TheVariants as subjects
 use Rattle.fn_normal.specs.declared.profile.Constraint.{Constraint}
-use Rattle.fn_terms.specs.declared.term.Kind.{Kind}
 use Rattle.fn_terms.specs.declared.term.Kind.TheVariants as kinds
 use Rattle.fn_terms.specs.declared.term.Meaning.{Meaning}
 use Rattle.fn_terms.specs.declared.term.Meaning.TheVariants as meanings
@@ -27,7 +24,7 @@ use Rattle.fn_terms.specs.declared.term.Term.{Term}
 use Rattle.fn_terms.specs.declared.crc_data.CrcData.{CrcData}
 use Rattle.fn_terms.specs.Names.{Names, index_of, field_of, subject_of}
 use Rattle.fn_terms.specs.Operators.{meaning_of}
-use Rattle.fn_terms.specs.Judged.{Judgement, judge, judged, fault_of, wanted, wrong_kind, if_allowed, unless_known, attribute_range, operator_judgement}
+use Rattle.fn_terms.specs.Judged.{Judgement, judge, judged, wrong_kind, if_allowed, unless_known, attribute_range, operator_judgement}
 use Rattle.fn_terms.specs.Means as means
 use Rattle.fn_terms.specs.Conjuncts.{AreConjuncts, both, single}
 use Rattle.fn_terms.specs.CrcData.{IsData, is_data, data_fault}
