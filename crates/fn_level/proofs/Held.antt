@@ -1,8 +1,6 @@
 -- A filling is kept inside a field.
-use Rattle.std.proofs.Common.{◌≡◌, refl, sym, ◌∙◌, ap, subst, ℕ, zero, suc, ◌⊎◌, inl, inr, List, [], ◌∷◌, length, map}
-use Rattle.std.specs.Prelude.{Some, None, slice_get, slice_set, option_map, pos, if◌then◌else◌, ℤ}
-use Rattle.std.specs.List.{flat_map, list_all}
-use Rattle.std.proofs.lemmas.Option.{same_Some}
+use Rattle.std.proofs.Common.{◌≡◌, refl, sym, ◌∙◌, ap, subst, ℕ, ◌⊎◌, inl, inr, List, map}
+use Rattle.std.specs.Prelude.{Some, slice_get, slice_set, ℤ}
 use Rattle.fn_expr.specs.declared.expr.Side.{Side}
 use Rattle.fn_expr.specs.declared.expr.Side.TheVariants.{Uncompressed, Compressed}
 use Rattle.fn_expr.specs.declared.known.Known.{Known}
@@ -15,10 +13,10 @@ use Rattle.fn_filling.specs.declared.filling.Filling.{Filling}
 use Rattle.fn_rules.specs.declared.slots.Slot.{Slot}
 use Rattle.fn_rules.specs.Numbers.{LearntLies, slot_numbers, known_of}
 use Rattle.fn_rules.specs.Numbers as rules
-use Rattle.fn_rules.specs.Slots.{has_length, has_bits, side_of_slot, learnt_at, bits_of}
-use Rattle.fn_level.specs.Joined.{narrow}
+use Rattle.fn_rules.specs.Slots.{side_of_slot, learnt_at}
 use Rattle.fn_level.specs.Level.{IsKept, IsUpToDate, parts_of, joined_numbers, known_by}
 use Rattle.fn_level.proofs.Changed.{set_length, set_cases}
+use Rattle.fn_level.proofs.Others.{side_kept, numbers_alike}
 use Rattle.fn_level.proofs.Parts.{side_numbers}
 
 abbrev pub with_inner : Filling → Slot → Slot
@@ -27,12 +25,8 @@ with_inner g s = record { uncompressed = s.uncompressed; compressed = s.compress
 module _ (g : Filling) where
   -- both sides of each field are as they were
   pub sides_same : (slots : List Slot) (i : ℕ) (s : Slot) → slice_get slots i ≡ Some s → (j : ℕ) (side : Side) → learnt_at slots j side ≡ learnt_at (slice_set slots i (with_inner g s)) j side
-  sides_same [] i s e j side = absurd (cc)
-  sides_same (t ∷ ts) zero s e zero Uncompressed = ap (λ x. x.uncompressed) (same_Some t s e)
-  sides_same (t ∷ ts) zero s e zero Compressed = ap (λ x. x.compressed) (same_Some t s e)
-  sides_same (t ∷ ts) zero s e (suc j) side = refl
-  sides_same (t ∷ ts) (suc i) s e zero side = refl
-  sides_same (t ∷ ts) (suc i) s e (suc j) side = sides_same ts i s e j side
+  sides_same slots i s e j Uncompressed = side_kept slots i s (with_inner g s) Uncompressed refl e j
+  sides_same slots i s e j Compressed = side_kept slots i s (with_inner g s) Compressed refl e j
 
   module _ (format : Format) (sizes : FormatSizes) (slots : List Slot) (i : ℕ) (s : Slot) (at : slice_get slots i ≡ Some s) where
     abbrev slots_now : List Slot
@@ -55,12 +49,7 @@ module _ (g : Filling) where
             subst (LearntLies (side_bounds side b)) (same_side side ∙ ap (side_of_slot side) h.1) (kept.within i s b side at (ap (slice_get sizes.fields) (sym h.0) ∙ at_b))
 
     whole_same : (side : Side) → joined_numbers slots side (parts_of format side) ≡ joined_numbers slots_now side (parts_of format side)
-    whole_same side =
-        let fields = parts_of format side in
-        λ k. record {
-          value = option_map pos (if list_all (λ j. has_bits (sides_same slots i s at j side k)) fields then narrow (flat_map (λ j. bits_of (sides_same slots i s at j side k)) fields) else None);
-          length = option_map pos (if list_all (λ j. has_length (sides_same slots i s at j side k)) fields then Some (length (flat_map (λ j. bits_of (sides_same slots i s at j side k)) fields)) else None);
-        }
+    whole_same side = numbers_alike slots slots_now side (parts_of format side) (λ j. sides_same slots i s at j side)
 
     pub up_to_date_held : (headers : List ℕ) (whole : SideNumbers) (args : List ℤ) → IsUpToDate format sizes headers slots (known_by slots whole args) → IsUpToDate format sizes headers slots_now (known_by slots_now whole args)
     up_to_date_held headers whole args was =

@@ -18,14 +18,14 @@ use Rattle.fn_level.specs.Level.{IsUpToDate, OtherIs, joined_numbers, known_by}
 use Rattle.fn_level.proofs.Parts.{side_numbers}
 
 -- a side that is as it was in the slot that is set
-side_kept : (slots : List Slot) (i : ℕ) (s t : Slot) (z : Side) → side_of_slot z s ≡ side_of_slot z t → slice_get slots i ≡ Some s → (j : ℕ) → learnt_at slots j z ≡ learnt_at (slice_set slots i t) j z
+pub side_kept : (slots : List Slot) (i : ℕ) (s t : Slot) (z : Side) → side_of_slot z s ≡ side_of_slot z t → slice_get slots i ≡ Some s → (j : ℕ) → learnt_at slots j z ≡ learnt_at (slice_set slots i t) j z
 side_kept [] i s t z same e j = absurd (cc)
 side_kept (x ∷ xs) zero s t z same e zero = ap (side_of_slot z) (same_Some x s e) ∙ same
 side_kept (x ∷ xs) zero s t z same e (suc j) = refl
 side_kept (x ∷ xs) (suc i) s t z same e zero = refl
 side_kept (x ∷ xs) (suc i) s t z same e (suc j) = side_kept xs i s t z same e j
 
-numbers_alike : (old new : List Slot) (z : Side) (fields : List ℕ) → ((j : ℕ) → learnt_at old j z ≡ learnt_at new j z) → joined_numbers old z fields ≡ joined_numbers new z fields
+pub numbers_alike : (old new : List Slot) (z : Side) (fields : List ℕ) → ((j : ℕ) → learnt_at old j z ≡ learnt_at new j z) → joined_numbers old z fields ≡ joined_numbers new z fields
 numbers_alike old new z fields same = λ k. record {
   value = option_map pos (if list_all (λ j. has_bits (same j k)) fields then narrow (flat_map (λ j. bits_of (same j k)) fields) else None);
   length = option_map pos (if list_all (λ j. has_length (same j k)) fields then Some (length (flat_map (λ j. bits_of (same j k)) fields)) else None);
