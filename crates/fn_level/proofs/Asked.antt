@@ -1,10 +1,8 @@
 -- The expressions that steps evaluate.
-use Rattle.std.proofs.Common.{◌≡◌, refl, sym, ◌∙◌, ap, subst, ℕ, suc, List, [], ◌∷◌, ◌++◌, true}
+use Rattle.std.proofs.Common.{◌≡◌, refl, ◌∙◌, ℕ, suc, List, [], ◌∷◌, ◌++◌, true}
 use Rattle.std.specs.Prelude.{ℤ, Some, slice_get, option_map, option_and_then, ◌&&◌}
 use Rattle.fn_cert.specs.declared.rule.Fact.{Fact}
 use Rattle.fn_expr.specs.declared.expr.Expr.{Expr}
-use Rattle.fn_expr.specs.declared.known.Known.{Known}
-use Rattle.fn_expr.specs.declared.known.SideNumbers.{SideNumbers}
 use Rattle.fn_expr.specs.Known.{assignment_of}
 use Rattle.fn_expr.specs.Spread.{IsRanged}
 use Rattle.fn_expr.specs.Values.{val}
@@ -25,7 +23,7 @@ use Rattle.fn_rules.proofs.Given.{given_is_sound}
 use Rattle.fn_rules.proofs.Lying.{all_lie}
 use Rattle.fn_rules.proofs.Numbers.{values_known}
 use Rattle.fn_rules.proofs.Within.{within_is_narrow}
-use Rattle.fn_level.specs.Level.{IsKept, IsUpToDate, IsAsked, stands, gives_length, gives_value, known_by}
+use Rattle.fn_level.specs.Level.{IsKept, IsAsked, stands, gives_length, gives_value}
 
 pub knows_left : (format : Format) (slots : List Slot) (xs ys : List Fact) → knows_all format slots (xs ++ ys) ≡ true → knows_all format slots xs ≡ true
 knows_left format slots [] ys e = refl
@@ -48,7 +46,7 @@ module _ (format : Format) (sizes : FormatSizes) (args : List ℤ) (slots : List
       let all = faultless format sizes (format_ranges sizes p.whole.parameters) (p.are_sizes.fine.accepted p.method format p.whole sizes p.at) in
       (given_is_sound format sizes (format_ranges sizes p.whole.parameters) all).values i j k e at given
 
-  asked_ranged : (e : Expr) → IsAsked format e → IsRanged (assignment_of (known_of format slots args)) e
+  pub asked_ranged : (e : Expr) → IsAsked format e → IsRanged (assignment_of (known_of format slots args)) e
   asked_ranged e asked =
       let p = kept.placed in record {
         ranges = ranges_in sizes p.whole;
@@ -56,7 +54,7 @@ module _ (format : Format) (sizes : FormatSizes) (args : List ℤ) (slots : List
         accepted = (sound e asked).accepted;
       }
 
-  asked_shown : (e : Expr) → IsAsked format e → knows_all format slots (inputs format e) ≡ true → val (assignment_of (known_of format slots args)) e ≡ val (known_numbers format slots args) e
+  pub asked_shown : (e : Expr) → IsAsked format e → knows_all format slots (inputs format e) ≡ true → val (assignment_of (known_of format slots args)) e ≡ val (known_numbers format slots args) e
   asked_shown e asked known =
       let p = kept.placed in
       values_known format slots args e kept.count known (within_is_narrow p.methods p.table p.are_sizes p.method format p.whole sizes p.at slots kept.count kept.within e (sound e asked).narrow)
@@ -69,36 +67,3 @@ module _ (format : Format) (sizes : FormatSizes) (args : List ℤ) (slots : List
       let first = asked_shown e (asked 0 e refl) (knows_left format slots (inputs format e) (inputs_of_all format es) known) in
       let rest = all_shown es (λ n x at. asked (suc n) x at) (knows_right format slots (inputs format e) (inputs_of_all format es) known) in
       λ i. option_and_then (λ v. option_map (λ vs. v ∷ vs) (rest i)) (first i)
-
--- over the numbers that are kept, such an expression may be evaluated
-pub ranged : (format : Format) (sizes : FormatSizes) (headers : List ℕ) (slots : List Slot) (known : Known) → IsUpToDate format sizes headers slots known → (e : Expr) → IsAsked format e → IsRanged (assignment_of known) e
-ranged format sizes headers slots known now e asked =
-    subst (λ k. IsRanged (assignment_of k) e) (sym now.known_is) (asked_ranged format sizes known.parameters slots now.kept e asked)
-
--- and where its inputs are known it has the value that they show
-pub shown : (format : Format) (sizes : FormatSizes) (headers : List ℕ) (slots : List Slot) (known : Known) → IsUpToDate format sizes headers slots known → (e : Expr) → IsAsked format e →
-    knows_all format slots (inputs format e) ≡ true → val (assignment_of known) e ≡ val (known_numbers format slots known.parameters) e
-shown format sizes headers slots known now e asked inputs_known =
-    ap (λ k. val (assignment_of k) e) now.known_is ∙ asked_shown format sizes known.parameters slots now.kept e asked inputs_known
-
--- so for several
-pub shown_each : (format : Format) (sizes : FormatSizes) (headers : List ℕ) (slots : List Slot) (known : Known) → IsUpToDate format sizes headers slots known → (es : List Expr) →
-    ((n : ℕ) (e : Expr) → slice_get es n ≡ Some e → IsAsked format e) → knows_all format slots (inputs_of_all format es) ≡ true → vals (assignment_of known) es ≡ vals (known_numbers format slots known.parameters) es
-shown_each format sizes headers slots known now es asked inputs_known =
-    ap (λ k. vals (assignment_of k) es) now.known_is ∙ all_shown format sizes known.parameters slots now.kept es asked inputs_known
-
--- the same, as the code reads the slots and the arguments
-module _ (format : Format) (sizes : FormatSizes) (headers : List ℕ) (slots xs : List Slot) (whole : SideNumbers) (args ps : List ℤ) (slots_are : xs ≡ slots) (args_are : ps ≡ args)
-    (now : IsUpToDate format sizes headers slots (known_by slots whole args)) where
-  pub ranged_by : (e : Expr) → IsAsked format e → IsRanged (assignment_of (known_by xs whole ps)) e
-  ranged_by e asked = subst (λ x. IsRanged (assignment_of (known_by x whole ps)) e) (sym slots_are) (subst (λ p. IsRanged (assignment_of (known_by slots whole p)) e) (sym args_are) (ranged format sizes headers slots (known_by slots whole args) now e asked))
-
-  pub value_by : (e : Expr) → val (assignment_of (known_by xs whole ps)) e ≡ val (assignment_of (known_of format slots args)) e
-  value_by e = (λ i. val (assignment_of (known_by (slots_are i) whole (args_are i))) e) ∙ ap (λ k. val (assignment_of k) e) now.known_is
-
-  pub shown_by : (e : Expr) → IsAsked format e → knows_all format slots (inputs format e) ≡ true → val (assignment_of (known_by xs whole ps)) e ≡ val (known_numbers format slots args) e
-  shown_by e asked inputs_known = (λ i. val (assignment_of (known_by (slots_are i) whole (args_are i))) e) ∙ shown format sizes headers slots (known_by slots whole args) now e asked inputs_known
-
-  pub shown_each_by : (es : List Expr) → ((n : ℕ) (e : Expr) → slice_get es n ≡ Some e → IsAsked format e) → knows_all format slots (inputs_of_all format es) ≡ true →
-      vals (assignment_of (known_by xs whole ps)) es ≡ vals (known_numbers format slots args) es
-  shown_each_by es asked inputs_known = (λ i. vals (assignment_of (known_by (slots_are i) whole (args_are i))) es) ∙ shown_each format sizes headers slots (known_by slots whole args) now es asked inputs_known

@@ -24,7 +24,7 @@ use Rattle.fn_rules.specs.declared.slots.Slot.{Slot}
 use Rattle.fn_rules.specs.Slots.{has_bits, learnt_at}
 use Rattle.fn_filling.specs.declared.filling.Filling.{Filling}
 use Rattle.fn_rules.specs.Rules.{length_given, value_given}
-use Rattle.fn_rules.specs.Numbers.{AreWithin, known_of, slot_numbers}
+use Rattle.fn_rules.specs.Numbers.{AreWithin, slot_numbers}
 use Rattle.fn_level.specs.Sides.{LearnsAt}
 use Rattle.fn_level.specs.Joined.{header_places, joined_length, joined_value}
 
@@ -52,12 +52,6 @@ pub record IsKept (l : Reached) : Type 0 where
   pub placed : IsPlaced l.format l.sizes l.args
   pub count : length l.slots ≡ length l.format.fields
   pub within : AreWithin l.sizes l.slots
-
--- its parts: the header fields by their indices, and the numbers of what is known
-pub record IsUpToDate (format : Format) (sizes : FormatSizes) (headers : List ℕ) (slots : List Slot) (known : Known) : Type 0 where
-  pub kept : IsKept (record { format = format; sizes = sizes; args = known.parameters; slots = slots })
-  pub headers_are : headers ≡ header_places 0 format.fields
-  pub known_is : known ≡ known_of format slots known.parameters
 
 -- ---- the start
 
@@ -107,11 +101,6 @@ joined_numbers slots side fields = record { value = option_map pos (joined_value
 
 abbrev pub whole_numbers : List Slot → List ℕ → List ℕ → SideNumbers
 whole_numbers slots headers listing = record { uncompressed = joined_numbers slots Uncompressed headers; compressed = joined_numbers slots Compressed listing }
-
--- the numbers of the other side are those of the slots
-abbrev pub OtherIs : Side → List Slot → List ℕ → List ℕ → SideNumbers → Type 0
-OtherIs Uncompressed slots headers listing whole = whole.compressed ≡ joined_numbers slots Compressed listing
-OtherIs Compressed slots headers listing whole = whole.uncompressed ≡ joined_numbers slots Uncompressed headers
 
 -- those of the slots, with those of the whole and the arguments
 abbrev pub known_by : List Slot → SideNumbers → List ℤ → Known

@@ -17,15 +17,15 @@ ghost use Rattle.fn_level.specs.Joined as joined;
 ghost use Rattle.fn_level.specs.Fronts.{IsMeasured};
 ghost use Rattle.fn_level.specs.Level as spec;
 ghost use Rattle.fn_level.specs.Sides as sides;
+ghost use Rattle.fn_level.specs.Sight.{IsClear, known_in};
 
 use crate::filling::filling_of;
-use crate::fronts::{Front, Fronts, offset_by};
+use crate::fronts::{Front, Fronts, go_on, offset_by};
 use crate::joining::joined_whole;
-use crate::numbers::{note, whole_numbers};
 use crate::slots::{are_unsent, at_start, bits_at, headers_of, learn_at, length_at};
-use crate::values::{value_in, values_in};
+use crate::values::{Sight, value_in, values_in};
 use fn_bits::Bits;
-use fn_expr::{Expr, Numbers, Side, SideNumbers};
+use fn_expr::{Expr, Side};
 use fn_filling::Filling;
 use fn_normal::{Bounds, Format, FormatSizes};
 use fn_rules::{Learnt, Slot};
@@ -34,14 +34,13 @@ use std::alloc::{AllocError, Global};
 use std::marker::Model;
 
 /// What a walk knows of one level of a filling: its format with the bounds, the values of the method's parameters, and of each field what
-/// was learnt, with the numbers of the whole. All that is known lies in the bounds.
+/// was learnt. All that is known lies in the bounds.
 #[derive(Drop)]
 pub struct Level<'a> {
     format: &'a Format,
     sizes: &'a FormatSizes,
     headers: Items<usize>,
     slots: Vec<Slot>,
-    whole: SideNumbers,
     parameters: Items<i128>,
     fronts: Fronts,
 }
@@ -51,7 +50,7 @@ impl<'a> Model for Level<'a> {
     ghost use Rattle.fn_expr.specs.contracts.expr.Cond as cond;
     ghost use Rattle.fn_filling.specs.contracts.filling.Filling as filling;
     ghost use Rattle.fn_level.specs.Fronts.{IsInOrder};
-    ghost use Rattle.fn_level.specs.Level.{Reached, known_by};
+    ghost use Rattle.fn_level.specs.Level.{Reached};
     ghost use Rattle.std.specs.Coded.{codes};
 
     ghost Value = { Reached };
@@ -60,7 +59,7 @@ impl<'a> Model for Level<'a> {
 
     ghost view = { λ l. record { format = l.format.now; sizes = l.sizes.now; args = l.parameters; slots = l.slots.items } };
 
-    ghost invariant = { λ l. IsInOrder l.format.now l.sizes.now l.headers l.slots.items (known_by l.slots.items l.whole l.parameters) l.fronts };
+    ghost invariant = { λ l. IsInOrder l.format.now l.sizes.now l.headers l.slots.items l.parameters l.fronts };
 }
 
 impl<'a> Level<'a> {
@@ -82,17 +81,11 @@ impl<'a> Level<'a> {
         let headers = headers_of(alloc, format.fields.as_slice())?;
         let slots = at_start(alloc, format)?;
         let parameters = Items::from_slice(alloc, arguments)?;
-        let whole = whole_numbers(
-            slots.as_slice(),
-            headers.as_slice(),
-            format.listing.as_slice(),
-        );
         Ok(Some(Level {
             format,
             sizes,
             headers,
             slots,
-            whole,
             parameters,
             fronts: Fronts {
                 uncompressed: Front::at_first(),
@@ -141,13 +134,12 @@ impl<'a> Level<'a> {
         let bounds = bounds_at(self.sizes, field, side);
         let is_learnt = learn_at(&mut self.slots, field, side, bounds, found);
         if is_learnt {
-            note(
+            self.fronts = go_on(
+                self.fronts,
                 side,
-                &mut self.whole,
-                &mut self.fronts,
+                self.slots.as_slice(),
                 self.headers.as_slice(),
                 self.format.listing.as_slice(),
-                self.slots.as_slice(),
             );
         }
         is_learnt
@@ -160,12 +152,8 @@ impl<'a> Level<'a> {
         // Where all that it asks for is known, it is that of any level that shows what is known.
         ensures shown { knows_all self.now.format self.now.slots (inputs self.now.format expr.now) ≡ true → result ≡ val (known_numbers self.now.format self.now.slots self.now.args) expr.now }
     {
-        value_in(
-            expr,
-            self.slots.as_slice(),
-            &self.whole,
-            self.parameters.as_slice(),
-        )
+        self.keeps();
+        value_in(expr, &self.sight())
     }
 
     /// The values of several expressions of the format, where each has one by what is known. The error is want of memory.
@@ -174,13 +162,8 @@ impl<'a> Level<'a> {
         // Where all that they ask for is known, they are those of any level that shows what is known.
         ensures shown { IfOk result (λ o. knows_all self.now.format self.now.slots (inputs_of_all self.now.format exprs.now) ≡ true → o ≡ vals (known_numbers self.now.format self.now.slots self.now.args) exprs.now) }
     {
-        values_in(
-            alloc,
-            exprs,
-            self.slots.as_slice(),
-            &self.whole,
-            self.parameters.as_slice(),
-        )
+        self.keeps();
+        values_in(alloc, exprs, &self.sight())
     }
 
     /// Keeps the filling inside the field.
@@ -219,7 +202,21 @@ impl<'a> Level<'a> {
         )
     }
 
-    /// How far the parts of the side of the whole are known.
+    /// What the level's expressions are evaluated by.
+    fn sight(&self) -> Sight<'_>
+        ensures clear { IsClear result }
+        ensures known { known_in result ≡ numbers.known_of self.now.format self.now.slots self.now.args }
+    {
+        Sight {
+            slots: self.slots.as_slice(),
+            headers: self.headers.as_slice(),
+            listing: self.format.listing.as_slice(),
+            fronts: self.fronts,
+            parameters: self.parameters.as_slice(),
+        }
+    }
+
+    /// How far the parts of the side of the whole are measured.
     fn front(&self, side: Side) -> Front
         ensures { IsMeasured self.now.slots side (spec.parts_of self.now.format side) result }
     {

@@ -4,14 +4,14 @@ ghost use Rattle.std.specs.Prelude.{◌≡◌, ◌<◌, ◌↔◌, ℕ, Bool, Li
 ghost use Rattle.std.specs.Option.{option_copied};
 ghost use Rattle.fn_bounds.specs.Fields.{lists};
 ghost use Rattle.fn_fits.specs.Bounded.{LiesBetween};
-ghost use Rattle.fn_rules.specs.Slots.{HasSide, has_bits, learnt_at};
+ghost use Rattle.fn_rules.specs.Slots.{HasSide, learnt_at};
 ghost use Rattle.fn_rules.specs.Reading.{start_slots};
 ghost use Rattle.fn_level.specs.Sides as spec;
 ghost use Rattle.fn_level.specs.Level.{AreUnsent};
 ghost use Rattle.fn_level.specs.Joined.{header_places};
 ghost use Rattle.fn_filling.specs.Fillings as fillings;
 
-use crate::side::{bits_of, is_whole, learn, length_of};
+use crate::side::{bits_of, learn, length_of};
 use fn_bits::Bits;
 use fn_expr::Side;
 use fn_normal::{Bounds, Field, Format, FormatSizes, Part};
@@ -41,19 +41,6 @@ pub(crate) fn bits_at(slots: &[Slot], field: usize, side: Side) -> Option<&Bits>
     }
 }
 
-/// Whether the bits of the side of the field are known.
-pub(crate) fn is_whole_at(slots: &[Slot], field: usize, side: Side) -> bool
-    ensures { result ≡ has_bits (learnt_at slots.now field side) }
-{
-    let Some(slot) = at(slots, field) else {
-        return false;
-    };
-    match side {
-        Side::Uncompressed => is_whole(&slot.uncompressed),
-        Side::Compressed => is_whole(&slot.compressed),
-    }
-}
-
 /// Learns what was found of a side of the field. Whether it can be so; if not, nothing changes.
 pub(crate) fn learn_at(
     slots: &mut Vec<Slot>,
@@ -77,7 +64,7 @@ pub(crate) fn learn_at(
 pub(crate) fn at_start(alloc: Global, format: &Format) -> Result<Vec<Slot>, AllocError>
     ensures { IfOk result (λ v. v.items ≡ start_slots format.now.listing 0 format.now.fields) }
 {
-    let mut slots = Vec::new(alloc);
+    let mut slots = Vec::with_capacity(alloc, format.fields.len())?;
     for (index, _) in format.fields.as_slice().iter().enumerate() {
         let compressed = if is_listed(format, index) {
             Learnt::Nothing
@@ -120,7 +107,7 @@ pub(crate) fn are_unsent(format: &Format, sizes: &FormatSizes) -> bool
 pub(crate) fn headers_of(alloc: Global, fields: &[Field]) -> Result<Items<usize>, AllocError>
     ensures { IfOk result (λ places. places ≡ header_places 0 fields.now) }
 {
-    let mut places = Items::new(alloc);
+    let mut places = Items::from_vec(Vec::with_capacity(alloc, fields.len())?);
     for (index, field) in fields.iter().enumerate() {
         if is_header(field) {
             places.push(index)?;

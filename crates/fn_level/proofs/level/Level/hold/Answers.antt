@@ -1,9 +1,8 @@
 use Rattle.std.proofs.Common.{◌≡◌, ◌∙◌, sym, ap, subst, refl, ◌<◌, length}
 use Rattle.std.proofs.lemmas.Option.{slice_get_read}
 use Rattle.std.specs.Prelude.{Some, slice_get, slice_set}
-use Rattle.fn_expr.specs.declared.expr.Side.TheVariants.{Uncompressed, Compressed}
-use Rattle.fn_level.proofs.Advancing.{front_same}
-use Rattle.fn_level.proofs.Held.{with_inner, sides_same, up_to_date_held}
+use Rattle.fn_level.proofs.Advancing.{fronts_same}
+use Rattle.fn_level.proofs.Held.{with_inner, sides_same, kept_held}
 use Rattle.fn_level.proofs.level.Level.hold.Goals as goal
 
 here : (c : goal.Joined-index_mut) → slice_get c.self.inside.slots.items c.args.field ≡ Some c.index_mut.result.now
@@ -17,11 +16,10 @@ invariant_of-self c =
     let old = i.slots.items in
     let slot = c.index_mut.result.now in
     let new = slice_set old c.args.field (with_inner c.args.inner slot) in
-    let same = sides_same c.args.inner old c.args.field slot (here c) in
     record {
-      numbers = up_to_date_held c.args.inner i.format.now i.sizes.now old c.args.field slot (here c) i.headers i.whole i.parameters c.self.invariant.numbers;
-      uncompressed = front_same old new same Uncompressed i.headers i.fronts.uncompressed i.whole.uncompressed c.self.invariant.uncompressed;
-      compressed = front_same old new same Compressed i.format.now.listing i.fronts.compressed i.whole.compressed c.self.invariant.compressed;
+      kept = kept_held c.args.inner i.format.now i.sizes.now old c.args.field slot (here c) i.parameters c.self.invariant.kept;
+      headers_are = c.self.invariant.headers_are;
+      fronts_are = fronts_same old new (sides_same c.args.inner old c.args.field slot (here c)) i.headers i.format.now.listing i.fronts c.self.invariant.fronts_are;
     }
 
 pub returns : goal.returns

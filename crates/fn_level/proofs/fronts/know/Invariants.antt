@@ -1,9 +1,0 @@
-use Rattle.std.proofs.Common.{◌≡◌, ◌-◌, length}
-use Rattle.fn_level.specs.Fronts as spec
-use Rattle.fn_level.proofs.fronts.know.Given as goal
-
-abbrev pub invariant-loop-next : goal.invariant-loop-next
-invariant-loop-next l = spec.IsKnown l.slots l.side l.parts l.next × (l.next.measured ≡ l.fn.front.measured) × (l.next.length ≡ l.fn.front.length)
-
-abbrev pub decreases-loop-next : goal.decreases-loop-next
-decreases-loop-next l = length l.parts - l.next.whole
