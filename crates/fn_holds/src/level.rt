@@ -108,7 +108,7 @@ pub(crate) fn known_level(
     requires packed { packed_bits.now ≡ packed filling.now }
     ensures { IfOk result (λ k. k ≡ fits.known_level filling.now arguments.now) }
 {
-    let mut fields = Items::new(alloc);
+    let mut fields = Items::from_vec(Vec::with_capacity(alloc, filling.fields.len())?);
     for field in filling.fields.as_slice() {
         fields.push(SideNumbers {
             uncompressed: numbers(&field.uncompressed),

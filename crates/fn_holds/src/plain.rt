@@ -13,11 +13,11 @@ ghost use Rattle.fn_holds.specs.Ready.{IsShown, IsCovered, IsCoded};
 
 use crate::coding::{coding_of, is_related};
 use crate::level::Level;
-use crate::sides::reference_of;
+use crate::sides::reference_below;
 use fn_bits::Bits;
 use fn_context::Context;
 use fn_expr::{Side, Subject};
-use fn_filling::{FilledField, below};
+use fn_filling::FilledField;
 use fn_normal::{Field, Library};
 use std::alloc::{AllocError, Global};
 
@@ -60,8 +60,7 @@ pub(crate) fn is_coded(
             &filled.compressed,
         );
     }
-    let here = below(alloc, path, field.declared.name.as_str())?;
-    let reference = reference_of(context, field, here.as_str());
+    let reference = reference_below(alloc, context, path, field)?;
     is_related(
         alloc,
         coding,

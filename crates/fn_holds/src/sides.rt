@@ -3,12 +3,13 @@
 ghost use Rattle.std.specs.Prelude.{◌≡◌, ◌≤◌, ◌^◌, ◌<◌, ◌↔◌, IsTrue, IfOk, MatchOption, length};
 ghost use Rattle.std.specs.Option.{option_copied};
 ghost use Rattle.fn_context.specs.Entries.{bits_at};
+ghost use Rattle.fn_filling.specs.Entries.{below};
 ghost use Rattle.fn_filling.specs.Fillings.{header, packed};
 ghost use Rattle.fn_fits.specs.Fits as spec;
 
 use fn_bits::{Bits, BitsError, Cursor};
 use fn_context::Context;
-use fn_filling::Filling;
+use fn_filling::{Filling, below};
 use fn_normal::{Field, Part};
 use std::alloc::{AllocError, Global};
 
@@ -83,4 +84,21 @@ pub fn reference_of<'a>(context: &'a Context, field: &'a Field, path: &str) -> O
             None => field.initial.as_ref(),
         },
     }
+}
+
+/// The reference of a field below a path, which is empty at the top, likewise. No path is made for a field of the top. The error is want of memory.
+pub fn reference_below<'a>(
+    alloc: Global,
+    context: &'a Context,
+    path: &str,
+    field: &'a Field,
+) -> Result<Option<&'a Bits>, AllocError>
+    ensures { IfOk result (λ o. option_copied o ≡ spec.reference_of field.now.declared.part (bits_at context.now) (below path.now field.now.declared.name) field.now.initial) }
+{
+    let name = field.declared.name.as_str();
+    if path.is_empty() {
+        return Ok(reference_of(context, field, name));
+    }
+    let here = below(alloc, path, name)?;
+    Ok(reference_of(context, field, here.as_str()))
 }

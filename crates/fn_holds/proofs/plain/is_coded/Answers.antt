@@ -1,4 +1,4 @@
-use Rattle.std.proofs.Common.{rules, ◌≡◌, ◌∙◌, sym, ap}
+use Rattle.std.proofs.Common.{rules, ◌∙◌, sym}
 use Rattle.std.specs.Prelude.{IsTrue, ◌↔◌, None}
 use Rattle.std.specs.Option.{option_copied}
 use Rattle.fn_context.specs.Entries.{bits_at}
@@ -29,10 +29,7 @@ returns c =
     let g = c.args.filled.now in
     let f = c.args.level.now.filling.now in
     let a = assignment_of c.args.level.now.known in
-    let ref_is : option_copied c.reference_of-reference.result ≡ reference_of d.declared.part (bits_at c.args.context.now) (below c.args.path.now d.declared.name) d.initial =
-    c.reference_of-reference.ensures ∙ ap (λ p. reference_of d.declared.part (bits_at c.args.context.now) p d.initial)
-    (c.as_str-2.ensures.value ∙ c.in_ok-here.ensures ∙ ap (below c.args.path.now) c.as_str.ensures) in
     ok_weaker _ (λ b. IsTrue b ↔ IsCoded (bits_at c.args.context.now) c.args.path.now f a d c.args.library.now g) c.is_related-2.result
     (λ b same. coded_is (bits_at c.args.context.now) c.args.path.now f a d c.args.library.now g c.covered_by-covered.result.now c.in-Some.coding
-    (option_copied c.reference_of-reference.result) b (search rules) (sym c.coding_of.ensures ∙ c.in-Some.is) c.covered_by-covered.ensures ref_is same)
+    (option_copied c.in_ok-reference.reference) b (search rules) (sym c.coding_of.ensures ∙ c.in-Some.is) c.covered_by-covered.ensures c.in_ok-reference.ensures same)
     c.is_related-2.ensures
