@@ -3,7 +3,7 @@ use Rattle.std.specs.Prelude.{◌≡◌, ℕ, ◌+◌, ◌<◌, ◌≤◌, Some,
 use Rattle.fn_context.specs.Entries.{Entries, bits_at}
 use Rattle.fn_filling.specs.declared.filling.Filling.{Filling}
 use Rattle.fn_filling.specs.declared.filling.Item.{Item}
-use Rattle.fn_filling.specs.Fillings.{item}
+use Rattle.fn_filling.specs.Fillings.{item, packed}
 use Rattle.fn_best.specs.Codes.{number}
 use Rattle.fn_best.specs.Packing.{NoneAmong}
 use Rattle.fn_writing.specs.Writing.{IsNumbered, top_site}
@@ -25,8 +25,9 @@ pub record IsPassed (a : Accepting) (ctx : Entries) (it : Item) (c skipped : ℕ
   pub within : (n : ℕ) → slice_get a.counts a.profile.top ≡ Some n → c + skipped ≤ n
   pub none : NoneAmong a.profile.methods a.certificate a.counts a.profile.top (bits_at ctx) it c skipped
 
+-- what is found comes with its packed bits
 abbrev pub IsTried : Accepting → Entries → Item → ℕ → Tried → Type 0
-IsTried a ctx it c (Found f) = IsFound a ctx it c f
+IsTried a ctx it c (Found w) = IsFound a ctx it c w.filling × (w.packed ≡ packed w.filling)
 IsTried a ctx it c (Passed skipped) = IsPassed a ctx it c skipped
 
 -- the number is one of the top's candidates

@@ -7,32 +7,40 @@ ghost use Rattle.fn_best.specs.Best.{Best};
 ghost use Rattle.fn_engine.specs.Searching as spec;
 
 use crate::top::{CALL_DEPTH, fits, top_place};
-use fn_bits::Cursor;
+use fn_bits::{Bits, Cursor};
 use fn_checker::Accepted;
 use fn_context::Context;
 use fn_filling::{AskedValue, Filling, Item};
-use fn_holds::is_header;
+use fn_holds::{WholeSides, is_header};
 use fn_writer::{WriteFault, write_method};
 use std::alloc::{AllocError, Global};
+
+/// A filling with its packed bits.
+#[derive(Drop)]
+pub(crate) struct Packed {
+    pub(crate) filling: Filling,
+    pub(crate) packed: Bits,
+}
 
 /// What a candidate tells.
 #[derive(Drop)]
 pub(crate) enum Tried {
     /// It is the only one of its number that may fit and have the item, and it does.
-    Found(Filling),
+    Found(Packed),
     /// No candidate with one of so many numbers from its own on fits and has the item.
     Passed(u64),
 }
 
-/// The best filling for an item, or None where no filling that fits has it.
+/// The best filling for an item, with its packed bits, or None where no filling that fits has it.
 pub(crate) fn best(
     alloc: Global,
     accepted: &Accepted,
     context: &Context,
     item: &Item,
-) -> Result<Option<Filling>, AllocError>
+) -> Result<Option<Packed>, AllocError>
     requires { length item.now.header ≤ 4096 }
-    ensures found { IfOk result (λ o. IfSome o (Best accepted.now.profile.methods accepted.now.certificate accepted.now.profile.top (bits_at context.now) item.now)) }
+    ensures found { IfOk result (λ o. IfSome o (λ w. Best accepted.now.profile.methods accepted.now.certificate accepted.now.profile.top (bits_at context.now) item.now w.filling)) }
+    ensures packed { IfOk result (λ o. IfSome o (λ w. w.packed ≡ sides.packed w.filling)) }
     ensures none { IfOk result (λ o. IfNone o (spec.NoneHas accepted.now context.now item.now)) }
 {
     accepted.keeps();
@@ -42,7 +50,7 @@ pub(crate) fn best(
     let mut number = 0;
     while number < count {
         match candidate(alloc, accepted, context, item, number)? {
-            Tried::Found(filling) => return Ok(Some(filling)),
+            Tried::Found(found) => return Ok(Some(found)),
             Tried::Passed(skipped) => number += skipped,
         }
     }
@@ -82,11 +90,25 @@ fn judged(
     requires { length item.now.header ≤ 4096 }
     ensures { IfOk result (λ t. spec.Tells accepted.now context.now item.now filling t) }
 {
-    if has_item(alloc, item, &filling)? && fits(alloc, accepted, context, &filling)?.is_some() {
-        Ok(Tried::Found(filling))
-    } else {
-        Ok(Tried::Passed(1))
+    let has_it = has_item(alloc, item, &filling)?;
+    if !has_it {
+        return Ok(Tried::Passed(1));
     }
+    match fits(alloc, accepted, context, &filling)? {
+        Some(whole) => Ok(Tried::Found(with_packed(filling, whole))),
+        None => Ok(Tried::Passed(1)),
+    }
+}
+
+fn with_packed(filling: Filling, whole: WholeSides) -> Packed
+    ensures filling { result.filling ≡ filling }
+    ensures packed { result.packed ≡ whole.packed }
+{
+    let WholeSides {
+        header: _header,
+        packed,
+    } = whole;
+    Packed { filling, packed }
 }
 
 /// Whether the filling has the item.
