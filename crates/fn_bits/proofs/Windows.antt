@@ -13,7 +13,7 @@ use Rattle.fn_bits.proofs.Numbers.{length-enc, shr_first, shr_zero, enc-cons, en
 use Rattle.fn_bits.proofs.Octets.{length-bits_of, bits_of-append, bits_of-push, bits_of-more, IsBytes-append, IsBytes-push, IsBytes-nil}
 
 -- a number's bits in two parts
-enc_split : (a b v : ℕ) → enc (a + b) v ≡ enc a (v / 2 ^ b) ++ enc b v
+pub enc_split : (a b v : ℕ) → enc (a + b) v ≡ enc a (v / 2 ^ b) ++ enc b v
 unfolding enc
 enc_split a zero v =
     let n : a + 0 ≡ a = omega arith in
@@ -34,7 +34,7 @@ enc_low (suc b) x y =
     rw (p, h, r, enc_low b x (y / 2)) refl
 
 -- two numbers side by side
-enc_join : (a b x y : ℕ) → y < 2 ^ b → enc (a + b) (x * 2 ^ b + y) ≡ enc a x ++ enc b y
+pub enc_join : (a b x y : ℕ) → y < 2 ^ b → enc (a + b) (x * 2 ^ b + y) ≡ enc a x ++ enc b y
 enc_join a b x y h = rw (enc_split a b (x * 2 ^ b + y), shr_high x b y h, enc_low b x y) refl
 
 -- n bits within a number's, after s of them and before m
@@ -51,7 +51,7 @@ octet_across s o p h k =
     let w = window s 8 (8 - s) (o * 2 ^ 8 + p) in
     sym w ∙ rw n (ap (λ l. take 8 (drop s l)) e)
 
-enc_zero : (n : ℕ) → enc n 0 ≡ replicate n false
+pub enc_zero : (n : ℕ) → enc n 0 ≡ replicate n false
 enc_zero zero = enc_nil 0
 enc_zero (suc n) =
     let z : 0 / 2 ^ n ≡ 0 = shr_zero 0 n (pow_pos n) in
@@ -80,7 +80,7 @@ octet_read (o ∷ os) (suc q) s h l k =
     let m : suc q + 1 ≡ suc (q + 1) = omega arith in
     rw (n, e, d, m) (octet_read os q s h (omega arith) (rw m at k))
 
-octet_whole : (w : ℕ) → enc 8 (w % 256) ≡ enc 8 w
+pub octet_whole : (w : ℕ) → enc 8 (w % 256) ≡ enc 8 w
 octet_whole w =
     let e : w / 256 * 2 ^ 8 + w % 256 ≡ w = omega arith in
     sym (enc_low 8 (w / 256) (w % 256)) ∙ ap (enc 8) e
@@ -150,7 +150,7 @@ drop_bits (o ∷ os) (suc n) h =
     let e : 8 * suc n ≡ 8 + 8 * n = omega arith in
     ap (λ k. drop k (bits_of (o ∷ os))) e ∙ sym (drop-drop (8 * n) 8 (bits_of (o ∷ os))) ∙ ap (drop (8 * n)) (drop_at (enc 8 o) (bits_of os) 8 (length-enc 8 o)) ∙ drop_bits os n (omega arith)
 
-take_bits : (os : List ℕ) (n : ℕ) → n ≤ length os → take (8 * n) (bits_of os) ≡ bits_of (take n os)
+pub take_bits : (os : List ℕ) (n : ℕ) → n ≤ length os → take (8 * n) (bits_of os) ≡ bits_of (take n os)
 take_bits os n h =
     let e : bits_of os ≡ bits_of (take n os) ++ bits_of (drop n os) = ap bits_of (sym (take-append-drop n os)) ∙ bits_of-append (take n os) (drop n os) in
     ap (take (8 * n)) e ∙ take_at (bits_of (take n os)) (bits_of (drop n os)) (8 * n) (length-bits_of (take n os) ∙ ap (λ k. 8 * k) (length-take-le n os h))
@@ -171,7 +171,7 @@ gather_even old new octets start many z h p =
     ap bits_of p ∙ bits_of-append old _ ∙ ap (λ l. bits_of old ++ l) (range ∙ sym (part_padded (bits_of octets) (replicate 8 false) start (8 * many) (omega (arith, length-bits_of octets))))
 
 -- zero bits after bits, cut
-take_zeros : (b : List Bool) (p n : ℕ) → length b ≤ n → n ≤ length b + p → take n (b ++ replicate p false) ≡ b ++ replicate (n - length b) false
+pub take_zeros : (b : List Bool) (p n : ℕ) → length b ≤ n → n ≤ length b + p → take n (b ++ replicate p false) ≡ b ++ replicate (n - length b) false
 take_zeros b p n h k =
     let m : n ≡ length b + (n - length b) = omega arith in
     ap (λ j. take j (b ++ replicate p false)) m ∙ take-append-add b (replicate p false) (n - length b) ∙ ap (λ l. b ++ l) (take-replicate (n - length b) p false (omega arith))
@@ -278,7 +278,7 @@ word_room_narrow os i h =
     omega (arith, q, word_below (take i os))
 
 -- the low bits of a number as a number
-num_low : (n v : ℕ) → num (enc n v) ≡ v % 2 ^ n
+pub num_low : (n v : ℕ) → num (enc n v) ≡ v % 2 ^ n
 num_low n v =
     let e : enc n v ≡ enc n (v % 2 ^ n) = ap (enc n) (sym (shr_split v n)) ∙ enc_low n (v / 2 ^ n) (v % 2 ^ n) in
     ap num e ∙ num-enc n (v % 2 ^ n) (mod_below v (2 ^ n) (pow_pos n))

@@ -1,8 +1,25 @@
-use Rattle.std.proofs.Common.{arith, ap, refl, length}
-use Rattle.fn_bits.proofs.Kept.{joined, joined_kept}
+use Rattle.std.proofs.Common.{arith}
+use Rattle.fn_bits.proofs.Words.{counted, beside_room, beside_word}
 use Rattle.fn_bits.proofs.bits.Bits.append.Goals as goal
 
-pub invariant_of-self-2 : goal.invariant_of-self-2
-invariant_of-self-2 c =
-    let h = joined c.self.inside.octets.items c.other.inside.octets.items _ _ c.self.inside.count c.other.inside.count _ _ c.self.invariant c.other.invariant c.as_slice.ensures refl refl c.in_ok-join.ensures.ok in
-    joined_kept _ _ _ c.self.inside.count c.other.inside.count c.self.invariant.counted c.other.invariant.counted h (omega (arith, c.if-len.false, c.len.ensures.value, c.len-2.ensures.value, ap length c.self.view_is, ap length c.other.view_is, c.self.invariant.counted, c.other.invariant.counted))
+pub beside-requires-clause-room : goal.beside-requires-clause-room
+beside-requires-clause-room c =
+    let own = counted _ _ _ c.self.view_is c.self.invariant in
+    let others = counted _ _ _ c.other.view_is c.other.invariant in
+    beside_room c.args.self.now c.args.other.now _ _ _ _ own others c.if-count-le64.true (c.word.ensures (omega (arith, own, c.if-count-le64.true))) (c.word-then-count-le64.ensures (omega (arith, others, c.if-count-le64.true)))
+
+pub invariant_of-self : goal.invariant_of-self
+invariant_of-self c =
+    let own = counted _ _ _ c.self.view_is c.self.invariant in
+    let others = counted _ _ _ c.other.view_is c.other.invariant in
+    let joined = beside_word c.args.self.now c.args.other.now _ _ _ _ _ own others (c.word.ensures (omega (arith, own, c.if-count-le64.true))) (c.word-then-count-le64.ensures (omega (arith, others, c.if-count-le64.true))) c.beside.ensures in
+    (c.if-count-le64.true, joined.0)
+
+pub returns-then-count-le64-clause-ok : goal.returns-then-count-le64-clause-ok
+returns-then-count-le64-clause-ok c =
+    let own = counted _ _ _ c.self.view_is c.self.invariant in
+    let others = counted _ _ _ c.other.view_is c.other.invariant in
+    (beside_word c.args.self.now c.args.other.now _ _ _ _ _ own others (c.word.ensures (omega (arith, own, c.if-count-le64.true))) (c.word-then-count-le64.ensures (omega (arith, others, c.if-count-le64.true))) c.beside.ensures).1
+
+pub lengthen-requires-clause-more : goal.lengthen-requires-clause-more
+lengthen-requires-clause-more c = omega (arith, counted _ _ _ c.self.view_is c.self.invariant, counted _ _ _ c.other.view_is c.other.invariant, c.if-count-le64.false)
