@@ -1,9 +1,9 @@
 -- Bits that come next, compared by numbers of up to 64 bits.
 use Rattle.std.proofs.Common.{◌≡◌, ◌∙◌, refl, sym, ap, subst, ℕ, ◌+◌, ◌-◌, ◌≤◌, min, Bool, true, false, List, ◌++◌, length, take, drop, arith}
-use Rattle.std.specs.Prelude.{slice_range, Option, Some, None, nat_eq, not}
+use Rattle.std.specs.Prelude.{◌↔◌, IsTrue, slice_range, Option, Some, None, nat_eq, not}
 use Rattle.std.specs.Option.{SomeIff, option_eq}
 use Rattle.std.proofs.lemmas.Bool.Decides.{nat_tests}
-use Rattle.std.proofs.lemmas.List.{length-drop, length-take}
+use Rattle.std.proofs.lemmas.List.{length-drop, length-take, length-take-le}
 use Rattle.fn_bits.specs.Number.{num, enc}
 use Rattle.fn_bits.specs.Cursor.{Advances}
 use Rattle.fn_bits.proofs.Lists.{take_add, length_part, advances}
@@ -83,6 +83,30 @@ looks_differ a b n d c o q count is lt le look look' e same =
     let one = peeked o _ _ look (w.0, w.2) in
     let other = peeked q _ _ look' (w.0, w.1) in
     part_differs a b d c w.1 (λ f. other_look o q e (one ∙ ap Some f ∙ sym other)) same
+
+-- ---- one look
+
+same_option : (o q : Option ℕ) → option_eq nat_eq o q ≡ true → o ≡ q
+same_option o q e = same_look o q (ap not (sym e))
+
+some_same : (x y : ℕ) → Some x ≡ Some y → x ≡ y
+some_same x y e = cc
+
+-- one look at as many bits shows whether they are of one number
+pub one_look_shows : (a b : List Bool) (n x : ℕ) (o : Option ℕ) (r : Bool) → n ≡ length b → n ≤ length a → (length b ≤ 64) × (x ≡ num b) → Look a 0 n o → r ≡ option_eq nat_eq o (Some x) → IsTrue r ↔ (take (length b) a ≡ b)
+one_look_shows a b n x o r count le is look e =
+    let z : 0 + n ≡ n = omega arith in
+    let one : o ≡ Some (num (slice_range a 0 (0 + n))) = peeked o _ _ look (omega (arith, count, is.0), omega arith) in
+    let here : slice_range a 0 (0 + n) ≡ take (length b) a = part_is a 0 n ∙ ap (λ k. take k a) count in
+    let there : o ≡ Some (num (take (length b) a)) = one ∙ ap (λ l. Some (num l)) here in
+    let many : length (take (length b) a) ≡ length b = length-take-le (length b) a (omega arith) in (
+      (λ t.
+          let same : num (take (length b) a) ≡ num b = some_same _ _ (sym there ∙ same_option o (Some x) (sym e ∙ t)) ∙ is.1 in
+          sym (enc-num (take (length b) a)) ∙ (λ i. enc (many i) (same i)) ∙ enc-num b),
+      (λ same.
+          let both : o ≡ Some x = there ∙ ap (λ l. Some (num l)) same ∙ ap Some (sym is.1) in
+          e ∙ ap (λ z. option_eq nat_eq z (Some x)) both ∙ one_look (Some x)),
+    )
 
 -- ---- going past them
 

@@ -52,6 +52,7 @@ impl Long {
     }
 
     /// The bit at a place, the first at 0, or `None` past the end.
+    #[inline(never)]
     #[tactic(auto, using(crate::proofs::Kept::reading))]
     pub(crate) fn get(&self, place: usize) -> Option<bool>
         ensures { result ≡ slice_get self.now place }
@@ -82,6 +83,7 @@ impl Long {
     }
 
     /// The octet of the eight bits from eight times a place on, filled with zero bits, or `None` where no bit is there.
+    #[inline(never)]
     #[tactic(auto, using(crate::proofs::Kept::reading))]
     pub(crate) fn octet(&self, place: usize) -> Option<u8>
         ensures { SomeIff result (8 * place < length self.now) (num (take 8 (drop (8 * place) (self.now ++ replicate 8 false)))) }
@@ -146,6 +148,7 @@ impl Long {
     }
 
     /// The number of so many bits from a place on, or `None` where they are more than 64 or not there.
+    #[inline(never)]
     #[tactic(auto, using(crate::proofs::Kept::numbers))]
     pub(crate) fn number_at(&self, place: usize, count: usize) -> Option<u64>
         requires { place ≤ length self.now }
@@ -188,6 +191,7 @@ impl PartialEq for Long {
 
     ghost laws = { partial_equiv_from_equiv same_equiv };
 
+    #[inline(never)]
     fn eq(&self, other: &Long) -> bool
         ensures value { result ≡ same self.now other.now }
         ensures same_list { IsTrue result ↔ (self.now ≡ other.now) }
