@@ -1,15 +1,16 @@
-use Rattle.std.proofs.Common.{◌≡◌, ℕ, zero, suc, ◌+◌, ◌*◌, ◌-◌, ◌/◌, ◌%◌, ◌^◌, ◌<◌, ◌≤◌, ◌==◌, Bool, true, false, List, [], ◌∷◌, ◌++◌, length, take, drop, replicate, get_or, refl, ap, sym, ◌∙◌, subst, arith, append_assoc, length-append, ◌⊎◌, inl, inr}
-use Rattle.std.proofs.lemmas.List.{take_at, drop_at, append-nil, take_all, take-append-drop, length-take-le, take-take, drop-take, drop-drop, get_or-take, get_or-drop, get_or_append_left, replicate-append-replicate, length_push}
+use Rattle.std.proofs.Common.{◌≡◌, ℕ, zero, suc, ◌+◌, ◌*◌, ◌-◌, ◌/◌, ◌%◌, ◌^◌, ◌<◌, ◌≤◌, ◌==◌, Bool, true, false, List, [], ◌∷◌, ◌++◌, length, take, drop, replicate, get_or, refl, ap, sym, ◌∙◌, subst, arith, append_assoc, length-append}
+use Rattle.std.proofs.lemmas.List.{take_at, drop_at, append-nil, take_all, take-append-drop, length-take-le, take-take, drop-take, drop-drop, get_or-take, get_or-drop, get_or_append_left, replicate-append-replicate}
 use Rattle.std.specs.Bool.{Decides}
 use Rattle.fn_bits.proofs.Held.{octets_same}
 use Rattle.std.proofs.lemmas.Option.{slice_get-get_or, slice_get_past}
 use Rattle.std.specs.Prelude.{slice_get, slice_range, Some, None}
 use Rattle.fn_bits.specs.Number.{num, enc}
 use Rattle.fn_bits.proofs.Numbers.{length-enc, num-enc}
-use Rattle.fn_bits.proofs.Windows.{window, count_held, part_padded, join_even, join_odd, front_bytes}
+use Rattle.fn_bits.proofs.Words.{enc_bit}
+use Rattle.fn_bits.proofs.Windows.{count_held, part_padded}
 use Rattle.hex.specs.Hex.{IsBytes}
 use Rattle.fn_bits.specs.Octets.{bits_of, Holds, Kept}
-use Rattle.fn_bits.proofs.Octets.{length-bits_of, IsBytes-nil, IsBytes-push}
+use Rattle.fn_bits.proofs.Octets.{length-bits_of}
 
 -- octets that hold bits are kept with their count
 pub view_held : (octets : List ℕ) (bits : List Bool) (count : ℕ) → Holds octets bits → length bits ≡ count → take count (bits_of octets) ≡ bits
@@ -20,12 +21,6 @@ kept_held octets bits count h n l =
     let e : bits ≡ take count (bits_of octets) = sym (view_held octets bits count h n) in
     let P : List Bool → Type 0 = λ b. Holds octets b in
     record { limit = l; counted = ap length (sym e) ∙ n; held = subst P e h }
-
-held_nil : Holds [] []
-held_nil = record { octets_fit = IsBytes-nil; padding = 0; few = omega arith; filled = refl }
-
-pub kept_nil : Kept [] 0
-kept_nil = kept_held [] [] 0 held_nil refl (omega arith)
 
 pub kept_length : (octets : List ℕ) (count : ℕ) → Kept octets count → length (take count (bits_of octets)) ≡ count
 kept_length octets count k = k.counted
@@ -54,53 +49,9 @@ joined old other with new ca cb used end h k f u n j =
 pub joined_kept : (new : List ℕ) (a b : List Bool) (ca cb : ℕ) → length a ≡ ca → length b ≡ cb → Holds new (a ++ b) → ca + cb < 2 ^ 31 → Kept new (ca + cb)
 joined_kept new a b ca cb l m h n = kept_held new (a ++ b) (ca + cb) h (omega (arith, length-append a b)) n
 
--- one bit in an octet
-held_one : Holds (128 ∷ []) (true ∷ [])
-unfolding enc
-held_one = record { octets_fit = IsBytes-push [] 128 IsBytes-nil (omega arith); padding = 7; few = omega arith; filled = refl }
-
-held_zero : Holds (0 ∷ []) (false ∷ [])
-unfolding enc
-held_zero = record { octets_fit = IsBytes-push [] 0 IsBytes-nil (omega arith); padding = 7; few = omega arith; filled = refl }
-
-one_held : (part : ℕ) (bit : Bool) → (bit ≡ true) × (part ≡ 128) ⊎ (bit ≡ false) × (part ≡ 0) → Holds (part ∷ []) (bit ∷ [])
-one_held part bit (inl e) = rw (e.0, e.1) held_one
-one_held part bit (inr e) = rw (e.0, e.1) held_zero
-
--- one more bit, after full octets and within one
-pub bit_even : (old new : List ℕ) (part used : ℕ) (bit : Bool) → (bit ≡ true) × (part ≡ 128) ⊎ (bit ≡ false) × (part ≡ 0) → used ≡ 0 → new ≡ old ++ part ∷ [] → (a : List Bool) → Holds old a → used ≡ length a % 8 → Holds new (a ++ bit ∷ [])
-bit_even old new part used bit e z p a h u = join_even old new (part ∷ []) a (bit ∷ []) h (one_held part bit e) (omega arith) p
-
-pub bit_zero : (octets : List ℕ) (bit : Bool) (used : ℕ) → bit ≡ false → 0 < used → (a : List Bool) → Holds octets a → used ≡ length a % 8 → Holds octets (a ++ bit ∷ [])
-bit_zero octets bit used f lo a h u =
-    let c = count_held octets a h in
-    let few = h.few in
-    let n : h.padding ≡ suc (h.padding - 1) = omega arith in
-    rw f (record {
-      octets_fit = h.octets_fit;
-      padding = h.padding - 1;
-      few = omega arith;
-      filled = h.filled ∙ ap (λ k. a ++ replicate k false) n ∙ sym (append_assoc a (false ∷ []) (replicate (h.padding - 1) false));
-    })
-
-pub bit_one : (old init new : List ℕ) (last used : ℕ) → old ≡ init ++ last ∷ [] → new ≡ init ++ ((last + 128 / 2 ^ used) % 256) ∷ [] → 0 < used → last < 256 → (a : List Bool) → Holds old a → used ≡ length a % 8 → Holds new (a ++ true ∷ [])
-bit_one old init new last used p q lo small a h u =
-    let P : List ℕ → Type 0 = λ x. IsBytes x in
-    let c = count_held old a h in
-    let few = h.few in
-    let l : length old ≡ length init + 1 = ap length p ∙ length_push init last in
-    let m : length new ≡ length init + 1 = ap length q ∙ length_push init _ in
-    let fit : IsBytes new = subst P (sym q) (IsBytes-push init _ (front_bytes init last (subst P p h.octets_fit)) (omega arith)) in
-    join_odd old init new (128 ∷ []) last used 0 a (true ∷ []) h held_one p u lo small (omega arith) (ap bits_of q ∙ sym (append-nil _)) fit (omega arith) (omega arith)
-
 -- a bit of an octet
 octet_bit : (o r : ℕ) (more : List Bool) → r ≤ 7 → get_or (enc 8 o ++ more) r false ≡ (o / 2 ^ (7 - r) % 2 == 1)
-unfolding enc
-octet_bit o r more h =
-    let n : r + (1 + (7 - r)) ≡ 8 = omega arith in
-    let z : r + 0 ≡ r = omega arith in
-    let w : take 1 (drop r (enc 8 o)) ≡ enc 1 (o / 2 ^ (7 - r)) = ap (λ m. take 1 (drop r (enc m o))) (sym n) ∙ window r 1 (7 - r) o in
-    get_or_append_left (enc 8 o) more false r (omega (arith, length-enc 8 o)) ∙ ap (λ k. get_or (enc 8 o) k false) (sym z) ∙ sym (get_or-drop r (enc 8 o) 0 false) ∙ sym (get_or-take 1 (drop r (enc 8 o)) 0 false (omega arith)) ∙ ap (λ l. get_or l 0 false) w
+octet_bit o r more h = get_or_append_left (enc 8 o) more false r (omega (arith, length-enc 8 o)) ∙ enc_bit 8 o r (omega arith)
 
 read_bit : (os : List ℕ) (q r : ℕ) → r ≤ 7 → q < length os → get_or (bits_of os) (8 * q + r) false ≡ (get_or os q 0 / 2 ^ (7 - r) % 2 == 1)
 read_bit [] q r h l = absurd (omega arith)
@@ -223,7 +174,7 @@ cut_seen octets now count e n h =
     let P : List ℕ → Type 0 = λ x. (length (take count (bits_of x)) ≡ count) × Holds octets (take count (bits_of x)) in
     subst P (sym e) (many, h)
 
-pub ruleset keeping = (kept_nil, kept_length, kept_limit, kept_holds)
+pub ruleset keeping = (kept_length, kept_limit, kept_holds)
 
 pub ruleset reading = (kept_length, kept_limit, kept_count, get_in, get_past, octet_in)
 

@@ -5,7 +5,7 @@ use Rattle.std.proofs.lemmas.Nat.{shr_high, shr-shr, shr_split, mod_below, and_m
 use Rattle.std.proofs.Math.Nat.{pow-succ'}
 use Rattle.std.proofs.Math.Pow.{pow_mono}
 use Rattle.std.specs.Int.Bits.{bit_and}
-use Rattle.std.specs.Prelude.{slice_range, Option, Some, None, IsSome, ◌↔◌}
+use Rattle.std.specs.Prelude.{slice_range}
 use Rattle.hex.specs.Hex.{IsBytes}
 use Rattle.fn_bits.specs.Number.{num, enc}
 use Rattle.fn_bits.specs.Octets.{bits_of, Holds}
@@ -245,10 +245,6 @@ join_odd old init new octets last used many a b h k p u lo small fits e fit l n 
       few = omega arith;
       filled = e ∙ ap (λ x. x ++ take (8 * many) (drop (8 - used) all)) olds ∙ append_assoc a _ _ ∙ ap (λ x. a ++ x) (sym (take-add (8 - used) (8 * many) all) ∙ cut) ∙ sym (append_assoc a b _);
     }
-
-pub none_there : (r : Option ℕ) (n : ℕ) → (r ≡ None) → (IsSome r ↔ (0 < n)) → 0 < n → ⊥
-none_there (Some x) n e v h = absurd (cc e)
-none_there None n e v h = let t : IsSome {T = ℕ} None = v.1 h in absurd (cc t)
 
 pub front_bytes : (init : List ℕ) (x : ℕ) → IsBytes (init ++ x ∷ []) → IsBytes init
 front_bytes [] x f i = omega arith

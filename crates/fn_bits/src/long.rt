@@ -1,5 +1,5 @@
-//! More than 64 bits, eight to an octet: the first is the highest of the first octet, and the places of the last octet past
-//! their count are zero.
+//! Bits in octets, where there are more than 64 of them: the first is the highest of the first octet, and the places of the
+//! last octet past their count are zero.
 ghost use Rattle.std.specs.Prelude.{◌≡◌, ◌+◌, ◌*◌, ◌-◌, ◌/◌, ◌%◌, ◌^◌, Bool, ◌<◌, ◌≤◌, ◌↔◌, List, ◌++◌, length, IsTrue, IfOk, OnOk, OnErr, IfSome, IfNone, false, take, drop, replicate, slice_get, slice_range, slice_index_or};
 ghost use Rattle.smallvec.specs.SmallVec.{HasRoomFor};
 ghost use Rattle.hex.specs.Hex.{IsBytes};
