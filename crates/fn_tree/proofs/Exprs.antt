@@ -1,5 +1,6 @@
 -- How expressions are read, one step at a time.
-use Rattle.std.proofs.Common.{◌≡◌, ℕ, zero, suc, ◌+◌, ◌-◌, ◌<◌, ◌&&◌, List, [], ◌∷◌, length, Option, Some, None, is_some, Ok, Err, true, false, refl, sym, ap, subst, ◌∙◌, arith, inl}
+use Rattle.std.proofs.Common.{◌≡◌, ℕ, zero, suc, ◌+◌, ◌-◌, ◌<◌, ◌≤◌, max, Bool, if◌then◌else◌, nat_le, ◌&&◌, List, [], ◌∷◌, length, Option, Some, None, Ok, Err, true, false, refl, sym, ap, ◌∙◌, arith, inl}
+use Rattle.std.proofs.lemmas.Bool.Decides.{nat_tests}
 use Rattle.fn_source.specs.declared.span.Span.{Span}
 use Rattle.fn_source.specs.declared.fault.FaultKind.TheVariants as f
 use Rattle.fn_source.specs.declared.token.Kind.{Kind}
@@ -20,10 +21,11 @@ use Rattle.fn_tree.specs.declared.progress.Sum.TheVariants as sums
 use Rattle.fn_tree.specs.declared.progress.Progress.{Progress}
 use Rattle.fn_tree.specs.declared.expr.Counted.{Counted}
 use Rattle.fn_tree.specs.Spans.{cover}
-use Rattle.fn_tree.specs.Operators.{operator, operator_of, in_tier, is_operator, is_late, follows, step, start, inside}
+use Rattle.fn_tree.specs.declared.tree.Operator.TheVariants as op
+use Rattle.fn_tree.specs.Operators.{binds, operator, operator_of, operator_within, in_tier, in_tiers, is_late, follows, step, start, inside}
 use Rattle.fn_tree.specs.Rules.{Rules, is_full, nesting, most_operators}
 use Rattle.fn_tree.specs.Grammar.{attribute_of}
-use Rattle.fn_tree.specs.Reading.{Reader, Outcome, and_then, stops, is_next, kind_at, Fails}
+use Rattle.fn_tree.specs.Reading.{Reader, Outcome, and_then, ◌>>=◌, pure, stops, is_next, kind_at, Fails}
 use Rattle.fn_tree.specs.Expr.{counted, joined, grouped, denied, mixed, attribute_as, attribute_by, attribute, named, this, negative_by, negative, leaf_by, leaf, admit, operation, turn_by, turn, power_by, power, tiers, climb, operations, group, denial, prim_by, flat, nested, prim, whole}
 use Rattle.fn_tree.proofs.Local.{IsLocal, Looks, local_peek_at, stops_looks, Advances, IsTurn, local_pure, local_refuse, local_peek, local_take, local_bind, local_map, local_either, local_expect, local_repeat, unroll, turn_stop, turn_map, turn_peek}
 use Rattle.fn_tree.proofs.Many.{Consumes, consumes_either, consumes_bind, consumes_stops, consumes_refuse, consumes_one, consumes_mixed_at}
@@ -87,6 +89,66 @@ consumes_mixed : (sum : Sum) → Consumes (mixed sum)
 consumes_mixed (sums.Percent first) = consumes_mixed_at first
 consumes_mixed sums.Empty = consumes_refuse
 consumes_mixed sums.Plain = consumes_refuse
+
+-- ---- which tiers the next operator is of
+
+pub binds_some : (o : Operator) → 0 < binds o
+binds_some op.Power = omega arith
+binds_some op.Times = omega arith
+binds_some op.Divide = omega arith
+binds_some op.Remainder = omega arith
+binds_some op.Plus = omega arith
+binds_some op.Minus = omega arith
+binds_some op.And = omega arith
+binds_some op.Or = omega arith
+binds_some op.Equal = omega arith
+binds_some op.NotEqual = omega arith
+binds_some op.Less = omega arith
+binds_some op.Greater = omega arith
+binds_some op.LessEqual = omega arith
+binds_some op.GreaterEqual = omega arith
+
+within_none : (least most : ℕ) (next : Option Kind) → operator_within least most next ≡ None → (n : ℕ) → least ≤ n → n ≤ most → operator n next ≡ None
+within_none least most None h n low high = refl
+within_none least most (Some k.Name) h n low high = refl
+within_none least most (Some (k.Number v)) h n low high = refl
+within_none least most (Some (k.BitText count value)) h n low high = refl
+within_none least most (Some (k.Mark mark)) h n low high = by (operator_of mark) h
+  where
+    by : (o : Option Operator) → in_tiers least most o ≡ None → in_tier n o ≡ None
+    by None h = refl
+    by (Some o) h = grind (arith, nat_tests)
+
+chosen : (b : Bool) (found o : Operator) → (if b then Some found else None) ≡ Some o → (b ≡ true) × (found ≡ o)
+chosen true found o h = (refl, cc)
+chosen false found o h = absurd (cc)
+
+pub within_some : (least most : ℕ) (next : Option Kind) (o : Operator) → operator_within least most next ≡ Some o → (least ≤ binds o) × (binds o ≤ most) × (operator (binds o) next ≡ Some o)
+within_some least most None o h = absurd (cc)
+within_some least most (Some k.Name) o h = absurd (cc)
+within_some least most (Some (k.Number v)) o h = absurd (cc)
+within_some least most (Some (k.BitText count value)) o h = absurd (cc)
+within_some least most (Some (k.Mark mark)) o h = by (operator_of mark) h
+  where
+    by : (found : Option Operator) → in_tiers least most found ≡ Some o → (least ≤ binds o) × (binds o ≤ most) × (in_tier (binds o) found ≡ Some o)
+    by None h = absurd (cc)
+    by (Some found) h =
+        let w = chosen (nat_le least (binds found) && nat_le (binds found) most) found o h in
+        let low : least ≤ binds found = grind (arith, nat_tests, w.0) in
+        let high : binds found ≤ most = grind (arith, nat_tests, w.0) in
+        let same : binds found ≡ binds o = ap binds w.1 in
+        (omega (arith, low, same), omega (arith, high, same), rw w.1 (grind (arith, nat_tests)))
+
+other_tier : (next : Option Kind) (n tier : ℕ) (o : Operator) → operator tier next ≡ Some o → n < tier → operator n next ≡ None
+other_tier None n tier o h less = refl
+other_tier (Some k.Name) n tier o h less = refl
+other_tier (Some (k.Number v)) n tier o h less = refl
+other_tier (Some (k.BitText count value)) n tier o h less = refl
+other_tier (Some (k.Mark mark)) n tier o h less = by (operator_of mark) h
+  where
+    by : (found : Option Operator) → in_tier tier found ≡ Some o → in_tier n found ≡ None
+    by None h = absurd (cc)
+    by (Some found) h = grind (arith, nat_tests)
 
 module _ (r : Rules) where
   consumes_admit : (o : Operator) (progress : Progress) → Consumes (admit r o progress)
@@ -240,81 +302,122 @@ module _ (r : Rules) where
   tiers_fails depth (suc zero) progress ts refusal read = rw read refl
   tiers_fails depth (suc (suc below)) progress ts refusal read = rw (tiers_fails depth (suc below) progress ts refusal read) refl
 
-  pub climb_on : (depth below : ℕ) (first left : Counted) (ts mid : List Token) → climb r (suc below) (prim r depth) first ts ≡ Ok (left, mid) → climb r (suc (suc below)) (prim r depth) first ts ≡ operations r (suc below) (prim r depth) left mid
-  unfolding climb operations
-  climb_on depth below first left ts mid read = rw read refl
+  -- after an operand: operators of one tier
+  abbrev pub at_tier : ℕ → ℕ → Counted → Reader Counted
+  at_tier depth zero first = pure first
+  at_tier depth (suc zero) first = power r (tiers r 0 (prim r depth)) first
+  at_tier depth (suc (suc below)) first = operations r (suc below) (prim r depth) first
 
-  pub climb_zero : (depth : ℕ) (first : Counted) (ts : List Token) → climb r 0 (prim r depth) first ts ≡ Ok (first, ts)
-  unfolding climb
-  climb_zero depth first ts = refl
+  -- after an operand: operators of so many tiers from one on
+  abbrev pub climb_from : ℕ → ℕ → ℕ → Counted → Reader Counted
+  climb_from depth zero least first = pure first
+  climb_from depth (suc more) least first = at_tier depth least first >>= climb_from depth more (suc least)
 
-  pub climb_one : (depth : ℕ) (first : Counted) (ts : List Token) → climb r 1 (prim r depth) first ts ≡ power r (tiers r 0 (prim r depth)) first ts
-  unfolding climb tiers
-  climb_one depth first ts = refl
+  same_from : (depth : ℕ) (first : Counted) (ts : List Token) {a b c d : ℕ} → a ≡ b → c ≡ d → climb_from depth a c first ts ≡ climb_from depth b d first ts
+  same_from depth first ts p q = λ i. climb_from depth (p i) (q i) first ts
 
-  pub climb_fails : (depth below : ℕ) (first : Counted) (ts : List Token) (refusal : Refusal) → climb r (suc below) (prim r depth) first ts ≡ Err refusal → climb r (suc (suc below)) (prim r depth) first ts ≡ Err refusal
-  unfolding climb
-  climb_fails depth below first ts refusal read = rw read refl
+  -- one tier more at the end
+  from_more : (depth more least : ℕ) (first : Counted) (ts : List Token) → climb_from depth (suc more) least first ts ≡ and_then (climb_from depth more least first ts) (at_tier depth (more + least))
+  from_more depth zero least first ts = let same : least ≡ 0 + least = omega arith in by (at_tier depth least first ts) ∙ (λ i. at_tier depth (same i) first ts)
+    where
+      by : (o : Outcome Counted) → and_then o (climb_from depth zero (suc least)) ≡ o
+      by (Ok p) = refl
+      by (Err e) = refl
+  from_more depth (suc more) least first ts = by (at_tier depth least first ts) (λ c us. from_more depth more (suc least) c us)
+    where
+      by : (o : Outcome Counted) → ((c : Counted) (us : List Token) → climb_from depth (suc more) (suc least) c us ≡ and_then (climb_from depth more (suc least) c us) (at_tier depth (more + suc least)))
+          → and_then o (climb_from depth (suc more) (suc least)) ≡ and_then (and_then o (climb_from depth more (suc least))) (at_tier depth (suc more + least))
+      by (Ok p) on = let same : more + suc least ≡ suc more + least = omega arith in on p.0 p.1 ∙ (λ i. and_then (climb_from depth more (suc least) p.0 p.1) (at_tier depth (same i)))
+      by (Err e) on = refl
 
-  -- without an operator no tier goes on
-  pub climb_stops : (depth tier : ℕ) (first : Counted) (ts : List Token) → ((n : ℕ) → operator n (kind_at ts) ≡ None) → climb r tier (prim r depth) first ts ≡ Ok (first, ts)
-  unfolding climb power
-  climb_stops depth zero first ts none = refl
-  climb_stops depth (suc zero) first ts none = rw (none 1) refl
-  climb_stops depth (suc (suc below)) first ts none = climb_on depth below first first ts ts (climb_stops depth (suc below) first ts none) ∙ operations_stop depth (suc below) first ts (none (suc (suc below)))
+  -- all tiers are those from the first on
+  pub climb_all : (depth tier : ℕ) (first : Counted) (ts : List Token) → climb_from depth tier 1 first ts ≡ climb r tier (prim r depth) first ts
+  unfolding climb operations tiers
+  climb_all depth zero first ts = refl
+  climb_all depth (suc zero) first ts = from_more depth zero 1 first ts
+  climb_all depth (suc (suc below)) first ts =
+      let same : suc below + 1 ≡ suc (suc below) = omega arith in
+      from_more depth (suc below) 1 first ts ∙ (λ i. and_then (climb_all depth (suc below) first ts i) (at_tier depth (same i)))
+
+  tier_stops : (depth tier : ℕ) (first : Counted) (ts : List Token) → operator tier (kind_at ts) ≡ None → at_tier depth tier first ts ≡ Ok (first, ts)
+  unfolding power
+  tier_stops depth zero first ts none = refl
+  tier_stops depth (suc zero) first ts none = rw none refl
+  tier_stops depth (suc (suc below)) first ts none = operations_stop depth (suc below) first ts none
+
+  -- tiers without the next operator do nothing
+  from_skips : (depth skipped more least all to : ℕ) (first : Counted) (ts : List Token) → skipped + least ≡ to → all + least ≡ more + to
+      → ((n : ℕ) → least ≤ n → n < to → operator n (kind_at ts) ≡ None) → climb_from depth all least first ts ≡ climb_from depth more to first ts
+  from_skips depth zero more least all to first ts here ends none = same_from depth first ts (omega (arith, here, ends)) (omega (arith, here))
+  from_skips depth (suc skipped) more least zero to first ts here ends none = absurd (omega (arith, here, ends))
+  from_skips depth (suc skipped) more least (suc all) to first ts here ends none =
+      (λ i. and_then (tier_stops depth least first ts (none least (omega arith) (omega (arith, here))) i) (climb_from depth all (suc least)))
+      ∙ from_skips depth skipped more (suc least) all to first ts (omega (arith, here)) (omega (arith, ends)) (λ n low high. none n (omega (arith, low)) high)
+
+  from_on : (depth below more all least : ℕ) (first next : Counted) (ts rest : List Token) (o : Operator) → least ≡ max (suc below) 2 → all + least ≡ suc (suc below) + more
+      → operator (suc below) (kind_at ts) ≡ Some o → operation r (tiers r below (prim r depth)) first o ts ≡ Ok (next, rest)
+      → climb_from depth (suc more) (suc below) first ts ≡ climb_from depth all least next rest
+  unfolding power
+  from_on depth zero more all least first next ts rest o two ends h read =
+      let once : at_tier depth 1 first ts ≡ Ok (next, rest) = rw h read in
+      let up : 2 ≡ least = omega (arith, two) in
+      let same : more ≡ all = omega (arith, two, ends) in
+      (λ i. and_then (once i) (climb_from depth more 2)) ∙ same_from depth next rest same up
+  from_on depth (suc below) more all least first next ts rest o here ends h read =
+      let up : suc (suc below) ≡ least = omega (arith, here) in
+      let same : suc more ≡ all = omega (arith, here, ends) in
+      (λ i. and_then (operations_on depth (suc below) first ts o rest next h read i) (climb_from depth more (suc (suc (suc below))))) ∙ same_from depth next rest same up
+
+  from_err : (depth below more : ℕ) (first : Counted) (ts : List Token) (o : Operator) (refusal : Refusal) → operator (suc below) (kind_at ts) ≡ Some o
+      → operation r (tiers r below (prim r depth)) first o ts ≡ Err refusal → climb_from depth (suc more) (suc below) first ts ≡ Err refusal
+  unfolding power
+  from_err depth zero more first ts o refusal h read = let once : at_tier depth 1 first ts ≡ Err refusal = rw h read in λ i. and_then (once i) (climb_from depth more 2)
+  from_err depth (suc below) more first ts o refusal h read = λ i. and_then (operations_err depth (suc below) first ts o refusal h read i) (climb_from depth more (suc (suc (suc below))))
+
+  -- ---- a turn of the code's loop, which knows the least tier that may come
+
+  pub loop_stops : (depth tier least : ℕ) (first : Counted) (ts : List Token) → operator_within least tier (kind_at ts) ≡ None → climb_from depth (suc tier - least) least first ts ≡ Ok (first, ts)
+  loop_stops depth tier least first ts h =
+      from_skips depth (suc tier - least) 0 least (suc tier - least) (suc tier - least + least) first ts refl (omega arith)
+      (λ n low high. within_none least tier (kind_at ts) h n low (omega (arith, low, high)))
+
+  -- from the least tier to that of the next operator
+  loop_skips : (depth tier least at : ℕ) (first : Counted) (ts : List Token) (o : Operator) → at ≡ binds o → operator_within least tier (kind_at ts) ≡ Some o
+      → climb_from depth (suc tier - least) least first ts ≡ climb_from depth (suc (tier - at)) (suc (at - 1)) first ts
+  loop_skips depth tier least at first ts o here h =
+      let w = within_some least tier (kind_at ts) o h in
+      let some = binds_some o in
+      from_skips depth (at - least) (suc (tier - at)) least (suc tier - least) (suc (at - 1)) first ts (omega (arith, here, w.0, w.1, some)) (omega (arith, here, w.0, w.1, some))
+      (λ n low high. other_tier (kind_at ts) n (binds o) o w.2 (omega (arith, here, high, some)))
+
+  found_here : (tier least at : ℕ) (next : Option Kind) (o : Operator) → at ≡ binds o → operator_within least tier next ≡ Some o → operator (suc (at - 1)) next ≡ Some o
+  found_here tier least at next o here h =
+      let same : suc (at - 1) ≡ binds o = omega (arith, here, binds_some o) in
+      ap (λ (n : ℕ). operator n next) same ∙ (within_some least tier next o h).2
+
+  pub loop_on : (depth tier least at after : ℕ) (first left : Counted) (ts rest : List Token) (next : Option Kind) (o : Operator) → at ≡ binds o → after ≡ max at 2 → next ≡ kind_at ts
+      → operator_within least tier next ≡ Some o → operation r (tiers r (at - 1) (prim r depth)) first o ts ≡ Ok (left, rest)
+      → climb_from depth (suc tier - least) least first ts ≡ climb_from depth (suc tier - after) after left rest
+  loop_on depth tier least at after first left ts rest next o here goes is h read =
+      let seen : operator_within least tier (kind_at ts) ≡ Some o = rw (← is) h in
+      let w = within_some least tier (kind_at ts) o seen in
+      loop_skips depth tier least at first ts o here seen
+      ∙ from_on depth (at - 1) (tier - at) (suc tier - after) after first left ts rest o (omega (arith, goes, here, binds_some o)) (omega (arith, goes, here, binds_some o, w.0, w.1)) (found_here tier least at (kind_at ts) o here seen) read
+
+  pub loop_fails : (depth tier least at : ℕ) (first : Counted) (ts : List Token) (next : Option Kind) (o : Operator) (error : ParseError) → at ≡ binds o → next ≡ kind_at ts
+      → operator_within least tier next ≡ Some o → Fails error (operation r (tiers r (at - 1) (prim r depth)) first o ts) → Fails error (climb_from depth (suc tier - least) least first ts)
+  loop_fails depth tier least at first ts next o errors.Memory here is h read = tt
+  loop_fails depth tier least at first ts next o (errors.Refused refusal) here is h read =
+      let seen : operator_within least tier (kind_at ts) ≡ Some o = rw (← is) h in
+      loop_skips depth tier least at first ts o here seen ∙ from_err depth (at - 1) (tier - at) first ts o refusal (found_here tier least at (kind_at ts) o here seen) read
 
   pub tiers_one : (depth : ℕ) (progress : Progress) (ts mid : List Token) (first : Counted) → prim r depth progress ts ≡ Ok (first, mid) → tiers r 1 (prim r depth) progress ts ≡ power r (prim r depth) first mid
   unfolding tiers
   tiers_one depth progress ts mid first read = rw read refl
 
-pub climb_next : (r : Rules) (depth tier : ℕ) (first left : Counted) (ts mid : List Token) → 1 < tier → climb r (tier - 1) (prim r depth) first ts ≡ Ok (left, mid)
-    → climb r tier (prim r depth) first ts ≡ operations r (tier - 1) (prim r depth) left mid
-climb_next r depth zero first left ts mid some read = absurd (omega arith)
-climb_next r depth (suc zero) first left ts mid some read = absurd (omega arith)
-climb_next r depth (suc (suc below)) first left ts mid some read =
-    let same : suc (suc below) - 1 ≡ suc below = omega arith in
-    let at : climb r (suc below) (prim r depth) first ts ≡ Ok (left, mid) = subst (λ (n : ℕ). climb r n (prim r depth) first ts ≡ Ok (left, mid)) same read in
-    climb_on r depth below first left ts mid at ∙ ap (λ (n : ℕ). operations r n (prim r depth) left mid) (sym same)
-
-pub climb_err : (r : Rules) (depth tier : ℕ) (first : Counted) (ts : List Token) (error : ParseError) → 0 < tier → Fails error (climb r (tier - 1) (prim r depth) first ts) → Fails error (climb r tier (prim r depth) first ts)
-climb_err r depth tier first ts errors.Memory some read = tt
-climb_err r depth zero first ts (errors.Refused refusal) some read = absurd (omega arith)
-climb_err r depth (suc zero) first ts (errors.Refused refusal) some read =
-    let same : suc zero - 1 ≡ zero = omega arith in
-    let at : climb r zero (prim r depth) first ts ≡ Err refusal = subst (λ (n : ℕ). climb r n (prim r depth) first ts ≡ Err refusal) same read in
-    let wrong : Path (Outcome Counted) (Ok (first, ts)) (Err refusal) = sym (climb_zero r depth first ts) ∙ at in
-    absurd (cc)
-climb_err r depth (suc (suc below)) first ts (errors.Refused refusal) some read =
-    let same : suc (suc below) - 1 ≡ suc below = omega arith in
-    climb_fails r depth below first ts refusal (subst (λ (n : ℕ). climb r n (prim r depth) first ts ≡ Err refusal) same read)
-
 pub tiers_err : (r : Rules) (depth tier : ℕ) (progress : Progress) (ts : List Token) (error : ParseError) → Fails error (prim r depth progress ts) → Fails error (tiers r tier (prim r depth) progress ts)
 tiers_err r depth tier progress ts errors.Memory read = tt
 tiers_err r depth tier progress ts (errors.Refused refusal) read = tiers_fails r depth tier progress ts refusal read
 
--- the first tier is that of `^`
-pub climb_power : (r : Rules) (depth tier : ℕ) (first left : Counted) (ts mid : List Token) → tier ≡ 1 → climb r (tier - 1) (prim r depth) first ts ≡ Ok (left, mid)
-    → climb r tier (prim r depth) first ts ≡ power r (tiers r 0 (prim r depth)) left mid
-climb_power r depth tier first left ts mid one read =
-    let none : tier - 1 ≡ 0 = omega (arith, one) in
-    let at : climb r 0 (prim r depth) first ts ≡ Ok (left, mid) = subst (λ (n : ℕ). climb r n (prim r depth) first ts ≡ Ok (left, mid)) none read in
-    let same : Ok (first, ts) ≡ Ok (left, mid) = sym (climb_zero r depth first ts) ∙ at in
-    ap (λ (n : ℕ). climb r n (prim r depth) first ts) one ∙ (climb_one r depth first ts ∙ (λ k. and_then (same k) (λ c. power r (tiers r 0 (prim r depth)) c)))
-
--- no tier has what is no operator
-pub no_operator : (next : Option Kind) → is_operator next ≡ false → (tier : ℕ) → operator tier next ≡ None
-no_operator None h tier = refl
-no_operator (Some k.Name) h tier = refl
-no_operator (Some (k.Number n)) h tier = refl
-no_operator (Some (k.BitText count value)) h tier = refl
-no_operator (Some (k.Mark mark)) h tier = by (operator_of mark) h
-  where
-    by : (o : Option Operator) → is_some o ≡ false → in_tier tier o ≡ None
-    by None h = refl
-    by (Some o) h = absurd (cc)
-
 pub deeper : {X : Type 0} (g : ℕ → X) (n : ℕ) → 0 < n → g n ≡ g (suc (n - 1))
 deeper g n some = let same : n ≡ suc (n - 1) = omega arith in ap g same
-
-pub tier_at : (below : ℕ) (ts : List Token) (next : Option Kind) (o : Option Operator) → o ≡ operator (below + 1) next → next ≡ kind_at ts → operator (suc below) (kind_at ts) ≡ o
-tier_at below ts next o h is = let same : suc below ≡ below + 1 = omega arith in rw (same, ← is) (sym h)

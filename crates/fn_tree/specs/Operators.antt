@@ -1,5 +1,5 @@
 -- Operators, and what the rules on them look at.
-use Rattle.std.specs.Prelude.{ℕ, ◌+◌, ◌==◌, nat_lt, is_some, if◌then◌else◌, Bool, true, false, Option, Some, None}
+use Rattle.std.specs.Prelude.{ℕ, ◌+◌, ◌==◌, nat_lt, nat_le, ◌&&◌, if◌then◌else◌, Bool, true, false, Option, Some, None}
 use Rattle.fn_source.specs.declared.span.Span.{Span}
 use Rattle.fn_source.specs.declared.token.Mark.{Mark}
 use Rattle.fn_source.specs.declared.token.Mark.TheVariants as m
@@ -49,10 +49,14 @@ abbrev pub operator : ℕ → Option Kind → Option Operator
 operator tier (Some (k.Mark mark)) = in_tier tier (operator_of mark)
 operator tier _ = None
 
--- whether the token is an operator, of whichever tier
-abbrev pub is_operator : Option Kind → Bool
-is_operator (Some (k.Mark mark)) = is_some (operator_of mark)
-is_operator _ = false
+abbrev pub in_tiers : ℕ → ℕ → Option Operator → Option Operator
+in_tiers least most (Some found) = if nat_le least (binds found) && nat_le (binds found) most then Some found else None
+in_tiers least most None = None
+
+-- the operator that the token is, of the tiers from one to another
+abbrev pub operator_within : ℕ → ℕ → Option Kind → Option Operator
+operator_within least most (Some (k.Mark mark)) = in_tiers least most (operator_of mark)
+operator_within least most _ = None
 
 -- ^ * / % + -
 abbrev pub is_integer : Operator → Bool

@@ -7,9 +7,7 @@ ghost use Rattle.fn_tree.specs.Grammar as grammar;
 ghost use Rattle.fn_tree.specs.Spans as spans;
 ghost use Rattle.fn_tree.specs.Expr as spec;
 
-use crate::progress::{
-    Progress, Sum, follows, inside, is_late, is_operator, operator, outside, step,
-};
+use crate::progress::{Progress, Sum, binds, follows, inside, is_late, operator, outside, step};
 use crate::refusal::ParseError;
 use crate::tokens::{Tokens, stops_at};
 use crate::tree::{Attribute, Expr, Operator, Owner};
@@ -24,7 +22,7 @@ const WHOLE: usize = 6;
 const MOST_NESTING: usize = 64;
 
 /// The most operators of a whole expression.
-const MOST_OPERATORS: usize = 256;
+const MOST_OPERATORS: u32 = 256;
 
 /// An expression, and the progress after it.
 #[derive(Drop)]
@@ -302,7 +300,7 @@ fn tiers(
     climb(alloc, tokens, depth, tier, first)
 }
 
-/// Goes on after an operand with operators of the tiers up to this one. Most operands stand alone: no tier is looked at where no operator comes next.
+/// Goes on after an operand with operators of the tiers up to this one, at most one of them `^`.
 #[cycle(expr)]
 fn climb(
     alloc: Global,
@@ -314,52 +312,12 @@ fn climb(
     requires { tier < 8 }
     ensures { Reads (spec.climb all tier (spec.prim all depth) first tokens.old) result tokens.new }
 {
-    if tier == 0 {
-        return Ok(first);
-    }
-    if !is_operator(tokens.peek()) {
-        return Ok(first);
-    }
-    let left = climb(alloc, tokens, depth, tier - 1, first)?;
-    if tier == 1 {
-        power(alloc, tokens, depth, left)
-    } else {
-        operations(alloc, tokens, depth, tier - 1, left)
-    }
-}
-
-/// Goes on after an operand with at most one `^`.
-#[cycle(expr)]
-#[tactic(auto, unfolding(crate::specs::Expr::power))]
-fn power(
-    alloc: Global,
-    tokens: &mut Tokens<'_>,
-    depth: usize,
-    first: Counted,
-) -> Result<Counted, ParseError>
-    ensures { Reads (spec.power all (spec.tiers all 0 (spec.prim all depth)) first tokens.old) result tokens.new }
-{
-    match operator(1, tokens.peek()) {
-        Some(found) => operation(alloc, tokens, depth, 0, first, found),
-        None => Ok(first),
-    }
-}
-
-/// Goes on after an operand with operators of the tier above `below`.
-#[cycle(expr)]
-fn operations(
-    alloc: Global,
-    tokens: &mut Tokens<'_>,
-    depth: usize,
-    below: usize,
-    first: Counted,
-) -> Result<Counted, ParseError>
-    requires { below < 7 }
-    ensures { Reads (spec.operations all below (spec.prim all depth) first tokens.old) result tokens.new }
-{
     let mut left = first;
-    while let Some(found) = operator(below + 1, tokens.peek()) {
-        left = operation(alloc, tokens, depth, below, left, found)?;
+    let mut least = 1;
+    while let Some(found) = operator(least, tier, tokens.peek()) {
+        let next = binds(found);
+        left = operation(alloc, tokens, depth, next - 1, left, found)?;
+        least = next.max(2);
     }
     Ok(left)
 }

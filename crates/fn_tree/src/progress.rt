@@ -19,11 +19,11 @@ pub enum Sum {
 /// The operators so far: of the whole expression, and of the sum.
 #[derive(Clone, Copy)]
 pub struct Progress {
-    pub operators: usize,
+    pub operators: u32,
     pub sum: Sum,
 }
 
-fn binds(operator: Operator) -> usize
+pub(crate) fn binds(operator: Operator) -> usize
     ensures { result ≡ spec.binds operator }
 {
     match operator {
@@ -58,24 +58,14 @@ fn operator_of(mark: Mark) -> Option<Operator>
     }
 }
 
-/// Whether the token is an operator, of whichever tier.
-pub(crate) fn is_operator(next: Option<Kind>) -> bool
-    ensures { result ≡ spec.is_operator next }
-{
-    match next {
-        Some(Kind::Mark(mark)) => operator_of(mark).is_some(),
-        _ => false,
-    }
-}
-
-/// The operator of the tier that the token is.
-pub(crate) fn operator(tier: usize, next: Option<Kind>) -> Option<Operator>
-    ensures { result ≡ spec.operator tier next }
+/// The operator of the tiers from one to another that the token is.
+pub(crate) fn operator(least: usize, most: usize, next: Option<Kind>) -> Option<Operator>
+    ensures { result ≡ spec.operator_within least most next }
 {
     match next {
         Some(Kind::Mark(mark)) => {
             let found = operator_of(mark)?;
-            if binds(found) == tier {
+            if least <= binds(found) && binds(found) <= most {
                 Some(found)
             } else {
                 None
@@ -149,7 +139,7 @@ fn after(operator: Operator, at: Span, sum: Sum) -> Sum
 
 /// The progress after an operator at its place.
 pub(crate) fn step(operator: Operator, at: Span, progress: Progress) -> Progress
-    requires { progress.operators < 2 ^ 32 }
+    requires { progress.operators < 2 ^ 16 }
     ensures { result ≡ spec.step operator at progress }
 {
     Progress {

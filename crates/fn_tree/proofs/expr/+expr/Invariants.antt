@@ -1,6 +1,7 @@
-use Rattle.std.proofs.Common.{◌≡◌, ◌+◌, ◌*◌, length}
+use Rattle.std.proofs.Common.{◌≡◌, suc, ◌+◌, ◌-◌, ◌*◌, length}
 use Rattle.fn_tree.specs.Rules.{all}
 use Rattle.fn_tree.specs.Expr as spec
+use Rattle.fn_tree.proofs.Exprs.{climb_from}
 use Rattle.fn_tree.proofs.expr.+expr.Given as goal
 
 abbrev pub decreases-prim : goal.decreases-prim
@@ -24,14 +25,8 @@ decreases-climb l = 32 * l.depth + 4 * l.tier + 2
 abbrev pub decreases-operation : goal.decreases-operation
 decreases-operation l = 32 * l.depth + 4 * l.tier + 4
 
-abbrev pub decreases-power : goal.decreases-power
-decreases-power l = 32 * l.depth + 5
+abbrev pub invariant-climb-loop-found : goal.invariant-climb-loop-found
+invariant-climb-loop-found l = climb_from all l.depth (suc l.tier - l.least) l.least l.left l.tokens ≡ spec.climb all l.tier (spec.prim all l.depth) l.fn.first l.fn.tokens
 
-abbrev pub decreases-operations : goal.decreases-operations
-decreases-operations l = 32 * l.depth + 4 * l.below + 5
-
-abbrev pub invariant-operations-loop-found : goal.invariant-operations-loop-found
-invariant-operations-loop-found l = spec.operations all l.below (spec.prim all l.depth) l.left l.tokens ≡ spec.operations all l.below (spec.prim all l.depth) l.fn.first l.fn.tokens
-
-abbrev pub decreases-operations-loop-found : goal.decreases-operations-loop-found
-decreases-operations-loop-found l = length l.tokens
+abbrev pub decreases-climb-loop-found : goal.decreases-climb-loop-found
+decreases-climb-loop-found l = length l.tokens
