@@ -1,6 +1,7 @@
 //! From octets to tokens.
 
 ghost use Rattle.std.specs.Prelude.{[], ◌∷◌, ◌≡◌, ◌<◌, ◌-◌, ℕ, List, length, drop, get_or, option_map, Some, None, Ok, Err, IfOk, IfErr, MatchResult};
+ghost use Rattle.std.specs.Str.{bytes_eq};
 ghost use Rattle.std.specs.Char.{is_ascii_digit, is_ascii_alphabetic};
 ghost use Rattle.fn_source.specs.Lexical as spec;
 ghost use Rattle.fn_source.specs.declared.token.Token.{Token};
@@ -253,24 +254,34 @@ fn numeral<'a>(text: &'a [u8], first: u8, rest: &'a [u8]) -> Lexeme<'a>
     }
 }
 
+/// Whether the word is so written. Most are not, and differ at their first octet.
+fn is_written(word: &[u8], spelling: &[u8]) -> bool
+    ensures { result ≡ bytes_eq word.now spelling.now }
+{
+    match spelling {
+        [first, ..] => is_next(*first, word) && word == spelling,
+        [] => word.is_empty(),
+    }
+}
+
 /// The word of an operand that is so written.
 #[tactic(auto, unfolding(crate::specs::Scan::operand))]
 fn operand(word: &[u8]) -> Option<Mark>
     ensures { result ≡ scan.operand word.now }
 {
-    if word == b"THIS".as_slice() {
+    if is_written(word, b"THIS") {
         Some(Mark::This)
-    } else if word == b"UVALUE".as_slice() {
+    } else if is_written(word, b"UVALUE") {
         Some(Mark::Uvalue)
-    } else if word == b"ULENGTH".as_slice() {
+    } else if is_written(word, b"ULENGTH") {
         Some(Mark::Ulength)
-    } else if word == b"CVALUE".as_slice() {
+    } else if is_written(word, b"CVALUE") {
         Some(Mark::Cvalue)
-    } else if word == b"CLENGTH".as_slice() {
+    } else if is_written(word, b"CLENGTH") {
         Some(Mark::Clength)
-    } else if word == b"true".as_slice() {
+    } else if is_written(word, b"true") {
         Some(Mark::True)
-    } else if word == b"false".as_slice() {
+    } else if is_written(word, b"false") {
         Some(Mark::False)
     } else {
         None
@@ -282,19 +293,19 @@ fn operand(word: &[u8]) -> Option<Mark>
 fn reserved(word: &[u8]) -> Option<Mark>
     ensures { result ≡ scan.reserved word.now }
 {
-    if word == b"UNCOMPRESSED".as_slice() {
+    if is_written(word, b"UNCOMPRESSED") {
         Some(Mark::Uncompressed)
-    } else if word == b"CONTROL".as_slice() {
+    } else if is_written(word, b"CONTROL") {
         Some(Mark::Control)
-    } else if word == b"INITIAL".as_slice() {
+    } else if is_written(word, b"INITIAL") {
         Some(Mark::Initial)
-    } else if word == b"DEFAULT".as_slice() {
+    } else if is_written(word, b"DEFAULT") {
         Some(Mark::Default)
-    } else if word == b"COMPRESSED".as_slice() {
+    } else if is_written(word, b"COMPRESSED") {
         Some(Mark::Compressed)
-    } else if word == b"ENFORCE".as_slice() {
+    } else if is_written(word, b"ENFORCE") {
         Some(Mark::Enforce)
-    } else if word == b"VARIABLE".as_slice() {
+    } else if is_written(word, b"VARIABLE") {
         Some(Mark::Variable)
     } else {
         operand(word)
