@@ -7,11 +7,14 @@ use Rattle.fn_expr.specs.declared.expr.Operator.{Operator}
 use Rattle.fn_expr.specs.declared.expr.Expr.{Expr}
 use Rattle.fn_expr.specs.declared.interval.Interval.{Interval}
 use Rattle.fn_expr.specs.declared.fault.RangeFault.{RangeFault}
-use Rattle.fn_expr.specs.Ranged.{Bounding, ranged, joined, both_ranged}
+use Rattle.fn_expr.specs.declared.expr.Operator.TheVariants.{Power}
+use Rattle.fn_expr.specs.Rules.{from_to}
+use Rattle.fn_expr.specs.Ranged.{Bounding, limited, ranged, joined, both_ranged}
 use Rattle.fn_expr.specs.Bounds.{bounding_of, subject_intervals}
 use Rattle.fn_normal.specs.declared.profile.Sizes.{Sizes}
 use Rattle.fn_normal.specs.declared.profile.FormatSizes.{FormatSizes}
 use Rattle.fn_normal.specs.declared.profile.Format.{Format}
+use Rattle.fn_normal.specs.Judging.{earlier}
 use Rattle.fn_bounds.specs.Ranging.{format_ranges, side_ranges}
 use Rattle.fn_bounds.specs.Faults.{subject_sizes, is_wide, wide_in}
 
@@ -49,6 +52,15 @@ pub record IsNarrow (s : FormatSizes) (t : Attribute) (m : ℕ) : Type 0 where
 -- the operator makes a range up to m of ranges up to l and r
 pub record Combines (op : Operator) (l r m : ℕ) : Type 0 where
   pub joins : (at : Span) (o u : Result Interval RangeFault) → HasRange o l → HasRange u r → HasRange (both_ranged (joined at op) o u) m
+
+-- a power of two numbers has such a range
+pub record IsPower (base exponent : ℤ) (m : ℕ) : Type 0 where
+  pub joins : (first second at : Span) → HasRange (both_ranged (joined at Power) (limited first (from_to base base)) (limited second (from_to exponent exponent))) m
+
+-- the same of two expressions, which ask for no value
+pub record PowerReaches (base exponent : Expr) (m : ℕ) : Type 0 where
+  pub joins : (r : Bounding) (at : Span) → HasRange (both_ranged (joined at Power) (ranged r base) (ranged r exponent)) m
+  pub wide : (format : Format) (s : FormatSizes) → earlier (wide_in format s base) (wide_in format s exponent) ≡ None
 
 -- the expression has such a range, and no part of it asks for a value of more than 64 bits
 pub record Reaches (s : FormatSizes) (parameters : List Interval) (e : Expr) (m : ℕ) : Type 0 where

@@ -1,11 +1,14 @@
 //! Constants: expressions of literals alone that have a value.
 
-ghost use Rattle.std.specs.Prelude.{◌≡◌, true, IsTrue};
+ghost use Rattle.std.specs.Prelude.{◌≡◌, true, IsTrue, IfSome};
 ghost use Rattle.fn_expr.specs.Rules.{is_within};
 ghost use Rattle.fn_bounds.specs.Constants as spec;
 
-use fn_expr::{Expr, Known, Ranges, range, value};
+use fn_expr::{Expr, Known, Operator, Ranges, range, value};
 use std::alloc::Global;
+
+/// The greatest size of an end point of a range that is accepted.
+const LIMIT: i128 = 0x100_0000_0000_0000_0000_0000_0000_0000;
 
 /// A number up to this size is far within the limit of ranges.
 const SMALL: i128 = 0x1_0000_0000_0000_0000;
@@ -16,6 +19,43 @@ fn is_small(number: i128) -> bool
     -SMALL <= number && number <= SMALL
 }
 
+/// The number, where its size is within the limit of ranges.
+fn within(number: i128) -> Option<i128>
+    ensures { IfSome result (spec.IsWithin number) }
+{
+    if -LIMIT <= number && number <= LIMIT {
+        Some(number)
+    } else {
+        None
+    }
+}
+
+fn calculated(operator: Operator, left: i128, right: i128) -> Option<i128>
+    ensures { IfSome result (spec.Calculates operator left right) }
+{
+    match operator {
+        Operator::Add => within(left.checked_add(right)?),
+        Operator::Subtract => within(left.checked_sub(right)?),
+        Operator::Multiply => within(left.checked_mul(right)?),
+        Operator::Divide | Operator::Remainder | Operator::Power => None,
+    }
+}
+
+/// The one value of a sum, a difference or a product of literals, which is its range too.
+fn exact(expr: &Expr) -> Option<i128>
+    ensures { IfSome result (spec.IsExact expr.now) }
+{
+    match expr {
+        Expr::Number(_, number) => within(*number),
+        Expr::Parameter(_, _) | Expr::Attribute(_, _) => None,
+        Expr::Binary(_, operator, left, right) => {
+            let left = exact(left)?;
+            let right = exact(right)?;
+            calculated(*operator, left, right)
+        }
+    }
+}
+
 /// The value of a constant: an expression without attributes and parameters, which has a range and a value. It takes no memory.
 pub fn constant_of(alloc: Global, expr: &Expr) -> Option<i128>
     ensures { result ≡ spec.constant expr.now }
@@ -24,6 +64,9 @@ pub fn constant_of(alloc: Global, expr: &Expr) -> Option<i128>
         if is_small(*number) {
             return Some(*number);
         }
+    }
+    if let Some(number) = exact(expr) {
+        return Some(number);
     }
     if range(expr, &Ranges::anything(alloc)).is_err() {
         return None;

@@ -17,6 +17,9 @@ const LIMIT: u128 = 0x100_0000_0000_0000_0000_0000_0000_0000;
 /// No value of 64 bits and no length is above this.
 const GREATEST: u128 = 0x1_0000_0000_0000_0000;
 
+/// The greatest exponent of a power.
+const MOST_EXPONENT: i128 = 127;
+
 fn limited(size: u128) -> Option<u128>
     ensures { IfSome result (λ m. (m ≡ size) × (m ≤ 2 ^ 120)) }
 {
@@ -91,6 +94,30 @@ fn attribute_reach(sizes: &FormatSizes, attribute: Attribute) -> Option<u128>
     measured(attribute.measure, side_bounds(attribute.side, sides))
 }
 
+/// The power of two numbers, the first of which is above 0.
+fn power(base: i128, exponent: i128) -> Option<u128>
+    ensures { IfSome result (spec.IsPower base exponent) }
+{
+    if base < 1 || exponent < 0 || MOST_EXPONENT < exponent {
+        return None;
+    }
+    let base = limited(base as u128)?;
+    limited(base.checked_pow(exponent as u32)?)
+}
+
+/// The same of two expressions that are numbers.
+fn power_reach(base: &Expr, exponent: &Expr) -> Option<u128>
+    ensures { IfSome result (spec.PowerReaches base.now exponent.now) }
+{
+    let Expr::Number(_, base) = base else {
+        return None;
+    };
+    let Expr::Number(_, exponent) = exponent else {
+        return None;
+    };
+    power(*base, *exponent)
+}
+
 /// How far from 0 the values of an expression may be, by its parts. None where that is not seen, or where it may have a fault.
 pub(crate) fn reach(sizes: &FormatSizes, parameters: &[Interval], expr: &Expr) -> Option<u128>
     ensures { IfSome result (spec.Reaches sizes.now parameters.now expr.now) }
@@ -99,10 +126,13 @@ pub(crate) fn reach(sizes: &FormatSizes, parameters: &[Interval], expr: &Expr) -
         Expr::Number(_, number) => limited(number.unsigned_abs()),
         Expr::Parameter(_, index) => parameter_reach(sizes, parameters, *index),
         Expr::Attribute(_, attribute) => attribute_reach(sizes, *attribute),
-        Expr::Binary(_, operator, left, right) => {
-            let left = reach(sizes, parameters, left)?;
-            let right = reach(sizes, parameters, right)?;
-            combined(*operator, left, right)
-        }
+        Expr::Binary(_, operator, left, right) => match operator {
+            Operator::Power => power_reach(left, right),
+            _ => {
+                let left = reach(sizes, parameters, left)?;
+                let right = reach(sizes, parameters, right)?;
+                combined(*operator, left, right)
+            }
+        },
     }
 }
