@@ -48,13 +48,14 @@ fn add_entries(
     ensures { OnOk result (map (λ e. (string_bytes e.0, e.1)) found.new.items ≡ map (λ e. (string_bytes e.0, e.1)) found.old.items ++ entries_below filling.now path.now) }
 {
     for field in filling.fields.as_slice() {
-        let here = below(alloc, path, field.declared.name.as_str())?;
+        let name = field.declared.name.as_str();
         let part = field.declared.part;
         if let Some(inner) = &field.inner {
+            let here = below(alloc, path, name)?;
             add_own(alloc, found, part, here.as_str(), &field.uncompressed)?;
             add_entries(alloc, found, inner, here.as_str())?;
         } else {
-            add_last(alloc, found, part, here, &field.uncompressed)?;
+            add_last(alloc, found, part, path, name, &field.uncompressed)?;
         }
     }
     Ok(())
@@ -70,23 +71,29 @@ fn add_own(
 ) -> Result<(), AllocError>
     ensures { OnOk result (map (λ e. (string_bytes e.0, e.1)) found.new.items ≡ map (λ e. (string_bytes e.0, e.1)) found.old.items ++ own_entry part path.now bits.now) }
 {
-    let path = String::from_str(alloc, path)?;
-    add_last(alloc, found, part, path, bits)
+    match part {
+        Part::Header | Part::Control => {
+            found.push((String::from_str(alloc, path)?, bits.copy(alloc)?))?;
+            Ok(())
+        }
+        Part::Local => Ok(()),
+    }
 }
 
-/// Adds it likewise, and takes the path.
+/// Adds the entry that a field of that part and name leaves below a path. For a local field, which leaves none, no path is made.
 fn add_last(
     alloc: Global,
     found: &mut Vec<(String, Bits)>,
     part: Part,
-    path: String,
+    path: &str,
+    name: &str,
     bits: &Bits,
 ) -> Result<(), AllocError>
-    ensures { OnOk result (map (λ e. (string_bytes e.0, e.1)) found.new.items ≡ map (λ e. (string_bytes e.0, e.1)) found.old.items ++ own_entry part (string_bytes path) bits.now) }
+    ensures { OnOk result (map (λ e. (string_bytes e.0, e.1)) found.new.items ≡ map (λ e. (string_bytes e.0, e.1)) found.old.items ++ own_entry part (below path.now name.now) bits.now) }
 {
     match part {
         Part::Header | Part::Control => {
-            found.push((path, bits.copy(alloc)?))?;
+            found.push((below(alloc, path, name)?, bits.copy(alloc)?))?;
             Ok(())
         }
         Part::Local => Ok(()),
