@@ -22,7 +22,7 @@ ghost use Rattle.fn_level.specs.Sight.{IsClear, known_in};
 use crate::filling::filling_of;
 use crate::fronts::{Front, Fronts, go_on, offset_by};
 use crate::joining::joined_whole;
-use crate::slots::{are_unsent, at_start, bits_at, headers_of, learn_at, length_at};
+use crate::slots::{Places, are_unsent, at_start, bits_at, headers_of, learn_at, length_at};
 use crate::values::{Sight, value_in, values_in};
 use fn_bits::Bits;
 use fn_expr::{Expr, Side};
@@ -39,7 +39,7 @@ use std::marker::Model;
 pub struct Level<'a> {
     format: &'a Format,
     sizes: &'a FormatSizes,
-    headers: Items<usize>,
+    headers: Places,
     slots: Vec<Slot>,
     parameters: Items<i128>,
     fronts: Fronts,
@@ -59,7 +59,7 @@ impl<'a> Model for Level<'a> {
 
     ghost view = { λ l. record { format = l.format.now; sizes = l.sizes.now; args = l.parameters; slots = l.slots.items } };
 
-    ghost invariant = { λ l. IsInOrder l.format.now l.sizes.now l.headers l.slots.items l.parameters l.fronts };
+    ghost invariant = { λ l. IsInOrder l.format.now l.sizes.now l.headers.items l.slots.items l.parameters l.fronts };
 }
 
 impl<'a> Level<'a> {
