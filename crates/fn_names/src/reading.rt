@@ -7,7 +7,7 @@ use crate::resolving::resolve;
 use fn_normal::{ProfileFault, ResolveError};
 use fn_profile::Profile;
 use fn_source::{Fault, Source, SourceError, lex};
-use fn_tree::parse;
+use fn_tree::{File, parse};
 use std::alloc::Global;
 use thiserror::Error;
 
@@ -61,6 +61,13 @@ impl From<ResolveError> for ReadError {
     }
 }
 
+/// A text that was read: its profile, and the tree from which that was resolved.
+#[derive(Drop)]
+pub struct ReadText {
+    pub profile: Profile,
+    pub tree: File,
+}
+
 /// The normal form of the profile in the octets, with the top of this name.
 ///
 /// Faults: E04 and E05 of the text, E01 to E03 of its tokens, E10 to E15 of its grammar, and then those of its tree,
@@ -70,8 +77,27 @@ pub fn read(alloc: Global, octets: &[u8], top: &[u8]) -> Result<Profile, ReadErr
     // Each refusal, and what it says of the octets.
     ensures refused { IfErr result (Refuses octets.now top.now) }
 {
+    match read_with_tree(alloc, octets, top) {
+        Ok(text) => {
+            let ReadText {
+                profile,
+                tree: _tree,
+            } = text;
+            Ok(profile)
+        }
+        Err(error) => Err(error),
+    }
+}
+
+/// The same, with the tree: who asks decides when that is let go, which takes a while where the text is long.
+pub fn read_with_tree(alloc: Global, octets: &[u8], top: &[u8]) -> Result<ReadText, ReadError>
+    ensures found { IfOk result (λ text. Reads octets.now top.now text.profile) }
+    // Each refusal, and what it says of the octets.
+    ensures refused { IfErr result (Refuses octets.now top.now) }
+{
     let source = Source::new(octets)?;
     let tokens = lex(alloc, &source)?;
-    let file = parse(alloc, &source, tokens.as_slice())?;
-    Ok(resolve(alloc, octets, file.parts.as_slice(), top)?)
+    let tree = parse(alloc, &source, tokens.as_slice())?;
+    let profile = resolve(alloc, octets, tree.parts.as_slice(), top)?;
+    Ok(ReadText { profile, tree })
 }

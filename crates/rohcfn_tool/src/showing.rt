@@ -8,21 +8,25 @@ ghost use Rattle.rohcfn_tool.specs.ProfileLines.{IsFaultLine, cause_line, text_l
 
 use crate::replies::refusal;
 use crate::status::{Answer, Status};
-use fn_names::{ReadError, read};
+use fn_names::{ReadError, read_with_tree};
 use fn_normal::ProfileFault;
 use fn_profile::Profile;
 use fn_show::{fault_text, kind_text, show};
 use fn_source::{Fault, line_column};
 use std::alloc::{AllocError, Global};
+use std::mem::forget;
 
 /// The listing of the profile with the top of this name: its methods, bounds and constraints. For a profile with a fault
 /// its line.
+///
+/// The profile and its tree are not let go box by box, which would take a sixth of the time: a process that shows ends with its answer.
 pub(crate) fn answer_listing(alloc: Global, top: &str, octets: &[u8]) -> Result<Answer, AllocError>
     ensures { IfOk result (Shows top.now octets.now) }
 {
-    match read(alloc, octets, top.as_bytes()) {
-        Ok(profile) => {
-            let output = listing(alloc, octets, &profile)?;
+    match read_with_tree(alloc, octets, top.as_bytes()) {
+        Ok(text) => {
+            let output = listing(alloc, octets, &text.profile)?;
+            forget(text);
             Ok(Answer {
                 status: Status::Done,
                 output,
