@@ -66,7 +66,7 @@ word_length fields subject.This = 4
 
 -- the first octets of a part of the text
 abbrev pub front : Span → ℕ → Span
-front at n = record { from = at.from; to = min (at.from + n) (2 ^ 64 - 1) }
+front at n = record { from = at.from; to = min (at.from + n) (2 ^ 32 - 1) }
 
 abbrev pub wide_value : List Field → Span → Subject → ProfileFault
 wide_value fields at s = record { kind = kinds.WideValue; at = at; first = Some (front at (word_length fields s)); second = None }

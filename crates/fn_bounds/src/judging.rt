@@ -65,9 +65,10 @@ fn word_length(fields: &[Field], subject: Subject) -> usize
 fn wide_value(fields: &[Field], at: Span, subject: Subject) -> ProfileFault
     ensures { result ≡ spec.wide_value fields.now at subject }
 {
+    let to = (at.from as usize).saturating_add(word_length(fields, subject));
     let word = Span {
         from: at.from,
-        to: at.from.saturating_add(word_length(fields, subject)),
+        to: to.min(u32::MAX as usize) as u32,
     };
     ProfileFault {
         kind: ProfileFaultKind::WideValue,

@@ -16,8 +16,8 @@ use std::marker::Model;
 pub fn word<'a>(text: &'a [u8], span: Span) -> &'a [u8]
     ensures { result.now ≡ spec.word text.now span }
 {
-    let to = span.to.min(text.len());
-    let from = span.from.min(to);
+    let to = (span.to as usize).min(text.len());
+    let from = (span.from as usize).min(to);
     &text[from..to]
 }
 

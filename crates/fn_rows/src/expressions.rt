@@ -141,7 +141,7 @@ fn read(alloc: Global, text: &str) -> Result<Parts> {
         expressions: Vec::new(alloc),
         conditions: Vec::new(alloc),
     };
-    let mut from: usize = 0;
+    let mut from: u32 = 0;
     for word in text.split(' ') {
         from = from.saturating_add(1);
         parts.add(Span { from, to: from }, word)?;

@@ -24,7 +24,7 @@ fn read(alloc: Global, text: &str) -> Result<Vec<Token>> {
 
 fn put_token(out: &mut String, text: &str, token: Token) -> Result<()> {
     let Span { from, to } = token.span;
-    out.push_str(text.get(from..to).context("no token")?)?;
+    out.push_str(text.get(from as usize..to as usize).context("no token")?)?;
     out.push(':')?;
     put_kind(out, token.kind)?;
     Ok(out.push(' ')?)

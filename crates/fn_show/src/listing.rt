@@ -157,7 +157,7 @@ fn push_constraint(
 ) -> Result<(), AllocError>
     ensures { OnOk result (string_bytes output.new ≡ string_bytes output.old ++ spec.constraint_line places.now number constraint.now) }
 {
-    let position = places.position(place_of(constraint).from);
+    let position = places.position(place_of(constraint).from as usize);
     push_place(output, number, position.line, position.column)
 }
 

@@ -1,6 +1,6 @@
 //! From octets to tokens.
 
-ghost use Rattle.std.specs.Prelude.{[], ◌∷◌, ◌≡◌, ◌<◌, ◌-◌, ℕ, List, length, drop, get_or, option_map, Some, None, Ok, Err, IfOk, IfErr, MatchResult};
+ghost use Rattle.std.specs.Prelude.{[], ◌∷◌, ◌≡◌, ◌<◌, ◌≤◌, ◌-◌, ◌^◌, ℕ, List, length, drop, get_or, option_map, Some, None, Ok, Err, IfOk, IfErr, MatchResult};
 ghost use Rattle.std.specs.Str.{bytes_eq};
 ghost use Rattle.std.specs.Char.{is_ascii_digit, is_ascii_alphabetic};
 ghost use Rattle.fn_source.specs.Lexical as spec;
@@ -489,16 +489,18 @@ fn next(text: &[u8]) -> Lexeme<'_>
 
 /// The place of the octets of `from` up to `to`, which are left of the text.
 fn span_of(text: &[u8], from: &[u8], to: &[u8]) -> Span
+    requires { length text.now ≤ 2 ^ 20 }
     ensures { result ≡ spec.span_of (length text.now) from.now to.now }
 {
     Span {
-        from: text.len().saturating_sub(from.len()),
-        to: text.len().saturating_sub(to.len()),
+        from: text.len().saturating_sub(from.len()) as u32,
+        to: text.len().saturating_sub(to.len()) as u32,
     }
 }
 
 /// The tokens of the octets, or the fault at the first place where there is none.
 fn tokens_of(alloc: Global, text: &[u8]) -> Result<Vec<Token>, SourceError>
+    requires { length text.now ≤ 2 ^ 20 }
     ensures lexed { IfOk result (λ v. spec.Lexed text.now v.items) }
     ensures fault { IfErr result (spec.Refuses text.now) }
 {

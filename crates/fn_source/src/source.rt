@@ -48,7 +48,7 @@ impl<'a> Source<'a> {
         match str::from_utf8(octets) {
             Ok(content) => Ok(Source { content }),
             Err(error) => {
-                let from = error.valid_up_to();
+                let from = error.valid_up_to() as u32;
                 Err(Fault {
                     kind: FaultKind::NotUtf8,
                     at: Span { from, to: from + 1 },
@@ -87,7 +87,7 @@ impl<'a> Source<'a> {
         requires within { span.to ≤ length self.now }
         ensures { result.now ≡ slice_range self.now span.from span.to }
     {
-        &self.text().as_bytes()[span.from..span.to]
+        &self.text().as_bytes()[span.from as usize..span.to as usize]
     }
 
     /// The line and column of an octet of the text.

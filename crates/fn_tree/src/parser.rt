@@ -1,6 +1,6 @@
 //! A whole text.
 
-ghost use Rattle.std.specs.Prelude.{◌≡◌, List, length, IfOk, IfErr, MatchResult};
+ghost use Rattle.std.specs.Prelude.{◌≡◌, List, length, IfOk, IfErr, MatchResult, ◌<◌, ◌^◌};
 ghost use Rattle.fn_source.specs.declared.token.Token.{Token};
 ghost use Rattle.fn_tree.specs.declared.tree.File.{File};
 ghost use Rattle.fn_tree.specs.Limits.{Parsed};
@@ -15,11 +15,15 @@ use std::alloc::Global;
 
 /// The fault of a refusal, in the words of a text of so many octets.
 fn fault_of(len: usize, refusal: Refusal) -> Fault
+    requires { len < 2 ^ 32 }
     ensures { result ≡ refused.fault_of len refusal }
 {
     let at = match refusal.at {
         Place::At(at) => at,
-        Place::End => Span { from: len, to: len },
+        Place::End => Span {
+            from: len as u32,
+            to: len as u32,
+        },
     };
     Fault {
         kind: refusal.kind,

@@ -65,7 +65,7 @@ pub(crate) fn error_line(
 fn cause_line(alloc: Global, octets: &[u8], fault: &ProfileFault) -> Result<String, AllocError>
     ensures { IfOk result (λ text. string_bytes text ≡ cause_line octets.now fault.now) }
 {
-    let place = line_column(octets, fault.at.from);
+    let place = line_column(octets, fault.at.from as usize);
     let (line, column) = (place.line, place.column);
     let code = fault.kind.code();
     let words = fault_text(alloc, octets, fault)?;
@@ -76,7 +76,7 @@ fn cause_line(alloc: Global, octets: &[u8], fault: &ProfileFault) -> Result<Stri
 fn text_line(alloc: Global, octets: &[u8], fault: Fault) -> Result<String, AllocError>
     ensures { IfOk result (λ text. string_bytes text ≡ text_line octets.now fault) }
 {
-    let place = line_column(octets, fault.at.from);
+    let place = line_column(octets, fault.at.from as usize);
     let (line, column) = (place.line, place.column);
     let code = fault.kind.code();
     fault_line(alloc, line, column, code, kind_text(fault.kind))
