@@ -100,11 +100,19 @@ impl<'a> Row<'a> {
 }
 
 /// Distinct names in the order in which they came. A look-up takes the time of the name's length, however many there are.
-#[derive(Drop)]
 pub struct Words<'a> {
     /// The first of them, where they are shared with other tables.
     first: Option<Shared<Row<'a>>>,
     last: Row<'a>,
+}
+
+impl<'a> Drop for Words<'a> {
+    fn drop(self) {
+        let Words {
+            first: _first,
+            last: _last,
+        } = self;
+    }
 }
 
 impl<'a> Model for Words<'a> {

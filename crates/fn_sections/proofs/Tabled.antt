@@ -9,6 +9,7 @@ use Rattle.std.proofs.lemmas.List.Folds.{find-append, find_at}
 use Rattle.std.proofs.lemmas.Bool.{ltb-false}
 use Rattle.std.proofs.lemmas.Slice.Eq.{bytes_eq-Decides}
 use Rattle.fn_normal.specs.Words.{word, with_word}
+use Rattle.fn_normal.proofs.Tables.{any-position}
 use Rattle.fn_sections.specs.declared.mention.Mention.{Mention}
 use Rattle.fn_sections.specs.declared.table.Table.{Table}
 use Rattle.fn_sections.specs.Mentions.{first_of, firsts, names_of}
@@ -115,6 +116,14 @@ unchanged text mentions m old new is old_name words more =
           finds_first text new name same ∙ (ap (λ xs. first_of text xs name) more ∙ (sym (old_name_by text old.firsts m name (bytes_eq name (word text m.name)) refl found)
           ∙ (ap (λ o. option_or o (cond (bytes_eq name (word text m.name)) (Some m) None)) first ∙ sym (one_more text mentions m name))));
     }
+
+-- a name that is new is not found
+pub not_found : (table : Table) (name : List ℕ) → list_any (bytes_eq name) table.words ≡ false → None ≡ find_in table name
+not_found table name new = by (position (bytes_eq name) table.words) (any-position (bytes_eq name) table.words ∙ new)
+  where
+    by : (o : Option ℕ) → is_some o ≡ false → None ≡ option_and_then (slice_get table.firsts) o
+    by None e = refl
+    by (Some i) e = absurd cc
 
 pub put_new : (names : List (List ℕ)) (name : List ℕ) (added : Bool) → added ≡ not (list_any (bytes_eq name) names) → added ≡ true → (list_any (bytes_eq name) names ≡ false) × (with_word names name ≡ names ++ name ∷ [])
 put_new names name added is yes_added = by (list_any (bytes_eq name) names) (sym is ∙ yes_added)

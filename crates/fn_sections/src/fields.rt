@@ -96,7 +96,13 @@ fn encoding(
     ensures { result ≡ spec.encoding text.now (find_in base.now) (find_in own.now) (find_in default.now) field }
 {
     let name = word(text, field.name);
-    base.find(name).or(own.find(name)).or(default.find(name))
+    match base.find(name) {
+        Some(found) => Some(found),
+        None => match own.find(name) {
+            Some(found) => Some(found),
+            None => default.find(name),
+        },
+    }
 }
 
 fn find_all(

@@ -60,11 +60,10 @@ fn second_of_many(
 ) -> Result<Option<ProfileFault>, AllocError>
     ensures { IfOk result (spec.Answers (spec.IsSecond text.now mentions.now)) }
 {
-    let mut table = Table::new(alloc);
+    let mut table = Table::with_room(alloc, mentions.len())?;
     for mention in mentions {
-        match table.find(word(text, mention.name)) {
-            Some(first) => return Ok(Some(second_statement(first, *mention))),
-            None => table.insert(text, *mention)?,
+        if let Some(first) = table.first_or_insert(text, *mention)? {
+            return Ok(Some(second_statement(first, *mention)));
         }
     }
     Ok(None)

@@ -1,6 +1,7 @@
 //! Tables of mentions, asked by name.
 
 ghost use Rattle.std.specs.Prelude.{◌≡◌, ◌++◌, ◌∷◌, [], List, ℕ, IfOk, OnOk};
+ghost use Rattle.fn_normal.specs.Words.{word};
 ghost use Rattle.fn_sections.specs.Mentions as spec;
 ghost use Rattle.fn_sections.specs.Tables as tables;
 
@@ -35,9 +36,47 @@ impl<'a> Table<'a> {
         ensures { IfOk result (λ table. (text : List ℕ) → tables.IsTable text [] table) }
     {
         Ok(Table {
-            words: Words::new(alloc),
+            words: Words::with_room(alloc, count.min(ROOM))?,
             firsts: Items::from_vec(Vec::with_capacity(alloc, count.min(ROOM))?),
         })
+    }
+
+    /// The same table, whose names copies share from now on.
+    pub fn settled(self, alloc: Global) -> Result<Table<'a>, AllocError>
+        ensures { IfOk result (λ table. table ≡ self.entry) }
+    {
+        let Table { words, firsts } = self;
+        Ok(Table {
+            words: words.settled(alloc)?,
+            firsts,
+        })
+    }
+
+    /// The same table, with room for so many more mentions.
+    fn copy(&self, alloc: Global, count: usize) -> Result<Table<'a>, AllocError>
+        ensures { IfOk result (λ table. table ≡ self.now) }
+    {
+        let room = self.firsts.len().saturating_add(count.min(ROOM));
+        let mut firsts = Vec::with_capacity(alloc, room)?;
+        firsts.extend_from_slice(self.firsts.as_slice())?;
+        Ok(Table {
+            words: self.words.copy()?,
+            firsts: Items::from_vec(firsts),
+        })
+    }
+
+    /// The table of its mentions and of these.
+    pub fn with(
+        &self,
+        alloc: Global,
+        text: &'a [u8],
+        mentions: &[Mention],
+    ) -> Result<Table<'a>, AllocError>
+        ensures { IfOk result (λ table. (before : List Mention) → tables.IsTable text.now before self.now → tables.IsTable text.now (before ++ mentions.now) table) }
+    {
+        let mut table = self.copy(alloc, mentions.len())?;
+        table.insert_all(text, mentions)?;
+        Ok(table)
     }
 
     /// The first mention of the name.
@@ -61,6 +100,23 @@ impl<'a> Table<'a> {
             self.firsts.push(mention)?;
         }
         Ok(())
+    }
+
+    /// Adds a mention. The first one of its name, where there was one before.
+    pub(crate) fn first_or_insert(
+        &mut self,
+        text: &'a [u8],
+        mention: Mention,
+    ) -> Result<Option<Mention>, AllocError>
+        ensures found { IfOk result (λ found. found ≡ tables.find_in self.old (word text.now mention.name)) }
+        ensures table { OnOk result ((mentions : List Mention) → tables.IsTable text.now mentions self.old → tables.IsTable text.now (mentions ++ mention ∷ []) self.new) }
+    {
+        let name = word(text, mention.name);
+        if self.words.insert(name)? {
+            self.firsts.push(mention)?;
+            return Ok(None);
+        }
+        Ok(self.find(name))
     }
 
     /// Adds these mentions.
