@@ -254,12 +254,19 @@ fn numeral<'a>(text: &'a [u8], first: u8, rest: &'a [u8]) -> Lexeme<'a>
     }
 }
 
+/// Whether the octets are the same. A function of its own, so that nothing is made ready for it where it isn't called.
+fn is_same(word: &[u8], spelling: &[u8]) -> bool
+    ensures { result ≡ bytes_eq word.now spelling.now }
+{
+    word == spelling
+}
+
 /// Whether the word is so written. Most are not, and differ at their first octet.
 fn is_written(word: &[u8], spelling: &[u8]) -> bool
     ensures { result ≡ bytes_eq word.now spelling.now }
 {
     match spelling {
-        [first, ..] => is_next(*first, word) && word == spelling,
+        [first, ..] => is_next(*first, word) && is_same(word, spelling),
         [] => word.is_empty(),
     }
 }
