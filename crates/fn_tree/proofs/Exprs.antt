@@ -1,5 +1,5 @@
 -- How expressions are read, one step at a time.
-use Rattle.std.proofs.Common.{◌≡◌, ℕ, zero, suc, ◌+◌, ◌-◌, ◌<◌, ◌≤◌, max, Bool, if◌then◌else◌, nat_le, ◌&&◌, List, [], ◌∷◌, length, Option, Some, None, Ok, Err, true, false, refl, sym, ap, ◌∙◌, arith, inl}
+use Rattle.std.proofs.Common.{◌≡◌, ℕ, zero, suc, ◌+◌, ◌-◌, ◌<◌, ◌≤◌, max, Bool, if◌then◌else◌, nat_le, ◌&&◌, List, [], ◌∷◌, length, Option, Some, None, Ok, Err, true, false, refl, ap, ◌∙◌, arith, inl}
 use Rattle.std.proofs.lemmas.Bool.Decides.{nat_tests}
 use Rattle.fn_source.specs.declared.span.Span.{Span}
 use Rattle.fn_source.specs.declared.fault.FaultKind.TheVariants as f
@@ -275,12 +275,6 @@ module _ (r : Rules) where
       → operations r below (prim r depth) left ts ≡ Err refusal
   unfolding operations turn
   operations_err depth below left ts o refusal h read = unroll (advances depth below) left ts ∙ (rw (h, read) refl)
-
-  -- the same as the code has it
-  pub operations_fails : (depth below : ℕ) (left : Counted) (ts : List Token) (o : Operator) (error : ParseError) → operator (suc below) (kind_at ts) ≡ Some o
-      → Fails error (operation r (tiers r below (prim r depth)) left o ts) → Fails error (operations r below (prim r depth) left ts)
-  operations_fails depth below left ts o errors.Memory h read = tt
-  operations_fails depth below left ts o (errors.Refused refusal) h read = operations_err depth below left ts o refusal h read
 
   pub operation_shorter : (depth below : ℕ) (left : Counted) (ts : List Token) (o : Operator) (rest : List Token) (next : Counted) → operation r (tiers r below (prim r depth)) left o ts ≡ Ok (next, rest) → length rest < length ts
   operation_shorter depth below left ts o rest next read = (consumes_operation (local_expr depth below) left o).shorter next ts rest read
