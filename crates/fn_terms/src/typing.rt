@@ -128,6 +128,18 @@ pub fn number(alloc: Global, scope: &Scope<'_, '_>, part: &tree::Expr) -> Result
         tree::Expr::Negative(at, n) => Ok(within(alloc, scope, negative(*at, *n))?),
         tree::Expr::Name(at) => Ok(name(alloc, scope, *at)?),
         tree::Expr::Attribute(at, owner, which) => Ok(attribute(scope, *at, *owner, *which)?),
+        tree::Expr::Binary(at, operator, _, left, right) => match meaning_of(*operator) {
+            Meaning::Arithmetic(operator) => {
+                let left = Box::new(alloc, number(alloc, scope, left.get())?)?;
+                let right = Box::new(alloc, number(alloc, scope, right.get())?)?;
+                let expr = Expr::Binary(*at, operator, left, right);
+                Ok(within(alloc, scope, expr)?)
+            }
+            _ => {
+                let found = term(alloc, scope, part)?;
+                Ok(found.number()?)
+            }
+        },
         _ => {
             let found = term(alloc, scope, part)?;
             Ok(found.number()?)

@@ -48,3 +48,9 @@ number-returns-in_ok-within-in-Number-clause-means t c = rw (c.in-Number.is, c.i
 
 pub number-returns-in_ok-within-in-Negative-clause-means : goal.number-returns-in_ok-within-in-Negative-clause-means
 number-returns-in_ok-within-in-Negative-clause-means t c = rw (c.in-Negative.is, c.in_ok-within-in-Negative.ensures.same, c.negative.ensures) negative
+
+pub number-returns-in_ok-within-in-Arithmetic-clause-means : goal.number-returns-in_ok-within-in-Arithmetic-clause-means
+number-returns-in_ok-within-in-Arithmetic-clause-means t c =
+    rw (c.in-Binary.is, c.in_ok-within-in-Arithmetic.ensures.same) (arithmetic (sym c.in-Arithmetic.ensures)
+    (rw (c.get.ensures, sym c.in_ok-left-in-Arithmetic.ensures.ok) at c.in_ok-number-in-Arithmetic.ensures.means)
+    (rw (c.get-in-Arithmetic.ensures, sym c.in_ok-right-in-Arithmetic.ensures.ok) at c.in_ok-number-in-Arithmetic-2.ensures.means))
