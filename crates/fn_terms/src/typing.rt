@@ -135,16 +135,27 @@ pub fn number(alloc: Global, scope: &Scope<'_, '_>, part: &tree::Expr) -> Result
                 let expr = Expr::Binary(*at, operator, left, right);
                 Ok(within(alloc, scope, expr)?)
             }
-            _ => {
-                let found = term(alloc, scope, part)?;
-                Ok(found.number()?)
-            }
+            _ => number_of_term(alloc, scope, part),
         },
-        _ => {
-            let found = term(alloc, scope, part)?;
-            Ok(found.number()?)
-        }
+        _ => number_of_term(alloc, scope, part),
     }
+}
+
+/// The same by way of a term. A function of its own, so that no room is made ready for the term where there is none.
+#[cycle(terms)]
+#[inline(never)]
+fn number_of_term(
+    alloc: Global,
+    scope: &Scope<'_, '_>,
+    part: &tree::Expr,
+) -> Result<Expr, ResolveError>
+    ensures means { IfOk result (λ e. Means scope.now part.now (Term.Number e)) }
+    ensures judged { IfOk result (λ e. spec.judged scope.now part.now ≡ spec.found (Term.Number e)) }
+    ensures right { IfOk result (λ _. spec.fault_of Kind.Number scope.now part.now ≡ None) }
+    ensures refused { IfErr result (spec.Refuses (spec.fault_of Kind.Number scope.now part.now)) }
+{
+    let found = term(alloc, scope, part)?;
+    Ok(found.number()?)
 }
 
 /// The meaning of an expression where a truth is wanted.
