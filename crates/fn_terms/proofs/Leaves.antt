@@ -1,11 +1,11 @@
 -- The judgements of names and attributes.
-use Rattle.std.proofs.Common.{◌≡◌, ◌∙◌, ap, subst, true, false, Some, None, sym, IfOk, Result, Ok, Err}
-use Rattle.std.specs.Prelude.{IfErr, Option}
+use Rattle.std.proofs.Common.{◌≡◌, ◌∙◌, ap, subst, ℕ, true, false, Some, None, sym, IfOk, Result, Ok, Err}
+use Rattle.std.specs.Prelude.{IfErr, Option, pos, neg_ℤ}
 use Rattle.fn_source.specs.declared.span.Span.{Span}
 use Rattle.fn_tree.specs.declared.tree.Attribute.{Attribute as Word}
 use Rattle.fn_tree.specs.declared.tree.Owner.{Owner}
 use Rattle.fn_tree.specs.declared.tree.Expr.TheVariants as t
-use Rattle.fn_tree.specs.declared.tree.Expr.TheVariants.{rolls-Name, rolls-Attribute}
+use Rattle.fn_tree.specs.declared.tree.Expr.TheVariants.{rolls-Name, rolls-Attribute, rolls-Number, rolls-Negative}
 use Rattle.fn_tree.specs.declared.tree.Expr.TheFolds.{fold-roll-Expr}
 use Rattle.fn_tree.specs.declared.tree.Expr.TheOpen.{Expr-F}
 use Rattle.fn_expr.specs.declared.expr.Expr.{Expr}
@@ -60,3 +60,14 @@ attribute_refused s at owner which f has unknown = ap (λ (j : Judgement). j.fau
 
 pub no_attributes : (s : Names) (at : Span) (owner : Owner) (which : Word) → s.has_attributes ≡ false → (judged s (t.Attribute at owner which)).fault ≡ Some (wrong_kind at)
 no_attributes s at owner which has = ap (λ (j : Judgement). j.fault) (attribute_shape s at owner which) ∙ (λ i. if_allowed (has i) at (owner_fault s owner))
+
+-- what a literal stands for, whose range has no fault
+pub number_right : (s : Names) (at : Span) (n : ℕ) (e : Expr) → e ≡ expr.Number at (pos n) → range_fault s (range_of e) ≡ None → judged s (t.Number at n) ≡ found (Number e)
+number_right s at n e is fine =
+    let here : range_fault s (range_of (expr.Number at (pos n))) ≡ None = subst (λ x. range_fault s (range_of x) ≡ None) is fine in
+    (ap (judged s) (sym (rolls-Number at n)) ∙ fold-roll-Expr _ _ _) ∙ (λ i. record { kind = kinds.Number; place = at; fault = here i; range = range_of (expr.Number at (pos n)) }) ∙ ap (λ y. found (Number y)) (sym is)
+
+pub negative_right : (s : Names) (at : Span) (n : ℕ) (e : Expr) → e ≡ expr.Number at (neg_ℤ (pos n)) → range_fault s (range_of e) ≡ None → judged s (t.Negative at n) ≡ found (Number e)
+negative_right s at n e is fine =
+    let here : range_fault s (range_of (expr.Number at (neg_ℤ (pos n)))) ≡ None = subst (λ x. range_fault s (range_of x) ≡ None) is fine in
+    (ap (judged s) (sym (rolls-Negative at n)) ∙ fold-roll-Expr _ _ _) ∙ (λ i. record { kind = kinds.Number; place = at; fault = here i; range = range_of (expr.Number at (neg_ℤ (pos n))) }) ∙ ap (λ y. found (Number y)) (sym is)

@@ -115,6 +115,59 @@ fn attribute(
     ))
 }
 
+// What follows are functions of their own, so that none makes room ready for the values of another.
+
+#[inline(never)]
+fn positive_number(
+    alloc: Global,
+    scope: &Scope<'_, '_>,
+    at: Span,
+    n: u64,
+) -> Result<Expr, ResolveError>
+    ensures means { IfOk result (λ e. Means scope.now (t.Number at n) (Term.Number e)) }
+    ensures right { IfOk result (λ e. spec.judged scope.now (t.Number at n) ≡ spec.found (Term.Number e)) }
+    ensures refused { IfErr result (spec.Refuses (spec.judged scope.now (t.Number at n)).fault) }
+{
+    Ok(within(alloc, scope, positive(at, n))?)
+}
+
+#[inline(never)]
+fn negative_number(
+    alloc: Global,
+    scope: &Scope<'_, '_>,
+    at: Span,
+    n: u64,
+) -> Result<Expr, ResolveError>
+    ensures means { IfOk result (λ e. Means scope.now (t.Negative at n) (Term.Number e)) }
+    ensures right { IfOk result (λ e. spec.judged scope.now (t.Negative at n) ≡ spec.found (Term.Number e)) }
+    ensures refused { IfErr result (spec.Refuses (spec.judged scope.now (t.Negative at n)).fault) }
+{
+    Ok(within(alloc, scope, negative(at, n))?)
+}
+
+#[inline(never)]
+fn named_number(alloc: Global, scope: &Scope<'_, '_>, at: Span) -> Result<Expr, ResolveError>
+    ensures means { IfOk result (λ e. Means scope.now (t.Name at) (Term.Number e)) }
+    ensures right { IfOk result (λ e. spec.judged scope.now (t.Name at) ≡ spec.found (Term.Number e)) }
+    ensures refused { IfErr result (spec.Refuses (spec.judged scope.now (t.Name at)).fault) }
+{
+    Ok(name(alloc, scope, at)?)
+}
+
+#[inline(never)]
+fn own_number(
+    scope: &Scope<'_, '_>,
+    at: Span,
+    owner: tree::Owner,
+    which: tree::Attribute,
+) -> Result<Expr, ResolveError>
+    ensures means { IfOk result (λ e. Means scope.now (t.Attribute at owner which) (Term.Number e)) }
+    ensures right { IfOk result (λ e. spec.judged scope.now (t.Attribute at owner which) ≡ spec.found (Term.Number e)) }
+    ensures refused { IfErr result (spec.Refuses (spec.judged scope.now (t.Attribute at owner which)).fault) }
+{
+    Ok(attribute(scope, at, owner, which)?)
+}
+
 /// The meaning of an expression where a whole number is wanted. What is one by itself is read without a term around it.
 #[cycle(terms)]
 pub fn number(alloc: Global, scope: &Scope<'_, '_>, part: &tree::Expr) -> Result<Expr, ResolveError>
@@ -124,10 +177,10 @@ pub fn number(alloc: Global, scope: &Scope<'_, '_>, part: &tree::Expr) -> Result
     ensures refused { IfErr result (spec.Refuses (spec.fault_of Kind.Number scope.now part.now)) }
 {
     match part {
-        tree::Expr::Number(at, n) => Ok(within(alloc, scope, positive(*at, *n))?),
-        tree::Expr::Negative(at, n) => Ok(within(alloc, scope, negative(*at, *n))?),
-        tree::Expr::Name(at) => Ok(name(alloc, scope, *at)?),
-        tree::Expr::Attribute(at, owner, which) => Ok(attribute(scope, *at, *owner, *which)?),
+        tree::Expr::Number(at, n) => positive_number(alloc, scope, *at, *n),
+        tree::Expr::Negative(at, n) => negative_number(alloc, scope, *at, *n),
+        tree::Expr::Name(at) => named_number(alloc, scope, *at),
+        tree::Expr::Attribute(at, owner, which) => own_number(scope, *at, *owner, *which),
         tree::Expr::Binary(at, operator, _, left, right) => match meaning_of(*operator) {
             Meaning::Arithmetic(operator) => {
                 let left = Box::new(alloc, number(alloc, scope, left.get())?)?;

@@ -43,12 +43,6 @@ term-returns-in_ok-right-in-Or-clause-means t c =
     (rw (c.get-in-Or.ensures, sym c.in_ok-left-in-Or.ensures.ok) at c.in_ok-condition-in-Or.ensures.means)
     (rw (c.get-in-Or-2.ensures, sym c.in_ok-right-in-Or.ensures.ok) at c.in_ok-condition-in-Or-2.ensures.means))
 
-pub number-returns-in_ok-within-in-Number-clause-means : goal.number-returns-in_ok-within-in-Number-clause-means
-number-returns-in_ok-within-in-Number-clause-means t c = rw (c.in-Number.is, c.in_ok-within-in-Number.ensures.same, c.positive.ensures) number
-
-pub number-returns-in_ok-within-in-Negative-clause-means : goal.number-returns-in_ok-within-in-Negative-clause-means
-number-returns-in_ok-within-in-Negative-clause-means t c = rw (c.in-Negative.is, c.in_ok-within-in-Negative.ensures.same, c.negative.ensures) negative
-
 pub number-returns-in_ok-within-in-Arithmetic-clause-means : goal.number-returns-in_ok-within-in-Arithmetic-clause-means
 number-returns-in_ok-within-in-Arithmetic-clause-means t c =
     rw (c.in-Binary.is, c.in_ok-within-in-Arithmetic.ensures.same) (arithmetic (sym c.in-Arithmetic.ensures)
