@@ -4,4 +4,3 @@ pub mod Wording
 pub mod Staying
 pub mod Keeping
 pub mod Hiding
-pub mod Joining
