@@ -131,7 +131,7 @@ module _ (l : Reached) (i : ℕ) (kept : IsKept l) (ready : IsReadyToWrite l (op
       short =
           let places = before i (header_places 0 l.format.fields) in
           let same = where_measured (are_measured l.slots Uncompressed places) (length (joined_bits l.slots Uncompressed places)) offset (sym joined ∙ some_offset) in
-          let less = offset_short l.format l.sizes (header_places 0 l.format.fields) l.slots (known_of l.format l.slots l.args) record { kept = kept; headers_are = refl; known_is = refl } Uncompressed i in
+          let less = offset_short l.format l.sizes l.args l.slots kept Uncompressed i in
           omega (arith, same, less)
 
       -- ---- what is taken
