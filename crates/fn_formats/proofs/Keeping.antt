@@ -116,7 +116,7 @@ pub kept_in_format : (x : Setting) (own : List Mention) (kept : Kept) → HasKep
 kept_in_format x own kept has =
     let begin = names_begin x.text.now x.sections.now own in
     subst (λ fields. AreKept (names x.text.now x.constants.now x.values.now x.parameters.now fields) x.methods.now x.sections.now kept) (sym begin.1)
-    (all_stay (base_scope x) begin.0 x.methods.now x.sections.now kept has)
+    (all_stay (base_scope x) begin.0 x.methods.now x.sections.now kept has.statements)
 
 -- the scope that the code makes of a table of fields
 scope_is : (x : Setting) (s : Names) (own : List Mention) (fields : Table) → s ≡ names x.text.now x.constants.now x.values.now x.parameters.now fields.words
@@ -130,8 +130,14 @@ pub kept_in_scope : (x : Setting) (s : Names) (own : List Mention) (fields : Tab
 kept_in_scope x s own fields kept is table has =
     subst (λ z. AreKept z x.methods.now x.sections.now kept) (sym (scope_is x s own fields is table)) (kept_in_format x own kept has)
 
+-- the fields of a format, by the table of those of UNCOMPRESSED and CONTROL
+pub of_own : (x : Setting) (own : List Mention) (kept : Kept) (table : Table) → HasKept x kept
+    → ((before : List Mention) → IsTable x.text.now before kept.table → IsTable x.text.now (before ++ own) table) → IsTable x.text.now (in_field_order x.text.now x.sections.now own) table
+of_own x own kept table has grows =
+    subst (λ before. IsTable x.text.now (before ++ own) table) (append-nil (base_fields x.text.now x.sections.now)) (grows (in_field_order x.text.now x.sections.now []) has.table)
+
 pub kept_of_base : (x : Setting) (s : Names) (fields : Table) (kept : Kept) → s ≡ names x.text.now x.constants.now x.values.now x.parameters.now fields.words
-    → IsTable x.text.now (in_field_order x.text.now x.sections.now []) fields → AreKept s x.methods.now x.sections.now kept → HasKept x kept
+    → IsTable x.text.now (in_field_order x.text.now x.sections.now []) fields → AreKept s x.methods.now x.sections.now kept → AreKept (base_scope x) x.methods.now x.sections.now kept
 kept_of_base x s fields kept is table has = subst (λ z. AreKept z x.methods.now x.sections.now kept) (scope_is x s [] fields is table) has
 
 -- ---- what is looked up

@@ -4,3 +4,4 @@ pub mod Wording
 pub mod Staying
 pub mod Keeping
 pub mod Hiding
+pub mod Joining

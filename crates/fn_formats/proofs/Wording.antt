@@ -19,7 +19,7 @@ one_of P [] i d h lt = absurd (omega arith)
 one_of P (x ∷ xs) zero d h lt = h.0
 one_of P (x ∷ xs) (suc i) d h lt = one_of P xs i d h.1 (omega arith)
 
-all_joined : {X : Type 0} (P : X → Type 0) (xs ys : List X) → AllByRecursion P xs → AllByRecursion P ys → AllByRecursion P (xs ++ ys)
+pub all_joined : {X : Type 0} (P : X → Type 0) (xs ys : List X) → AllByRecursion P xs → AllByRecursion P ys → AllByRecursion P (xs ++ ys)
 all_joined P [] ys h k = k
 all_joined P (x ∷ xs) ys h k = (h.0, all_joined P xs ys h.1 k)
 

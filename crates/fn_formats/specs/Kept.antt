@@ -1,6 +1,6 @@
 -- What UNCOMPRESSED and CONTROL say, kept once for all formats of a method.
 use Rattle.std.specs.Prelude.{◌≡◌, ℕ, Bool, true, List, [], Option, Some, None, is_some, slice_get}
-use Rattle.std.specs.List.{AllZip}
+use Rattle.std.specs.List.{AllZip, AllByRecursion}
 use Rattle.std.specs.Option.{option_and_then}
 use Rattle.std.specs.Prelude.{IfSome}
 use Rattle.fn_tree.specs.declared.tree.Encoding.{Encoding as TreeEncoding}
@@ -10,8 +10,11 @@ use Rattle.fn_tree.specs.declared.tree.Section.{Section}
 use Rattle.fn_expr.specs.declared.expr.Side.TheVariants.{Uncompressed}
 use Rattle.fn_normal.specs.declared.profile.Constraint.{Constraint}
 use Rattle.fn_normal.specs.declared.profile.Encoding.{Encoding}
+use Rattle.fn_normal.specs.declared.profile.Encoding.TheVariants.{Bare}
+use Rattle.fn_normal.specs.Words.{word}
 use Rattle.fn_sections.specs.declared.mention.Mention.{Mention}
 use Rattle.fn_sections.specs.Fields.{in_field_order, encoding_of}
+use Rattle.fn_sections.specs.Tables.{IsTable}
 use Rattle.fn_sections.specs.Mentions.{firsts, names_of}
 use Rattle.fn_terms.specs.Names.{Names, names, field_of}
 use Rattle.fn_statements.specs.declared.callee.Methods.{Methods}
@@ -20,6 +23,8 @@ use Rattle.fn_statements.specs.Encodings.{Means, fault_of}
 use Rattle.fn_formats.specs.declared.drafts.Setting.{Setting}
 use Rattle.fn_formats.specs.declared.kept.Kept.{Kept}
 use Rattle.fn_formats.specs.declared.kept.KeptStatement.{KeptStatement}
+use Rattle.fn_formats.specs.declared.kept.KeptField.{KeptField}
+use Rattle.fn_formats.specs.Fields.{declared, initial_of}
 use Rattle.fn_formats.specs.Encodings.{FieldMeans, field_fault}
 
 -- ---- one statement
@@ -63,8 +68,22 @@ AreKept s methods sections kept = AllZip (SectionIsKept s methods) sections kept
 abbrev pub base_scope : Setting → Names
 base_scope x = names x.text.now x.constants.now x.values.now x.parameters.now (names_of x.text.now (firsts x.text.now (in_field_order x.text.now x.sections.now [])))
 
-abbrev pub HasKept : Setting → Kept → Type 0
-HasKept x kept = AreKept (base_scope x) x.methods.now x.sections.now kept
+-- ---- fields
+
+-- the field of a mention, but for its encoding
+abbrev pub kept_field : Setting → Mention → KeptField
+kept_field x m = record { mention = m; declared = declared x m; initial = initial_of x.initial_names.now x.initial_values.now (word x.text.now m.name) }
+
+abbrev pub IsKeptField : Setting → KeptField → Type 0
+IsKeptField x k = k ≡ kept_field x k.mention
+
+-- ---- the whole
+
+pub record HasKept (x : Setting) (kept : Kept) : Type 0 where
+  pub statements : AreKept (base_scope x) x.methods.now x.sections.now kept
+  pub table : IsTable x.text.now (in_field_order x.text.now x.sections.now []) kept.table
+  pub fields : AllByRecursion (IsKeptField x) kept.fields
+  pub bare : kept.bare ≡ Bare
 
 -- ---- what is looked up
 

@@ -29,7 +29,7 @@ pub(crate) fn format_constraints(
     alloc: Global,
     scope: &Scope<'_, '_>,
     sections: &[Section],
-    kept: &Kept,
+    kept: &Kept<'_>,
     chosen: &[Option<Mention>],
     own: &[Item],
 ) -> Result<Constraints, AllocError>
@@ -83,7 +83,7 @@ fn add_items(
 fn add_group(
     alloc: Global,
     scope: &Scope<'_, '_>,
-    kept: &Kept,
+    kept: &Kept<'_>,
     group: Group,
     sections: &[Section],
     all: &mut Constraints,
@@ -103,7 +103,7 @@ fn add_group(
 fn add_base(
     alloc: Global,
     scope: &Scope<'_, '_>,
-    kept: &Kept,
+    kept: &Kept<'_>,
     section: usize,
     items: &[Item],
     all: &mut Constraints,
@@ -120,7 +120,7 @@ fn add_base(
 fn add_kept(
     alloc: Global,
     scope: &Scope<'_, '_>,
-    kept: &Kept,
+    kept: &Kept<'_>,
     section: usize,
     place: usize,
     item: &Item,

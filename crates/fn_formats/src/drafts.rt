@@ -1,6 +1,7 @@
 //! The parts of a format.
 
 ghost use Rattle.std.specs.Prelude.{◌≡◌, Some, IfOk, slice_get};
+ghost use Rattle.fn_sections.specs.Fields.{in_field_order};
 ghost use Rattle.fn_sections.specs.Tables.{IsTable};
 ghost use Rattle.fn_formats.specs.Drafts as spec;
 ghost use Rattle.fn_formats.specs.Kept.{HasKept};
@@ -10,7 +11,7 @@ use crate::encodings::format_encodings;
 use crate::kept::Kept;
 use fn_bits::Bits;
 use fn_normal::{Constraint, Encoding, ProfileFault, Shared, Words, earlier};
-use fn_sections::{Mention, Table, encoded, encodings, in_order, listing, of_section};
+use fn_sections::{Mention, Table, encoded, encodings, listing, of_section};
 use fn_statements::Methods;
 use fn_terms::Scope;
 use fn_tree::Section;
@@ -51,7 +52,7 @@ pub struct Draft<'t> {
 pub(crate) fn draft_format<'t>(
     alloc: Global,
     setting: &Setting<'_, 't>,
-    kept: &Kept,
+    kept: &Kept<'t>,
     number: usize,
     section: &Section,
 ) -> Result<Draft<'t>, AllocError>
@@ -62,7 +63,7 @@ pub(crate) fn draft_format<'t>(
 {
     let text = setting.text;
     let own = of_section(alloc, text, number, section)?;
-    let fields = in_order(alloc, text, setting.sections, own.as_slice())?;
+    let fields = format_fields(alloc, setting, kept, own.as_slice())?;
     let listing = listing(alloc, text, &fields, own.as_slice())?;
     let chosen = choices(alloc, setting, own.as_slice(), fields.firsts.as_slice())?;
     let scope = Scope::new(
@@ -99,6 +100,19 @@ pub(crate) fn draft_format<'t>(
         constraints: constraints.found,
         fault,
     })
+}
+
+/// The fields of a format that gives these mentions.
+fn format_fields<'t>(
+    alloc: Global,
+    setting: &Setting<'_, 't>,
+    kept: &Kept<'t>,
+    own: &[Mention],
+) -> Result<Table<'t>, AllocError>
+    requires { HasKept setting.now kept.now }
+    ensures { IfOk result (IsTable setting.now.text.now (in_field_order setting.now.text.now setting.now.sections.now own.now)) }
+{
+    kept.table.with(alloc, setting.text, own)
 }
 
 /// For each field the statement that encodes it. The section's own mentions are given.

@@ -34,13 +34,14 @@ pub(crate) fn format_encodings(
     scope: &Scope<'_, '_>,
     methods: &Methods<'_>,
     sections: &[Section],
-    kept: &Kept,
+    kept: &Kept<'_>,
     chosen: &[Option<Mention>],
     number: usize,
     listing: &[usize],
     items: &[Item],
 ) -> Result<Encodings, AllocError>
     requires given { AreGiven scope.now methods.now kept.now sections.now }
+    requires bare { kept.now.bare ≡ Encoding.Bare }
     requires own { spec.items_at sections.now number ≡ Some items.now }
     ensures fault { IfOk result (λ e. e.fault ≡ spec.format_fault scope.now methods.now sections.now chosen.now items.now) }
     ensures found { IfOk result (λ e. e.fault ≡ None → AllZip (spec.FieldMeans scope.now methods.now sections.now) chosen.now e.found) }
@@ -60,14 +61,15 @@ fn field_encodings(
     scope: &Scope<'_, '_>,
     methods: &Methods<'_>,
     sections: &[Section],
-    kept: &Kept,
+    kept: &Kept<'_>,
     chosen: &[Option<Mention>],
 ) -> Result<Encodings, AllocError>
-    requires { AreGiven scope.now methods.now kept.now sections.now }
+    requires given { AreGiven scope.now methods.now kept.now sections.now }
+    requires bare { kept.now.bare ≡ Encoding.Bare }
     ensures fault { IfOk result (λ e. e.fault ≡ earliest (spec.field_fault scope.now methods.now sections.now) chosen.now) }
     ensures found { IfOk result (λ e. e.fault ≡ None → AllZip (spec.FieldMeans scope.now methods.now sections.now) chosen.now e.found) }
 {
-    let mut found = Items::new(alloc);
+    let mut found = Items::from_vec(Vec::with_capacity(alloc, chosen.len())?);
     let mut fault = None;
     for choice in chosen {
         match field_encoding(alloc, scope, methods, sections, kept, choice) {
@@ -84,18 +86,20 @@ fn field_encoding(
     scope: &Scope<'_, '_>,
     methods: &Methods<'_>,
     sections: &[Section],
-    kept: &Kept,
+    kept: &Kept<'_>,
     choice: &Option<Mention>,
 ) -> Result<Shared<Encoding>, ResolveError>
-    requires { AreGiven scope.now methods.now kept.now sections.now }
+    requires given { AreGiven scope.now methods.now kept.now sections.now }
+    requires bare { kept.now.bare ≡ Encoding.Bare }
     ensures means { IfOk result (spec.FieldMeans scope.now methods.now sections.now choice.now) }
     ensures right { IfOk result (λ _. spec.field_fault scope.now methods.now sections.now choice.now ≡ None) }
     ensures refused { IfErr result (Refuses (spec.field_fault scope.now methods.now sections.now choice.now)) }
 {
-    if let Some(mention) = choice {
-        if let Some(encoding) = kept.encoding(*mention) {
-            return Ok(encoding.share()?);
-        }
+    let Some(mention) = choice else {
+        return Ok(kept.bare.share()?);
+    };
+    if let Some(encoding) = kept.encoding(*mention) {
+        return Ok(encoding.share()?);
     }
     let encoding = resolved_encoding(alloc, scope, methods, sections, choice)?;
     Ok(Shared::new(alloc, encoding)?)

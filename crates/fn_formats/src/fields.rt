@@ -1,46 +1,119 @@
 //! The fields of a format.
 
-ghost use Rattle.std.specs.Prelude.{◌≡◌, IfOk, get_or, drop, reverse, slice_get};
+ghost use Rattle.std.specs.Prelude.{◌≡◌, IfOk, IfSome, get_or, slice_get};
+ghost use Rattle.std.specs.List.{AllByRecursion};
+ghost use Rattle.fn_normal.specs.Words.{word as words};
 ghost use Rattle.fn_formats.specs.Fields as spec;
+ghost use Rattle.fn_formats.specs.Kept as keeping;
 ghost use Rattle.fn_formats.specs.Worded.{IsNamed, AreMentionsWorded};
 
 use crate::drafts::Setting;
+use crate::kept::KeptField;
 use fn_bits::Bits;
-use fn_normal::{Declared, Encoding, Field, Name, Part, Shared, Words, reversed, word};
+use fn_normal::{Declared, Encoding, Field, Name, Part, Shared, Words, word};
 use fn_sections::Mention;
 use fn_tree::{Section, SectionKind};
 use sqlite_items::Items;
 use std::alloc::{AllocError, Global};
+use std::str::from_utf8;
 
-/// The fields of a format with their encodings, in field order.
-pub(crate) fn joined_fields(
+/// What is kept of these fields, up to the first without a name.
+pub(crate) fn kept_fields(
     alloc: Global,
     setting: &Setting<'_, '_>,
     mentions: &[Mention],
-    encodings: Items<Shared<Encoding>>,
-) -> Result<Items<Field>, AllocError>
-    requires { AreMentionsWorded setting.now.text.now mentions.now }
-    ensures { IfOk result (λ all. all ≡ spec.joined setting.now mentions.now encodings) }
+) -> Result<Items<KeptField>, AllocError>
+    ensures { IfOk result (λ all. AllByRecursion (keeping.IsKeptField setting.now) all) }
 {
-    let mut left = reversed(alloc, encodings)?;
-    let mut all = Items::new(alloc);
+    let mut all = Items::from_vec(Vec::with_capacity(alloc, mentions.len())?);
     for mention in mentions {
-        let encoding = take_next(alloc, &mut left)?;
-        all.push(field(alloc, setting, *mention, encoding)?)?;
+        match kept_field(alloc, setting, *mention)? {
+            Some(field) => all.push(field)?,
+            None => return Ok(all),
+        }
     }
     Ok(all)
 }
 
-/// The first of the encodings that are left, which stand backwards.
-fn take_next(
+fn kept_field(
     alloc: Global,
-    left: &mut Items<Shared<Encoding>>,
-) -> Result<Shared<Encoding>, AllocError>
-    ensures first { IfOk result (λ e. e ≡ get_or (reverse left.old) 0 Encoding.Bare) }
-    ensures rest { reverse left.new ≡ drop 1 (reverse left.old) }
+    setting: &Setting<'_, '_>,
+    mention: Mention,
+) -> Result<Option<KeptField>, AllocError>
+    ensures { IfOk result (λ found. IfSome found (keeping.IsKeptField setting.now)) }
 {
-    match left.pop() {
-        Some(encoding) => Ok(encoding),
+    match name_of(alloc, word(setting.text, mention.name))? {
+        Some(name) => {
+            let field = field_of(alloc, setting, mention, name)?;
+            Ok(Some(field))
+        }
+        None => Ok(None),
+    }
+}
+
+/// The name of these octets, if they are one.
+fn name_of(alloc: Global, octets: &[u8]) -> Result<Option<Name>, AllocError>
+    ensures { IfOk result (λ found. IfSome found (λ name. name ≡ octets.now)) }
+{
+    match from_utf8(octets) {
+        Ok(text) => Name::new(alloc, text),
+        Err(_) => Ok(None),
+    }
+}
+
+/// The field of a mention, but for its encoding. Its name is given.
+fn field_of(
+    alloc: Global,
+    setting: &Setting<'_, '_>,
+    mention: Mention,
+    name: Name,
+) -> Result<KeptField, AllocError>
+    requires { name ≡ words setting.now.text.now mention.name }
+    ensures { IfOk result (λ field. field ≡ keeping.kept_field setting.now mention) }
+{
+    let octets = word(setting.text, mention.name);
+    let initial = initial_of(alloc, setting.initial_names, setting.initial_values, octets)?;
+    Ok(KeptField {
+        mention,
+        declared: Declared {
+            name,
+            part: part(setting.sections, mention),
+            asked: is_one_of(setting.asked, octets),
+        },
+        initial,
+    })
+}
+
+/// The fields of a format with their encodings, in field order. What is kept of a field is shared.
+pub(crate) fn joined_fields(
+    alloc: Global,
+    setting: &Setting<'_, '_>,
+    kept: &[KeptField],
+    mentions: &[Mention],
+    encodings: &[Shared<Encoding>],
+) -> Result<Items<Field>, AllocError>
+    requires worded { AreMentionsWorded setting.now.text.now mentions.now }
+    requires kept { AllByRecursion (keeping.IsKeptField setting.now) kept.now }
+    ensures { IfOk result (λ all. all ≡ spec.joined setting.now mentions.now encodings.now) }
+{
+    let mut all = Items::from_vec(Vec::with_capacity(alloc, mentions.len())?);
+    for (place, mention) in mentions.iter().enumerate() {
+        let encoding = encoding_at(alloc, encodings, place)?;
+        all.push(field(alloc, setting, kept, place, *mention, encoding)?)?;
+    }
+    Ok(all)
+}
+
+/// The encoding at a place.
+fn encoding_at(
+    alloc: Global,
+    encodings: &[Shared<Encoding>],
+    place: usize,
+) -> Result<Shared<Encoding>, AllocError>
+    ensures { IfOk result (λ e. e ≡ get_or encodings.now place Encoding.Bare) }
+{
+    match encodings.get(place) {
+        Some(encoding) => encoding.share(),
         None => Shared::new(alloc, Encoding::Bare),
     }
 }
@@ -48,23 +121,70 @@ fn take_next(
 fn field(
     alloc: Global,
     setting: &Setting<'_, '_>,
+    kept: &[KeptField],
+    place: usize,
     mention: Mention,
     encoding: Shared<Encoding>,
 ) -> Result<Field, AllocError>
-    requires { IsNamed setting.now.text.now mention.name }
+    requires worded { IsNamed setting.now.text.now mention.name }
+    requires kept { AllByRecursion (keeping.IsKeptField setting.now) kept.now }
     ensures { IfOk result (λ f. f ≡ spec.field setting.now mention encoding) }
 {
-    let name = word(setting.text, mention.name);
-    let initial = initial_of(alloc, setting.initial_names, setting.initial_values, name)?;
+    let KeptField {
+        mention: _,
+        declared,
+        initial,
+    } = known_field(alloc, setting, kept, place, mention)?;
     Ok(Field {
-        declared: Declared {
-            name: Name::of_octets(alloc, name)?,
-            part: part(setting.sections, mention),
-            asked: is_one_of(setting.asked, name),
-        },
+        declared,
         encoding,
         initial,
     })
+}
+
+/// The field of a mention, which may be kept at this place.
+fn known_field(
+    alloc: Global,
+    setting: &Setting<'_, '_>,
+    kept: &[KeptField],
+    place: usize,
+    mention: Mention,
+) -> Result<KeptField, AllocError>
+    requires worded { IsNamed setting.now.text.now mention.name }
+    requires kept { AllByRecursion (keeping.IsKeptField setting.now) kept.now }
+    ensures { IfOk result (λ field. field ≡ keeping.kept_field setting.now mention) }
+{
+    if let Some(field) = kept.get(place) {
+        if field.mention == mention {
+            return shared_field(alloc, field);
+        }
+    }
+    let name = Name::of_octets(alloc, word(setting.text, mention.name))?;
+    field_of(alloc, setting, mention, name)
+}
+
+/// The same field, whose name is shared.
+fn shared_field(alloc: Global, field: &KeptField) -> Result<KeptField, AllocError>
+    ensures { IfOk result (λ same. same ≡ field.now) }
+{
+    Ok(KeptField {
+        mention: field.mention,
+        declared: Declared {
+            name: field.declared.name.share()?,
+            part: field.declared.part,
+            asked: field.declared.asked,
+        },
+        initial: copied_bits(alloc, &field.initial)?,
+    })
+}
+
+fn copied_bits(alloc: Global, bits: &Option<Bits>) -> Result<Option<Bits>, AllocError>
+    ensures { IfOk result (λ same. same ≡ bits.now) }
+{
+    match bits {
+        Some(bits) => Ok(Some(bits.copy(alloc)?)),
+        None => Ok(None),
+    }
 }
 
 /// The bits that INITIAL gives the name.

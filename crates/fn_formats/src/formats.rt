@@ -25,10 +25,10 @@ pub struct Resolved {
 }
 
 /// The format of a COMPRESSED section, which is the method's section of this number. It shares what is kept of UNCOMPRESSED and CONTROL.
-pub fn section_format(
+pub fn section_format<'t>(
     alloc: Global,
-    setting: &Setting<'_, '_>,
-    kept: &Kept,
+    setting: &Setting<'_, 't>,
+    kept: &Kept<'t>,
     number: usize,
     section: &Section,
 ) -> Result<Resolved, AllocError>
@@ -40,8 +40,13 @@ pub fn section_format(
 {
     let draft = draft_format(alloc, setting, kept, number, section)?;
     let name = format_name(alloc, setting.text, section.kind)?;
-    let encodings = draft.encodings;
-    let fields = joined_fields(alloc, setting, draft.fields.firsts.as_slice(), encodings)?;
+    let fields = joined_fields(
+        alloc,
+        setting,
+        kept.fields.as_slice(),
+        draft.fields.firsts.as_slice(),
+        draft.encodings.as_slice(),
+    )?;
     Ok(Resolved {
         format: Format {
             name,

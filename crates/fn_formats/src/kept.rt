@@ -7,10 +7,12 @@ ghost use Rattle.fn_statements.specs.Encodings as encodings;
 ghost use Rattle.fn_formats.specs.Kept as spec;
 
 use crate::drafts::Setting;
+use crate::fields::kept_fields;
+use fn_bits::Bits;
 use fn_expr::Side;
-use fn_normal::{Constraint, Encoding, Shared, fault_of};
+use fn_normal::{Constraint, Declared, Encoding, Shared, fault_of};
 use fn_sections::mention::is_in;
-use fn_sections::{Group, Mention, in_order};
+use fn_sections::{Group, Mention, Table, in_order};
 use fn_statements::{Methods, encoding, item_constraints};
 use fn_terms::Scope;
 use fn_tree::{Bound, Item, Section};
@@ -24,13 +26,28 @@ pub struct KeptStatement {
     pub encoding: Option<Shared<Encoding>>,
 }
 
-/// The statements of a method's sections in their order; none of a section other than UNCOMPRESSED and CONTROL.
+/// A field that a mention gives, but for its encoding.
 #[derive(Drop)]
-pub struct Kept {
-    pub sections: Items<Items<KeptStatement>>,
+pub struct KeptField {
+    pub mention: Mention,
+    pub declared: Declared,
+    pub initial: Option<Bits>,
 }
 
-impl Kept {
+/// What all formats of a method have in common.
+#[derive(Drop)]
+pub struct Kept<'t> {
+    /// The statements of the method's sections in their order; none of a section other than UNCOMPRESSED and CONTROL.
+    pub sections: Items<Items<KeptStatement>>,
+    /// The table of the header and control fields.
+    pub table: Table<'t>,
+    /// These fields in their order, as far as they are kept.
+    pub fields: Items<KeptField>,
+    /// The encoding of a field that no statement encodes.
+    pub bare: Shared<Encoding>,
+}
+
+impl<'t> Kept<'t> {
     /// The constraints that are kept of a statement, by the numbers of its section and its place there.
     pub(crate) fn constraints(
         &self,
@@ -61,19 +78,27 @@ impl Kept {
 }
 
 /// What the statements of UNCOMPRESSED and CONTROL say in each format of the method of this setting, as far as they name no local field.
-pub fn kept_statements(alloc: Global, setting: &Setting<'_, '_>) -> Result<Kept, AllocError>
+pub fn kept_statements<'t>(alloc: Global, setting: &Setting<'_, 't>) -> Result<Kept<'t>, AllocError>
     ensures { IfOk result (spec.HasKept setting.now) }
 {
-    let fields = in_order(alloc, setting.text, setting.sections, &[])?;
+    let found = in_order(alloc, setting.text, setting.sections, &[])?;
+    let table = found.settled(alloc)?;
     let scope = Scope::new(
         setting.text,
         setting.constants,
         setting.values,
         setting.parameters,
-        &fields.words,
+        &table.words,
     );
     let sections = kept_sections(alloc, &scope, setting.methods, setting.sections)?;
-    Ok(Kept { sections })
+    let fields = kept_fields(alloc, setting, table.firsts.as_slice())?;
+    let bare = Shared::new(alloc, Encoding::Bare)?;
+    Ok(Kept {
+        sections,
+        table,
+        fields,
+        bare,
+    })
 }
 
 fn kept_sections(

@@ -18,3 +18,6 @@ format_constraints-requires c =
     let x = c.args.setting.now in
     are_said c.new-scope.result x.methods.now x.sections.now c.args.kept.now
     (kept_in_scope x c.new-scope.result _ c.in_ok-fields.fields c.args.kept.now c.new-scope.ensures c.in_ok-fields.ensures c.requires.kept)
+
+pub format_encodings-requires-clause-bare : goal.format_encodings-requires-clause-bare
+format_encodings-requires-clause-bare c = c.requires.kept.bare

@@ -7,7 +7,7 @@ use Rattle.fn_formats.proofs.encodings.field_encodings.Goals.{in-Ok+in_ok-push-i
 use Rattle.fn_formats.proofs.encodings.field_encodings.Goals as goal
 
 pub loop-choice-init : goal.loop-choice-init
-loop-choice-init c = rw c.new-found.ensures nothing_yet
+loop-choice-init c = rw (c.from_vec-found.ensures, c.in_ok-with_capacity.ensures.items) nothing_yet
 
 pub loop-choice-preserved : goal.loop-choice-preserved
 loop-choice-preserved c =

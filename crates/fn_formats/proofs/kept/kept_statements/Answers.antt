@@ -1,5 +1,18 @@
+use Rattle.std.proofs.Common.{subst, sym, []}
+use Rattle.fn_sections.specs.Fields.{in_field_order}
+use Rattle.fn_sections.specs.Tables.{IsTable}
+use Rattle.fn_formats.specs.declared.kept.Kept.{Kept}
 use Rattle.fn_formats.proofs.Keeping.{kept_of_base}
 use Rattle.fn_formats.proofs.kept.kept_statements.Goals as goal
 
 pub returns : goal.returns
-returns c = kept_of_base c.args.setting.now c.new-scope.result c.in_ok-fields.fields _ c.new-scope.ensures c.in_ok-fields.ensures c.in_ok-sections.ensures
+returns c =
+    let x = c.args.setting.now in
+    let table = subst (IsTable x.text.now (in_field_order x.text.now x.sections.now [])) (sym c.in_ok-table.ensures) c.in_ok-found.ensures in
+    let kept : Kept = record { sections = c.in_ok-sections.sections; table = c.in_ok-table.table; fields = c.in_ok-fields.fields; bare = c.in_ok-bare.bare } in
+    record {
+      statements = kept_of_base x c.new-scope.result c.in_ok-table.table kept c.new-scope.ensures table c.in_ok-sections.ensures;
+      table = table;
+      fields = c.in_ok-fields.ensures;
+      bare = c.in_ok-bare.ensures;
+    }
