@@ -7,8 +7,8 @@ use fn_normal::Words;
 
 /// The methods of a file, by their names, with how many parameters each has.
 #[derive(Drop)]
-pub struct Methods<'a> {
-    pub names: &'a Words<'a>,
+pub struct Methods<'a, 't> {
+    pub names: &'a Words<'t>,
     pub arities: &'a [usize],
 }
 
@@ -55,7 +55,7 @@ pub fn is_library(name: &[u8]) -> bool
     library(name).is_some()
 }
 
-impl<'a> Methods<'a> {
+impl<'a, 't> Methods<'a, 't> {
     /// What a name stands for: a library method or one of the file.
     pub(crate) fn callee(&self, name: &[u8]) -> Option<Callee>
         ensures { result ≡ spec.callee self.now name.now }

@@ -17,7 +17,7 @@ use std::alloc::Global;
 pub fn encoding(
     alloc: Global,
     scope: &Scope<'_, '_>,
-    methods: &Methods<'_>,
+    methods: &Methods<'_, '_>,
     given: &tree::Encoding,
 ) -> Result<Encoding, ResolveError>
     ensures means { IfOk result (spec.Means scope.now methods.now given.now) }
@@ -56,7 +56,7 @@ fn bit_text(at: Span, count: usize, value: u64) -> Library
 fn call(
     alloc: Global,
     scope: &Scope<'_, '_>,
-    methods: &Methods<'_>,
+    methods: &Methods<'_, '_>,
     name: Span,
     callee: Callee,
     arguments: &[tree::Expr],
