@@ -25,7 +25,7 @@ pub struct Setting<'a, 't> {
     pub constants: &'a Words<'t>,
     pub values: &'a [i128],
     pub parameters: &'a Words<'t>,
-    pub methods: &'a Methods<'a>,
+    pub methods: &'a Methods<'a, 't>,
     pub sections: &'a [Section],
     /// The encoded fields of UNCOMPRESSED and CONTROL.
     pub base: &'a Table<'t>,

@@ -32,7 +32,7 @@ pub struct Encodings {
 pub(crate) fn format_encodings(
     alloc: Global,
     scope: &Scope<'_, '_>,
-    methods: &Methods<'_>,
+    methods: &Methods<'_, '_>,
     sections: &[Section],
     kept: &Kept<'_>,
     chosen: &[Option<Mention>],
@@ -59,7 +59,7 @@ pub(crate) fn format_encodings(
 fn field_encodings(
     alloc: Global,
     scope: &Scope<'_, '_>,
-    methods: &Methods<'_>,
+    methods: &Methods<'_, '_>,
     sections: &[Section],
     kept: &Kept<'_>,
     chosen: &[Option<Mention>],
@@ -84,7 +84,7 @@ fn field_encodings(
 fn field_encoding(
     alloc: Global,
     scope: &Scope<'_, '_>,
-    methods: &Methods<'_>,
+    methods: &Methods<'_, '_>,
     sections: &[Section],
     kept: &Kept<'_>,
     choice: &Option<Mention>,
@@ -108,7 +108,7 @@ fn field_encoding(
 fn resolved_encoding(
     alloc: Global,
     scope: &Scope<'_, '_>,
-    methods: &Methods<'_>,
+    methods: &Methods<'_, '_>,
     sections: &[Section],
     choice: &Option<Mention>,
 ) -> Result<Encoding, ResolveError>
@@ -143,7 +143,7 @@ fn fine_ones<'a>(
 fn own_fault(
     alloc: Global,
     scope: &Scope<'_, '_>,
-    methods: &Methods<'_>,
+    methods: &Methods<'_, '_>,
     number: usize,
     fine: &[Option<Mention>],
     listing: &[usize],
@@ -174,7 +174,7 @@ fn after(item: &Item, place: usize) -> usize {
 fn item_fault(
     alloc: Global,
     scope: &Scope<'_, '_>,
-    methods: &Methods<'_>,
+    methods: &Methods<'_, '_>,
     item: &Item,
     is_fine: bool,
 ) -> Result<Option<ProfileFault>, AllocError>
@@ -194,7 +194,7 @@ fn item_fault(
 pub fn encoding_fault(
     alloc: Global,
     scope: &Scope<'_, '_>,
-    methods: &Methods<'_>,
+    methods: &Methods<'_, '_>,
     bound: &Bound,
 ) -> Result<Option<ProfileFault>, AllocError>
     ensures { IfOk result (λ fault. fault ≡ first_fault scope.now methods.now bound.now.encoding) }

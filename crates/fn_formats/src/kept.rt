@@ -104,7 +104,7 @@ pub fn kept_statements<'t>(alloc: Global, setting: &Setting<'_, 't>) -> Result<K
 fn kept_sections(
     alloc: Global,
     scope: &Scope<'_, '_>,
-    methods: &Methods<'_>,
+    methods: &Methods<'_, '_>,
     sections: &[Section],
 ) -> Result<Items<Items<KeptStatement>>, AllocError>
     ensures { IfOk result (AllZip (spec.SectionIsKept scope.now methods.now) sections.now) }
@@ -119,7 +119,7 @@ fn kept_sections(
 fn kept_section(
     alloc: Global,
     scope: &Scope<'_, '_>,
-    methods: &Methods<'_>,
+    methods: &Methods<'_, '_>,
     section: &Section,
 ) -> Result<Items<KeptStatement>, AllocError>
     ensures { IfOk result (spec.SectionIsKept scope.now methods.now section.now) }
@@ -134,7 +134,7 @@ fn kept_section(
 fn kept_items(
     alloc: Global,
     scope: &Scope<'_, '_>,
-    methods: &Methods<'_>,
+    methods: &Methods<'_, '_>,
     items: &[Item],
 ) -> Result<Items<KeptStatement>, AllocError>
     ensures { IfOk result (AllZip (spec.IsKept scope.now methods.now) items.now) }
@@ -149,7 +149,7 @@ fn kept_items(
 fn kept_statement(
     alloc: Global,
     scope: &Scope<'_, '_>,
-    methods: &Methods<'_>,
+    methods: &Methods<'_, '_>,
     item: &Item,
 ) -> Result<KeptStatement, AllocError>
     ensures { IfOk result (spec.IsKept scope.now methods.now item.now) }
@@ -200,7 +200,7 @@ fn names_field(scope: &Scope<'_, '_>, item: &Item) -> bool
 fn kept_encoding(
     alloc: Global,
     scope: &Scope<'_, '_>,
-    methods: &Methods<'_>,
+    methods: &Methods<'_, '_>,
     item: &Item,
 ) -> Result<Option<Shared<Encoding>>, AllocError>
     ensures { IfOk result (λ kept. IfSome kept (spec.Gives scope.now methods.now item.now)) }
@@ -214,7 +214,7 @@ fn kept_encoding(
 fn bound_encoding(
     alloc: Global,
     scope: &Scope<'_, '_>,
-    methods: &Methods<'_>,
+    methods: &Methods<'_, '_>,
     bound: &Bound,
 ) -> Result<Option<Shared<Encoding>>, AllocError>
     ensures { IfOk result (λ kept. IfSome kept (spec.IsGiven scope.now methods.now bound.now.encoding)) }

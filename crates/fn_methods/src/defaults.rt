@@ -54,7 +54,7 @@ fn all_fields<'t>(
 fn section_fault(
     alloc: Global,
     scope: &Scope<'_, '_>,
-    methods: &Methods<'_>,
+    methods: &Methods<'_, '_>,
     section: &Section,
     found: Option<ProfileFault>,
 ) -> Result<Option<ProfileFault>, AllocError>
@@ -69,7 +69,7 @@ fn section_fault(
 fn items_fault(
     alloc: Global,
     scope: &Scope<'_, '_>,
-    methods: &Methods<'_>,
+    methods: &Methods<'_, '_>,
     items: &[Item],
     found: Option<ProfileFault>,
 ) -> Result<Option<ProfileFault>, AllocError>
@@ -85,7 +85,7 @@ fn items_fault(
 fn item_fault(
     alloc: Global,
     scope: &Scope<'_, '_>,
-    methods: &Methods<'_>,
+    methods: &Methods<'_, '_>,
     item: &Item,
 ) -> Result<Option<ProfileFault>, AllocError>
     ensures { IfOk result (λ fault. fault ≡ spec.bound_fault scope.now methods.now item.now) }

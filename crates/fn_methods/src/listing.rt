@@ -25,10 +25,10 @@ pub struct Formats {
 }
 
 /// The formats of the method of this setting. They share what is kept of UNCOMPRESSED and CONTROL.
-pub(crate) fn listed_formats(
+pub(crate) fn listed_formats<'t>(
     alloc: Global,
-    setting: &Setting<'_, '_>,
-    kept: &Kept,
+    setting: &Setting<'_, 't>,
+    kept: &Kept<'t>,
 ) -> Result<Formats, AllocError>
     requires sections { AreSectionsWorded setting.now.text.now setting.now.sections.now }
     requires kept { HasKept setting.now kept.now }
@@ -44,10 +44,10 @@ pub(crate) fn listed_formats(
     Ok(all)
 }
 
-fn add_section(
+fn add_section<'t>(
     alloc: Global,
-    setting: &Setting<'_, '_>,
-    kept: &Kept,
+    setting: &Setting<'_, 't>,
+    kept: &Kept<'t>,
     place: usize,
     section: &Section,
     all: &mut Formats,

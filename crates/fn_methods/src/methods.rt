@@ -27,7 +27,7 @@ pub struct FileSetting<'a, 't> {
     pub text: &'t [u8],
     pub constants: &'a Words<'t>,
     pub values: &'a [i128],
-    pub methods: &'a Methods<'a>,
+    pub methods: &'a Methods<'a, 't>,
     /// The table of the places where constants are named.
     pub listed: &'a Table<'t>,
 }
