@@ -8,7 +8,7 @@ use std::alloc::{AllocError, Global};
 use std::fmt::Write;
 
 /// `text TEXT`: the bits that are read of it, and their value.
-pub fn read(alloc: Global, out: &mut String, text: &str) -> Result<()> {
+pub(crate) fn read(alloc: Global, out: &mut String, text: &str) -> Result<()> {
     let Some(bits) = Bits::read_text(alloc, text)? else {
         return put(alloc, out, None);
     };
@@ -20,7 +20,7 @@ pub fn read(alloc: Global, out: &mut String, text: &str) -> Result<()> {
 }
 
 /// `zeros FRONT COUNT`: how many bits are read of a text with that front and so many digits 0.
-pub fn read_zeros(alloc: Global, out: &mut String, rest: &str) -> Result<()> {
+pub(crate) fn read_zeros(alloc: Global, out: &mut String, rest: &str) -> Result<()> {
     let (front, digits) = parted(rest, " ")?;
     let text = with_zeros(alloc, front, count(digits)?)?;
     match Bits::read_text(alloc, text.as_str())? {
@@ -39,7 +39,7 @@ fn with_zeros(alloc: Global, front: &str, digits: usize) -> Result<String> {
 
 /// `cursor FIRST NEXT AHEAD BITS`: what is taken by FIRST, what a second cursor there takes by NEXT, and of both how many bits stand before and after and the
 /// bit that stands AHEAD.
-pub fn moved(alloc: Global, out: &mut String, rest: &str) -> Result<()> {
+pub(crate) fn moved(alloc: Global, out: &mut String, rest: &str) -> Result<()> {
     let (first, rest) = parted(rest, " ")?;
     let (next, rest) = parted(rest, " ")?;
     let (ahead, text) = parted(rest, " ")?;
@@ -64,7 +64,7 @@ fn put_place(out: &mut String, cursor: &Cursor<'_>, ahead: usize) -> Result<()> 
 }
 
 /// `lines TEXT`: its lines with their numbers, or the number of the line that is no text.
-pub fn cut_lines(alloc: Global, out: &mut String, octets: &[u8]) -> Result<()> {
+pub(crate) fn cut_lines(alloc: Global, out: &mut String, octets: &[u8]) -> Result<()> {
     match lines(alloc, octets) {
         Ok(found) => {
             for line in &found {

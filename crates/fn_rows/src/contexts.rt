@@ -9,12 +9,12 @@ use std::alloc::{AllocError, Global};
 use std::fmt::Write;
 
 /// `path TEXT`: whether it is one.
-pub fn knows_path(out: &mut String, text: &str) -> Result<()> {
+pub(crate) fn knows_path(out: &mut String, text: &str) -> Result<()> {
     Ok(write!(out, "{}", is_path(text))?)
 }
 
 /// `context TEXT`: the text of the context that it is, or the fault.
-pub fn read(alloc: Global, out: &mut String, text: &str) -> Result<()> {
+pub(crate) fn read(alloc: Global, out: &mut String, text: &str) -> Result<()> {
     match Context::read_text(alloc, text) {
         Ok(context) => put_context(alloc, out, &context),
         Err(ContextError::BadLine { line }) => Ok(write!(out, "C1 bad line {line}")?),
@@ -23,12 +23,12 @@ pub fn read(alloc: Global, out: &mut String, text: &str) -> Result<()> {
 }
 
 /// Says the text of a context.
-pub fn put_context(alloc: Global, out: &mut String, context: &Context) -> Result<()> {
+pub(crate) fn put_context(alloc: Global, out: &mut String, context: &Context) -> Result<()> {
     Ok(out.push_str(context.print_text(alloc)?.as_str())?)
 }
 
 /// `get PATH of CONTEXT`: the bits there, and how many entries there are.
-pub fn found(alloc: Global, out: &mut String, rest: &str) -> Result<()> {
+pub(crate) fn found(alloc: Global, out: &mut String, rest: &str) -> Result<()> {
     let (path, text) = parted(rest, " of ")?;
     let context = Context::read_text(alloc, text)?;
     put_found(alloc, out, context.get(path))?;
@@ -43,7 +43,7 @@ fn put_found(alloc: Global, out: &mut String, found: Option<&Bits>) -> Result<()
 }
 
 /// `replace CONTEXT by ENTRIES`: the text of the context after entries, which stand with `; ` between them, and that of a copy of it.
-pub fn replaced(alloc: Global, out: &mut String, rest: &str) -> Result<()> {
+pub(crate) fn replaced(alloc: Global, out: &mut String, rest: &str) -> Result<()> {
     let (text, entries) = parted(rest, " by ")?;
     let context = after(alloc, text, entries)?;
     put_twice(alloc, out, &context)

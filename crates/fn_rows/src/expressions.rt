@@ -68,7 +68,7 @@ fn few(alloc: Global) -> Result<(Known, Ranges), AllocError>
 }
 
 /// `range EXPRESSION`: its range, or the fault.
-pub fn ranged(alloc: Global, out: &mut String, text: &str) -> Result<()> {
+pub(crate) fn ranged(alloc: Global, out: &mut String, text: &str) -> Result<()> {
     let expr = read(alloc, text)?.last_expression()?;
     let (_known, ranges) = few(alloc)?;
     put_range(out, range(&expr, &ranges))
@@ -82,7 +82,7 @@ fn put_range(out: &mut String, found: Result<Interval, RangeFault>) -> Result<()
 }
 
 /// `value EXPRESSION`: its value, `none` where there is none, or the fault.
-pub fn valued(alloc: Global, out: &mut String, text: &str) -> Result<()> {
+pub(crate) fn valued(alloc: Global, out: &mut String, text: &str) -> Result<()> {
     let expr = read(alloc, text)?.last_expression()?;
     let (known, ranges) = few(alloc)?;
     put_value(out, value_of(&expr, &known, &ranges))
@@ -104,7 +104,7 @@ fn value_of(expr: &Expr, known: &Known, ranges: &Ranges) -> Result<Option<i128>,
 }
 
 /// `decide CONDITION`: whether it holds, `none` where a value is missing, or the fault.
-pub fn decided(alloc: Global, out: &mut String, text: &str) -> Result<()> {
+pub(crate) fn decided(alloc: Global, out: &mut String, text: &str) -> Result<()> {
     let cond = read(alloc, text)?.last_condition()?;
     let (known, ranges) = few(alloc)?;
     put_truth(out, truth_of(&cond, &known, &ranges))

@@ -18,19 +18,19 @@ use std::fmt::Write;
 use std::mem;
 
 /// `below PATH NAME`, or `below NAME` at the top: the path.
-pub fn path(alloc: Global, out: &mut String, rest: &str) -> Result<()> {
+pub(crate) fn path(alloc: Global, out: &mut String, rest: &str) -> Result<()> {
     let (path, name) = rest.split_once(' ').unwrap_or(("", rest));
     Ok(out.push_str(below(alloc, path, name)?.as_str())?)
 }
 
 /// `profile TOP TEXT`: the profile of the rows that follow.
-pub fn read_profile(alloc: Global, rest: &str) -> Result<Profile> {
+pub(crate) fn read_profile(alloc: Global, rest: &str) -> Result<Profile> {
     let (top, text) = parted(rest, " ")?;
     Ok(read(alloc, text.as_bytes(), top.as_bytes())?)
 }
 
 /// `holds CONTEXT | FILLING`: whether the filling fits the top in the context.
-pub fn judged(alloc: Global, out: &mut String, profile: &Profile, rest: &str) -> Result<()> {
+pub(crate) fn judged(alloc: Global, out: &mut String, profile: &Profile, rest: &str) -> Result<()> {
     let (context, text) = parted(rest, "| ")?;
     let context = Context::read_text(alloc, context.trim_end())?;
     let filling = read_filling(alloc, text)?;
@@ -39,7 +39,12 @@ pub fn judged(alloc: Global, out: &mut String, profile: &Profile, rest: &str) ->
 }
 
 /// `judged TIMES CONTEXT | FILLING`: how often of so many times the filling fits.
-pub fn judged_often(alloc: Global, out: &mut String, profile: &Profile, rest: &str) -> Result<()> {
+pub(crate) fn judged_often(
+    alloc: Global,
+    out: &mut String,
+    profile: &Profile,
+    rest: &str,
+) -> Result<()> {
     let (times, rest) = parted(rest, " ")?;
     let (context, text) = parted(rest, "| ")?;
     let context = Context::read_text(alloc, context.trim_end())?;
@@ -78,7 +83,7 @@ fn fits_top(
 }
 
 /// `sides CONTEXT | FILLING`: the filling's header, packed bits, item, entries, and the context after it.
-pub fn sides(alloc: Global, out: &mut String, rest: &str) -> Result<()> {
+pub(crate) fn sides(alloc: Global, out: &mut String, rest: &str) -> Result<()> {
     let (context, text) = parted(rest, "| ")?;
     let filling = read_filling(alloc, text)?;
     put_sides(alloc, out, &filling)?;

@@ -20,7 +20,7 @@ struct Arguments {
 
 /// `CALL NUMBERS BITS`: the bits that the call gives, or `none`. Of `static` and `lsb` the first bits are the reference, where there are two; a `-` says that
 /// there is none.
-pub fn answer(alloc: Global, out: &mut String, call: &str, rest: &str) -> Result<()> {
+pub(crate) fn answer(alloc: Global, out: &mut String, call: &str, rest: &str) -> Result<()> {
     let arguments = read(alloc, rest)?;
     let numbers = arguments.numbers.as_slice();
     let found = match arguments.sides.as_slice() {
@@ -141,7 +141,7 @@ fn by_numbers(
 }
 
 /// `registers BITS`: the registers of three, seven and eight bits after whole octets.
-pub fn registers(alloc: Global, out: &mut String, word: &str) -> Result<()> {
+pub(crate) fn registers(alloc: Global, out: &mut String, word: &str) -> Result<()> {
     let covered = bits(alloc, word)?;
     ensure!(covered.len() % 8 == 0, "no whole octets");
     let three = crc_of(3, 0x06, 0x07, &covered);
@@ -151,7 +151,7 @@ pub fn registers(alloc: Global, out: &mut String, word: &str) -> Result<()> {
 }
 
 /// `register TIMES BITS`: the register of eight bits after the octets, so many times over.
-pub fn register(alloc: Global, out: &mut String, rest: &str) -> Result<()> {
+pub(crate) fn register(alloc: Global, out: &mut String, rest: &str) -> Result<()> {
     let (times, word) = parted(rest, " ")?;
     let covered = bits(alloc, word)?;
     ensure!(covered.len() % 8 == 0, "no whole octets");

@@ -11,7 +11,7 @@ const WORDS: [u64; 4] = [0, u64::MAX, 0x9e37_79b9_7f4a_7c15, 0x5555_5555_5555_55
 
 /// `lists COUNT`: of each offset and each count below COUNT, whether bits that are cut there, joined, looked ahead at and read by octets are those of a list of
 /// booleans. Said is how often they were and how often not.
-pub fn compared(alloc: Global, out: &mut String, rest: &str) -> Result<()> {
+pub(crate) fn compared(alloc: Global, out: &mut String, rest: &str) -> Result<()> {
     let below = count(rest)?;
     let mut same = 0_u64;
     let mut other = 0_u64;

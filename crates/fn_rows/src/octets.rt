@@ -7,7 +7,7 @@ use std::alloc::Global;
 use std::fmt::Write;
 
 /// `peek TAKEN AHEAD COUNT BITS`: after TAKEN bits were taken, the number of the COUNT bits that begin AHEAD of the place.
-pub fn peeked(alloc: Global, out: &mut String, rest: &str) -> Result<()> {
+pub(crate) fn peeked(alloc: Global, out: &mut String, rest: &str) -> Result<()> {
     let (taken, rest) = parted(rest, " ")?;
     let (ahead, rest) = parted(rest, " ")?;
     let (len, text) = parted(rest, " ")?;
@@ -21,7 +21,7 @@ pub fn peeked(alloc: Global, out: &mut String, rest: &str) -> Result<()> {
 }
 
 /// `octet PLACE BITS`: the octet at a place, in hex.
-pub fn octet(alloc: Global, out: &mut String, rest: &str) -> Result<()> {
+pub(crate) fn octet(alloc: Global, out: &mut String, rest: &str) -> Result<()> {
     let (place, text) = parted(rest, " ")?;
     match bits(alloc, text)?.octet(count(place)?) {
         Some(octet) => Ok(write!(out, "{octet:02x}")?),
@@ -30,7 +30,7 @@ pub fn octet(alloc: Global, out: &mut String, rest: &str) -> Result<()> {
 }
 
 /// `cut FROM TO OTHER BITS`: whether what stands from FROM to TO is OTHER, and the text of it with a zero at its end.
-pub fn cut(alloc: Global, out: &mut String, rest: &str) -> Result<()> {
+pub(crate) fn cut(alloc: Global, out: &mut String, rest: &str) -> Result<()> {
     let (from, rest) = parted(rest, " ")?;
     let (to, rest) = parted(rest, " ")?;
     let (other, text) = parted(rest, " ")?;

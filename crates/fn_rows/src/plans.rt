@@ -11,7 +11,12 @@ use std::alloc::Global;
 use std::fmt::Write;
 
 /// `plan DIRECTION METHOD FORMAT`: the steps of the plan with ` / ` between them, or the sides that no plan learns. The method and the format go by their places.
-pub fn ordered(alloc: Global, out: &mut String, profile: &Profile, rest: &str) -> Result<()> {
+pub(crate) fn ordered(
+    alloc: Global,
+    out: &mut String,
+    profile: &Profile,
+    rest: &str,
+) -> Result<()> {
     let (direction, rest) = parted(rest, " ")?;
     let (method, format) = parted(rest, " ")?;
     let method = profile.methods().get(count(method)?).context("no method")?;

@@ -9,7 +9,7 @@ use std::fmt::Write;
 
 /// `tokens TEXT`: its tokens, each as its octets, a colon and its kind: the word of a mark, `name`, a number, or how many digits a bit text has and what they
 /// spell.
-pub fn tokens(alloc: Global, out: &mut String, text: &str) -> Result<()> {
+pub(crate) fn tokens(alloc: Global, out: &mut String, text: &str) -> Result<()> {
     let tokens = read(alloc, text)?;
     for token in &tokens {
         put_token(out, text, *token)?;
@@ -85,7 +85,7 @@ fn word(mark: Mark) -> &'static str {
 }
 
 /// `places OFFSETS of TEXT`: line and column of each offset.
-pub fn places(out: &mut String, rest: &str) -> Result<()> {
+pub(crate) fn places(out: &mut String, rest: &str) -> Result<()> {
     let (offsets, text) = parted(rest, " of ")?;
     let source = Source::new(text.as_bytes())?;
     for offset in offsets.split(' ') {

@@ -5,22 +5,22 @@ use fn_bits::Bits;
 use std::alloc::Global;
 
 /// What stands before the first `mark` and what stands after it.
-pub fn parted<'a>(text: &'a str, mark: &str) -> Result<(&'a str, &'a str)> {
+pub(crate) fn parted<'a>(text: &'a str, mark: &str) -> Result<(&'a str, &'a str)> {
     text.split_once(mark).context("the row is too short")
 }
 
 /// The bits of a word.
-pub fn bits(alloc: Global, word: &str) -> Result<Bits> {
+pub(crate) fn bits(alloc: Global, word: &str) -> Result<Bits> {
     Bits::read_text(alloc, word)?.context("no bits")
 }
 
 /// The number of a word.
-pub fn count(word: &str) -> Result<usize> {
+pub(crate) fn count(word: &str) -> Result<usize> {
     Ok(word.parse::<usize>()?)
 }
 
 /// Says the text of bits, or `none`.
-pub fn put(alloc: Global, out: &mut String, found: Option<Bits>) -> Result<()> {
+pub(crate) fn put(alloc: Global, out: &mut String, found: Option<Bits>) -> Result<()> {
     match found {
         Some(bits) => put_bits(alloc, out, &bits),
         None => Ok(out.push_str("none")?),
@@ -28,6 +28,6 @@ pub fn put(alloc: Global, out: &mut String, found: Option<Bits>) -> Result<()> {
 }
 
 /// Says the text of bits.
-pub fn put_bits(alloc: Global, out: &mut String, bits: &Bits) -> Result<()> {
+pub(crate) fn put_bits(alloc: Global, out: &mut String, bits: &Bits) -> Result<()> {
     Ok(out.push_str(bits.print_text(alloc)?.as_str())?)
 }
