@@ -12,7 +12,7 @@ use fn_expr::{Attribute, Expr, Interval, Measure, Operator, Subject};
 use fn_normal::{Bounds, FormatSizes, Sizes};
 
 /// The greatest size of an end point of a range that is accepted.
-const LIMIT: u128 = 0x100_0000_0000_0000_0000_0000_0000_0000;
+pub(crate) const LIMIT: u128 = 0x100_0000_0000_0000_0000_0000_0000_0000;
 
 /// No value of 64 bits and no length is above this.
 const GREATEST: u128 = 0x1_0000_0000_0000_0000;
