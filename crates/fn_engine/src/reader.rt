@@ -1,6 +1,6 @@
 //! From packed bits to an item.
 
-ghost use Rattle.std.specs.Prelude.{◌≡◌, Some, IfOk, IfErr, OnErr};
+ghost use Rattle.std.specs.Prelude.{◌≡◌, Some, IfOk, IfErr, IfSome, OnErr};
 ghost use Rattle.fn_filling.specs.declared.filling.Filling.{out-Filling};
 ghost use Rattle.fn_filling.specs.Fillings as sides;
 ghost use Rattle.fn_engine.specs.Reading as spec;
@@ -12,6 +12,7 @@ use fn_context::Context;
 use fn_filling::{Filling, Item};
 use fn_holds::WholeSides;
 use fn_reader::{Blamed, ReadFault, read_method};
+use fn_sketch::sketch;
 use std::alloc::{AllocError, Global};
 
 /// Why no item was read.
@@ -102,8 +103,8 @@ fn with_sides(filling: Filling, whole: WholeSides) -> Alone
     }
 }
 
-/// The filling of the top that fits and is the only one ahead, with its two sides. It is judged as a whole; only where there is none, the walk is made again with
-/// each called filling judged at its end, to find the method to blame.
+/// The filling of the top that fits and is the only one ahead, with its two sides: what was drawn up without a test, if it proves to be the one, else what the
+/// walk finds.
 fn read_top(
     alloc: Global,
     accepted: &Accepted,
@@ -114,24 +115,36 @@ fn read_top(
     ensures sides { IfOk result (λ found. (found.header ≡ sides.header found.filling) × (found.packed ≡ sides.packed found.filling)) }
     ensures fault { IfErr result (λ e. spec.Blames e accepted.now context.now cursor.now.left) }
 {
-    if accepted.profile().methods().len() == 1 {
-        // Nothing is called: one walk judges all.
-        return read_judged(alloc, accepted, context, cursor);
-    }
-    let place = top_place(accepted, context);
-    let filling = match read_method(CALL_DEPTH, alloc, &place, cursor, 0, false) {
-        Ok(filling) => filling,
-        Err(ReadFault::OutOfMemory) => return Err(UnpackFault::OutOfMemory),
-        Err(_) => return read_judged(alloc, accepted, context, cursor),
-    };
-    let judged = fits(alloc, accepted, context, &filling)?;
-    match judged {
-        Some(whole) => Ok(with_sides(filling, whole)),
+    match read_sketched(alloc, accepted, context, cursor)? {
+        Some(found) => Ok(found),
         None => read_judged(alloc, accepted, context, cursor),
     }
 }
 
-/// The same, where each called filling is judged at its end.
+/// What was drawn up, where it fits and its packed bits come next: by what an accepted profile keeps it is the only one then.
+fn read_sketched(
+    alloc: Global,
+    accepted: &Accepted,
+    context: &Context,
+    cursor: &Cursor<'_>,
+) -> Result<Option<Alone>, AllocError>
+    ensures found { IfOk result (λ o. IfSome o (λ found. spec.IsAlone accepted.now context.now cursor.now.left found.filling)) }
+    ensures sides { IfOk result (λ o. IfSome o (λ found. (found.header ≡ sides.header found.filling) × (found.packed ≡ sides.packed found.filling))) }
+{
+    accepted.determinate();
+    let Some(filling) = sketch(alloc, accepted, context, cursor)? else {
+        return Ok(None);
+    };
+    let Some(whole) = fits(alloc, accepted, context, &filling)? else {
+        return Ok(None);
+    };
+    if !cursor.begins_with(&whole.packed) {
+        return Ok(None);
+    }
+    Ok(Some(with_sides(filling, whole)))
+}
+
+/// What the walk finds, which judges each called filling at its end, to tell the method to blame.
 fn read_judged(
     alloc: Global,
     accepted: &Accepted,
@@ -143,7 +156,7 @@ fn read_judged(
     ensures fault { IfErr result (λ e. spec.Blames e accepted.now context.now cursor.now.left) }
 {
     let place = top_place(accepted, context);
-    match read_method(CALL_DEPTH, alloc, &place, cursor, 0, true) {
+    match read_method(CALL_DEPTH, alloc, &place, cursor, 0) {
         Ok(filling) => match fits(alloc, accepted, context, &filling)? {
             Some(whole) => Ok(with_sides(filling, whole)),
             None => Err(UnpackFault::Refused(whole_of(accepted, &filling))),

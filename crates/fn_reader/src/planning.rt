@@ -80,13 +80,12 @@ fn plans_at(entry: &MethodPlans, format: usize) -> Option<&Plans>
 }
 
 /// The filling of a level of which all is known. The error is Refused, where it doesn't fit, or want of memory. The level of the top, whose path is empty, is
-/// not judged here: who asks for it judges it as a whole. Where `judges` is false none is.
+/// not judged here: who asks for it judges it as a whole.
 pub(crate) fn finished(
     alloc: Global,
     place: &Place<'_>,
     format: usize,
     level: Level<'_>,
-    judges: bool,
 ) -> Result<Filling, ReadFault>
     requires stands { Stands place.now }
     ensures made { IfOk result (IsMade format level.entry.format level.entry.slots) }
@@ -99,7 +98,7 @@ pub(crate) fn finished(
     let Some(filling) = level.into_filling(alloc, format)? else {
         return Err(refused);
     };
-    if !judges || place.path.is_empty() {
+    if place.path.is_empty() {
         return Ok(filling);
     }
     let fits = level_fits(

@@ -24,8 +24,7 @@ use std::alloc::Global;
 
 /// Reads the filling of the method whose packed bits are so many places after the cursor's.
 ///
-/// `depth` is how many methods a chain of calls from this one may have. Each called filling is judged at the end of its own level where `judges` says so; else
-/// a filling that doesn't fit may be read to its end. The error is Short, where the bits run out, Refused, with the innermost method at work, or want of memory.
+/// `depth` is how many methods a chain of calls from this one may have. Each called filling is judged at the end of its own level. The error is Short, where the bits run out, Refused, with the innermost method at work, or want of memory.
 #[cycle(reading)]
 pub fn read_method(
     depth: usize,
@@ -33,7 +32,6 @@ pub fn read_method(
     place: &Place<'_>,
     cursor: &Cursor<'_>,
     from: usize,
-    judges: bool,
 ) -> Result<Filling, ReadFault>
     requires stands { Stands place.now }
     requires deep { HasDepth place.now depth }
@@ -61,12 +59,10 @@ pub fn read_method(
         return Err(refused);
     };
     let scene = place.scene(format);
-    match read_plan(
-        depth, alloc, place, &scene, &mut level, plan, cursor, from, judges,
-    ) {
+    match read_plan(depth, alloc, place, &scene, &mut level, plan, cursor, from) {
         Ok(()) => {
             level.keeps();
-            finished(alloc, place, format, level, judges)
+            finished(alloc, place, format, level)
         }
         Err(fault) => Err(fault),
     }
@@ -83,7 +79,6 @@ fn read_plan(
     plan: &[Step],
     cursor: &Cursor<'_>,
     from: usize,
-    judges: bool,
 ) -> Result<(), ReadFault>
     requires scene { IsSceneOf place.now scene.now.format scene.now }
     requires stands { Stands place.now }
@@ -96,9 +91,7 @@ fn read_plan(
 {
     for step in plan {
         level.keeps();
-        if let Err(fault) = read_step(
-            depth, alloc, place, scene, level, *step, cursor, from, judges,
-        ) {
+        if let Err(fault) = read_step(depth, alloc, place, scene, level, *step, cursor, from) {
             return Err(fault);
         }
     }
@@ -116,7 +109,6 @@ fn read_step(
     step: Step,
     cursor: &Cursor<'_>,
     from: usize,
-    judges: bool,
 ) -> Result<(), ReadFault>
     requires scene { IsSceneOf place.now scene.now.format scene.now }
     requires stands { Stands place.now }
@@ -131,9 +123,7 @@ fn read_step(
     ensures few { IfErr result (λ e. spec.AreFew e depth (drop from cursor.now.left)) }
 {
     match step {
-        Step::Call(field) => read_call(
-            depth, alloc, place, scene, level, field, cursor, from, judges,
-        ),
+        Step::Call(field) => read_call(depth, alloc, place, scene, level, field, cursor, from),
         _ => match read_own(alloc, scene, level, step, cursor, from) {
             Ok(()) => Ok(()),
             Err(fault) => Err(fault_of(scene, fault)),
@@ -152,7 +142,6 @@ fn read_call(
     field: usize,
     cursor: &Cursor<'_>,
     from: usize,
-    judges: bool,
 ) -> Result<(), ReadFault>
     requires scene { IsSceneOf place.now scene.now.format scene.now }
     requires stands { Stands place.now }
@@ -172,7 +161,7 @@ fn read_call(
         Err(fault) => return Err(fault_of(scene, fault)),
     };
     match read_inner(
-        depth, alloc, place, scene, level, field, &call, cursor, from, judges,
+        depth, alloc, place, scene, level, field, &call, cursor, from,
     ) {
         Ok(inner) => match fill(alloc, scene, level, field, inner) {
             Ok(()) => Ok(()),
@@ -194,7 +183,6 @@ fn read_inner(
     call: &Call,
     cursor: &Cursor<'_>,
     from: usize,
-    judges: bool,
 ) -> Result<Filling, ReadFault>
     requires scene { IsSceneOf place.now scene.now.format scene.now }
     requires deep { HasDepth place.now depth }
@@ -217,11 +205,11 @@ fn read_inner(
     };
     if is_listed(level.format(), field) {
         let start = start_of(level, field, cursor, from);
-        return read_method(depth - 1, alloc, &inner, cursor, start, judges);
+        return read_method(depth - 1, alloc, &inner, cursor, start);
     }
     let nothing = Bits::new(alloc);
     ended(
         &inner,
-        read_method(depth - 1, alloc, &inner, &Cursor::new(&nothing), 0, judges),
+        read_method(depth - 1, alloc, &inner, &Cursor::new(&nothing), 0),
     )
 }

@@ -1,0 +1,10 @@
+//! Fillings that are drawn up quickly, for who judges them anyhow.
+#![tactic(auto)]
+
+pub use drawing::sketch;
+
+mod drawing;
+mod sheet;
+mod steps;
+mod stop;
+mod values;

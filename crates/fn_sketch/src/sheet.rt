@@ -1,0 +1,129 @@
+//! What a sketch has of a level.
+
+use crate::stop::Stop;
+use fn_bits::Bits;
+use fn_expr::Side;
+use fn_filling::{FilledField, Filling};
+use fn_normal::{Declared, Format};
+use sqlite_items::{Items, at};
+use std::alloc::{AllocError, Global};
+
+/// A level that is being drawn: its format, the values of the parameters, the fields so far, and the place up to which the listed fields were passed, with
+/// the count of packed bits before it. Of a side whose length alone is known there are so many zeros.
+#[derive(Drop)]
+pub(crate) struct Sheet<'a> {
+    pub(crate) format: &'a Format,
+    pub(crate) arguments: &'a [i128],
+    pub(crate) fields: Vec<FilledField>,
+    next: usize,
+    ahead: usize,
+}
+
+impl<'a> Sheet<'a> {
+    /// A level with no bits, before whose first packed bit there are so many. The error is want of memory.
+    pub(crate) fn blank(
+        alloc: Global,
+        format: &'a Format,
+        arguments: &'a [i128],
+        from: usize,
+    ) -> Result<Sheet<'a>, AllocError> {
+        let mut fields = Vec::with_capacity(alloc, format.fields.len())?;
+        for field in format.fields.as_slice() {
+            fields.push(FilledField {
+                declared: copy_of(&field.declared)?,
+                uncompressed: Bits::new(alloc),
+                compressed: Bits::new(alloc),
+                inner: None,
+            })?;
+        }
+        Ok(Sheet {
+            format,
+            arguments,
+            fields,
+            next: 0,
+            ahead: from,
+        })
+    }
+
+    /// The filling that was drawn, of the format by its index. The error is want of memory.
+    pub(crate) fn into_filling(self, alloc: Global, index: usize) -> Result<Filling, AllocError> {
+        Ok(Filling {
+            format: index,
+            listing: Items::from_slice(alloc, self.format.listing.as_slice())?,
+            fields: Items::from_vec(self.fields),
+        })
+    }
+
+    /// How many bits the side of the field has, none where nothing is known of it.
+    pub(crate) fn length(&self, field: usize, side: Side) -> usize {
+        match self.bits(field, side) {
+            Ok(bits) => bits.len(),
+            Err(_) => 0,
+        }
+    }
+
+    /// The bits of the side of the field. The error is Nowhere, where there is no such field.
+    pub(crate) fn bits(&self, field: usize, side: Side) -> Result<&Bits, Stop> {
+        match at(self.fields.as_slice(), field) {
+            Some(filled) => match side {
+                Side::Uncompressed => Ok(&filled.uncompressed),
+                Side::Compressed => Ok(&filled.compressed),
+            },
+            None => Err(Stop::Nowhere),
+        }
+    }
+
+    /// Gives the side of the field its bits.
+    pub(crate) fn set(&mut self, field: usize, side: Side, bits: Bits) {
+        if field < self.fields.len() {
+            match side {
+                Side::Uncompressed => self.fields[field].uncompressed = bits,
+                Side::Compressed => self.fields[field].compressed = bits,
+            }
+        }
+    }
+
+    /// Gives the field the filling inside it, with both sides.
+    pub(crate) fn fill(&mut self, alloc: Global, field: usize, inner: Filling) -> Result<(), Stop> {
+        self.set(field, Side::Uncompressed, inner.header(alloc)?);
+        self.set(field, Side::Compressed, inner.packed(alloc)?);
+        if field < self.fields.len() {
+            self.fields[field].inner = Some(inner);
+        }
+        Ok(())
+    }
+
+    /// Whether the format lists the field.
+    pub(crate) fn lists(&self, field: usize) -> bool {
+        self.format
+            .listing
+            .as_slice()
+            .iter()
+            .any(|listed| *listed == field)
+    }
+
+    /// How many packed bits stand before those of the listed field, by the lengths of the fields before it. The error is Nowhere, where it was passed before, or isn't listed.
+    pub(crate) fn before(&mut self, field: usize) -> Result<usize, Stop> {
+        let listing = self.format.listing.as_slice();
+        for place in self.next..listing.len() {
+            let listed = listing[place];
+            self.next = place;
+            if listed == field {
+                return Ok(self.ahead);
+            }
+            self.ahead = self
+                .ahead
+                .saturating_add(self.length(listed, Side::Compressed));
+        }
+        Err(Stop::Nowhere)
+    }
+}
+
+/// A copy, whose name shares its text. The error is want of memory.
+fn copy_of(declared: &Declared) -> Result<Declared, AllocError> {
+    Ok(Declared {
+        name: declared.name.share()?,
+        part: declared.part,
+        asked: declared.asked,
+    })
+}

@@ -1,0 +1,91 @@
+//! The values of expressions by a sketch.
+
+use crate::sheet::Sheet;
+use fn_bits::Bits;
+use fn_expr::{Attribute, Expr, Measure, Operator, Side, Subject};
+use fn_normal::Part;
+use sqlite_items::Items;
+use std::alloc::{AllocError, Global};
+
+/// The value of an expression, if one is found by what was drawn so far.
+pub(crate) fn value(alloc: Global, sheet: &Sheet<'_>, expr: &Expr) -> Option<i128> {
+    match expr {
+        Expr::Number(_, number) => Some(*number),
+        Expr::Parameter(_, index) => sheet.arguments.get(*index).copied(),
+        Expr::Attribute(_, attribute) => attribute_value(alloc, sheet, *attribute),
+        Expr::Binary(_, operator, left, right) => {
+            let left = value(alloc, sheet, left)?;
+            let right = value(alloc, sheet, right)?;
+            calculated(*operator, left, right)
+        }
+    }
+}
+
+/// The values of several expressions, if each has one. The error is want of memory.
+pub(crate) fn values(
+    alloc: Global,
+    sheet: &Sheet<'_>,
+    exprs: &[Expr],
+) -> Result<Option<Items<i128>>, AllocError> {
+    let mut found = Items::new(alloc);
+    for expr in exprs {
+        match value(alloc, sheet, expr) {
+            Some(number) => found.push(number)?,
+            None => return Ok(None),
+        }
+    }
+    Ok(Some(found))
+}
+
+fn calculated(operator: Operator, left: i128, right: i128) -> Option<i128> {
+    match operator {
+        Operator::Add => left.checked_add(right),
+        Operator::Subtract => left.checked_sub(right),
+        Operator::Multiply => left.checked_mul(right),
+        Operator::Divide if right > 0 => Some(left.div_euclid(right)),
+        Operator::Remainder if right > 0 => Some(left.rem_euclid(right)),
+        Operator::Power => left.checked_pow(u32::try_from(right).ok()?),
+        Operator::Divide | Operator::Remainder => None,
+    }
+}
+
+fn attribute_value(alloc: Global, sheet: &Sheet<'_>, attribute: Attribute) -> Option<i128> {
+    match (attribute.subject, attribute.measure) {
+        (Subject::Field(field), Measure::Length) => Some(
+            sheet.length(field, attribute.side) as i128,
+        ),
+        (Subject::Field(field), Measure::Value) => match sheet.bits(field, attribute.side) {
+            Ok(bits) => Some(bits.value()? as i128),
+            Err(_) => None,
+        },
+        (Subject::This, measure) => {
+            let whole = whole_of(alloc, sheet, attribute.side)?;
+            match measure {
+                Measure::Value => Some(whole.value()? as i128),
+                Measure::Length => Some(whole.len() as i128),
+            }
+        }
+    }
+}
+
+/// The bits of the side of the whole, as far as they were drawn.
+fn whole_of(alloc: Global, sheet: &Sheet<'_>, side: Side) -> Option<Bits> {
+    let mut whole = Bits::new(alloc);
+    match side {
+        Side::Uncompressed => {
+            for filled in sheet.fields.as_slice() {
+                if filled.declared.part == Part::Header {
+                    whole.append(&filled.uncompressed).ok()?;
+                }
+            }
+        }
+        Side::Compressed => {
+            for field in sheet.format.listing.as_slice() {
+                whole
+                    .append(sheet.bits(*field, Side::Compressed).ok()?)
+                    .ok()?;
+            }
+        }
+    }
+    Some(whole)
+}
