@@ -16,6 +16,7 @@ pub struct Accepted {
     certificate: Certificate,
     counts: Items<u64>,
     spans: Items<Items<u64>>,
+    tree_sizes: Items<Items<usize>>,
 }
 
 impl Model for Accepted {
@@ -39,6 +40,7 @@ impl Accepted {
         certificate: Certificate,
         counts: Items<u64>,
         spans: Items<Items<u64>>,
+        tree_sizes: Items<Items<usize>>,
     ) -> Accepted
         requires { IsAccepted (record { profile = profile; certificate = certificate; counts = counts; spans = spans }) }
         ensures profile { result.profile ≡ profile }
@@ -49,6 +51,7 @@ impl Accepted {
             certificate,
             counts,
             spans,
+            tree_sizes,
         }
     }
 
@@ -78,6 +81,12 @@ impl Accepted {
         ensures { result.now ≡ self.now.spans }
     {
         self.spans.as_slice()
+    }
+
+    /// For each method, and for each node of its tree from the last to the first in preorder, how many nodes the subtree of that node has. Nothing is promised of
+    /// them: they shorten the way of who judges what he finds.
+    pub fn tree_sizes(&self) -> &[Items<usize>] {
+        self.tree_sizes.as_slice()
     }
 
     /// A law of what is accepted: the certificate is valid for the profile.

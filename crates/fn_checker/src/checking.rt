@@ -10,10 +10,12 @@ ghost use Rattle.fn_rules.specs.Valid as valid;
 ghost use Rattle.fn_rules.specs.Valid.{HasPlans, Valid};
 ghost use Rattle.fn_trees.specs.Capped.{AreCapped};
 ghost use Rattle.fn_checker.specs.Accepted.{Blames};
+ghost use Rattle.fn_checker.specs.declared.accepted.CheckError.{CheckError};
 ghost use Rattle.fn_checker.specs.Judged as spec;
 ghost use Rattle.fn_checker.specs.Judged.{Serve, AreEntriesRight, AreFormatsRight, IsMethodRight, IsEntryRight, RefusesIn, RefusesEntry, RefusesFormats, RefusesFormat, RefusesPlans};
 
 use crate::accepted::{Accepted, CheckError, Refusal};
+use crate::jumps::tree_sizes;
 use fn_best::format_counts;
 use fn_cert::{Certificate, Direction, MethodPlans, Plans};
 use fn_normal::{Format, Method, MethodSizes};
@@ -72,13 +74,25 @@ fn accepted(
 {
     let methods = profile.methods();
     let entries = certificate.methods();
+    let Ok(sizes) = tree_sizes(alloc, entries) else {
+        return Err(forgotten(profile, certificate));
+    };
     match format_counts(alloc, methods, entries, counts.as_slice()) {
-        Ok(spans) => Ok(Accepted::of(profile, certificate, counts, spans)),
-        Err(_) => Err(Refusal {
-            error: CheckError::OutOfMemory,
-            profile,
-            certificate,
-        }),
+        Ok(spans) => Ok(Accepted::of(profile, certificate, counts, spans, sizes)),
+        Err(_) => Err(forgotten(profile, certificate)),
+    }
+}
+
+/// The refusal where memory ran out.
+fn forgotten(profile: Profile, certificate: Certificate) -> Refusal
+    ensures same_profile { result.profile ≡ profile }
+    ensures same_certificate { result.certificate ≡ certificate }
+    ensures error { result.error ≡ CheckError.OutOfMemory }
+{
+    Refusal {
+        error: CheckError::OutOfMemory,
+        profile,
+        certificate,
     }
 }
 

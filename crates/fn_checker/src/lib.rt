@@ -6,3 +6,4 @@ pub use checking::check;
 
 pub mod accepted;
 pub mod checking;
+mod jumps;

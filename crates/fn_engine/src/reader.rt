@@ -145,6 +145,7 @@ fn read_sketched(
 }
 
 /// What the walk finds, which judges each called filling at its end, to tell the method to blame.
+#[inline(never)]
 fn read_judged(
     alloc: Global,
     accepted: &Accepted,

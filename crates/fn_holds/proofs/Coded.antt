@@ -18,7 +18,7 @@ use Rattle.fn_filling.specs.Fillings.{level, listing_of, sides_of, inner_of}
 use Rattle.fn_filling.specs.Entries.{Path, below}
 use Rattle.fn_fits.specs.Fits.{Context, side_of, vals, two_values, crc_values, method_of, reference_of}
 use Rattle.fn_holds.specs.declared.coding.Coding.TheVariants as coding
-use Rattle.fn_holds.specs.Coding.{with_covered, has_reference, pair_of, four_of, coding_of}
+use Rattle.fn_holds.specs.Coding.{with_covered, has_reference, pair_of, four_of, coding_of, HasSpelling, IsCarried}
 use Rattle.fn_holds.specs.Ready.{IsCovered, IsCoded}
 use Rattle.fn_holds.specs.declared.coding.Coding.{Coding}
 use Rattle.fn_holds.specs.Level.{AllRanged}
@@ -148,3 +148,60 @@ uncoded f a (library.Crc crc) e = by (vals a (crc.bits ∷ crc.polynomial ∷ cr
     by (Some (a ∷ b ∷ d ∷ [])) e = refl
     by (Some (a ∷ b ∷ d ∷ n ∷ [])) e = let wrong : Some (coding.Crc a b d n) ≡ None = e in absurd cc
     by (Some (a ∷ b ∷ d ∷ n ∷ m ∷ rest)) e = refl
+
+-- ---- methods that are judged without a coding
+
+two_are : (f : ℤ → ℤ → Method) (o q : Option ℤ) (m : Method) → two_values f o q ≡ Some m → (x : ℤ) × (y : ℤ) × (o ≡ Some x) × (q ≡ Some y) × (f x y ≡ m)
+two_are f None q m e = let wrong : None ≡ Some m = e in absurd cc
+two_are f (Some x) None m e = let wrong : None ≡ Some m = e in absurd cc
+two_are f (Some x) (Some y) m e = let both : Some (f x y) ≡ Some m = e in (x, y, refl, refl, cc)
+
+one_is : (f : ℤ → Method) (o : Option ℤ) (m : Method) → option_map f o ≡ Some m → (x : ℤ) × (o ≡ Some x) × (f x ≡ m)
+one_is f None m e = let wrong : None ≡ Some m = e in absurd cc
+one_is f (Some x) m e = let both : Some (f x) ≡ Some m = e in (x, refl, cc)
+
+module _ (ctx : Context) (path : Path) (f : Filling) (a : Assignment) (d : Field) (g : FilledField) (outer : inner_of g ≡ None) where
+  pub spelled_up : (len v : Expr) → (HasSpelling a len v (sides_of g).uncompressed × ((sides_of g).compressed ≡ [])) ↔ IsCoded ctx path f a d (library.UncompressedValue len v) g
+  spelled_up len v = (
+    λ h. record {
+      outer = outer;
+      method = lib.uncompressed_value h.0.count h.0.number;
+      method_is = rw (h.0.count_is, h.0.number_is) refl;
+      related = (h.0.spells, h.1);
+    },
+    λ c.
+        let t = two_are lib.uncompressed_value (val a len) (val a v) c.method c.method_is in
+        let r = subst (λ m. Lib m (reference_of d.declared.part ctx (below path d.declared.name) d.initial) (sides_of g).uncompressed (sides_of g).compressed) (sym t.4) c.related in
+        (record { count = t.0; count_is = t.2; number = t.1; number_is = t.3; spells = r.0 }, r.1),
+  )
+
+  pub spelled_down : (len v : Expr) → (HasSpelling a len v (sides_of g).compressed × ((sides_of g).uncompressed ≡ [])) ↔ IsCoded ctx path f a d (library.CompressedValue len v) g
+  spelled_down len v = (
+    λ h. record {
+      outer = outer;
+      method = lib.compressed_value h.0.count h.0.number;
+      method_is = rw (h.0.count_is, h.0.number_is) refl;
+      related = (h.1, h.0.spells);
+    },
+    λ c.
+        let t = two_are lib.compressed_value (val a len) (val a v) c.method c.method_is in
+        let r = subst (λ m. Lib m (reference_of d.declared.part ctx (below path d.declared.name) d.initial) (sides_of g).uncompressed (sides_of g).compressed) (sym t.4) c.related in
+        (record { count = t.0; count_is = t.2; number = t.1; number_is = t.3; spells = r.1 }, r.0),
+  )
+
+  pub carried_is : (len : Expr) → IsCarried a len (sides_of g).uncompressed (sides_of g).compressed ↔ IsCoded ctx path f a d (library.Irregular len) g
+  carried_is len = (
+    λ h. record {
+      outer = outer;
+      method = lib.irregular h.count;
+      method_is = rw h.count_is refl;
+      related = h.related;
+    },
+    λ c.
+        let t = one_is lib.irregular (val a len) c.method c.method_is in
+        record {
+          count = t.0;
+          count_is = t.1;
+          related = subst (λ m. Lib m (reference_of d.declared.part ctx (below path d.declared.name) d.initial) (sides_of g).uncompressed (sides_of g).compressed) (sym t.2) c.related;
+        },
+  )

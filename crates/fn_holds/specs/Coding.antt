@@ -1,7 +1,8 @@
 -- A library method with the values of its arguments, without the bits that a crc covers.
-use Rattle.std.specs.Prelude.{Bool, true, false, List, [], ◌∷◌, ℤ, Option, Some, None, option_map}
+use Rattle.std.specs.Prelude.{◌≡◌, ◌≤◌, Bool, true, false, List, [], ◌∷◌, length, ℤ, pos, Option, Some, None, option_map}
 use Rattle.fn_expr.specs.Values.{Assignment, val}
-use Rattle.fn_lib.specs.Methods.{Method}
+use Rattle.fn_expr.specs.declared.expr.Expr.{Expr}
+use Rattle.fn_lib.specs.Methods.{Method, Spells}
 use Rattle.fn_lib.specs.Methods as lib
 use Rattle.fn_normal.specs.declared.profile.Library.{Library}
 use Rattle.fn_normal.specs.declared.profile.Library.TheVariants as library
@@ -44,3 +45,17 @@ coding_of a (library.Irregular len) = option_map coding.Irregular (val a len)
 coding_of a library.Static = Some coding.Static
 coding_of a (library.Lsb k offset) = pair_of coding.Lsb (val a k) (val a offset)
 coding_of a (library.Crc crc) = four_of (vals a (crc.bits ∷ crc.polynomial ∷ crc.initial ∷ crc.length ∷ []))
+
+-- the bits are as many as the one expression says, at most 64, and spell the value of the other
+pub record HasSpelling (a : Assignment) (len v : Expr) (bits : List Bool) : Type 0 where
+  pub count : ℤ
+  pub count_is : val a len ≡ Some count
+  pub number : ℤ
+  pub number_is : val a v ≡ Some number
+  pub spells : Spells count number bits
+
+-- both sides are the same bits, as many as the expression says, at most 64
+pub record IsCarried (a : Assignment) (len : Expr) (u c : List Bool) : Type 0 where
+  pub count : ℤ
+  pub count_is : val a len ≡ Some count
+  pub related : (u ≡ c) × (pos (length u) ≡ count) × (length u ≤ 64)

@@ -8,8 +8,9 @@ ghost use Rattle.fn_bounds.specs.Laws.{library_exprs};
 ghost use Rattle.fn_holds.specs.Level.{AllRanged};
 ghost use Rattle.fn_holds.specs.Coding as spec;
 
+use crate::constraints::number_in;
 use fn_bits::Bits;
-use fn_expr::{Known, value};
+use fn_expr::Known;
 use fn_lib::{
     compressed_value_down, compressed_value_up, crc_down, crc_up, irregular_down, irregular_up,
     lsb_down, lsb_up, static_down, static_up, uncompressed_value_down, uncompressed_value_up,
@@ -69,29 +70,29 @@ pub fn coding_of(library: &Library, known: &Known) -> Option<Coding>
             length,
             value: number,
         } => Some(Coding::UncompressedValue {
-            length: value(length, known)?,
-            value: value(number, known)?,
+            length: number_in(length, known)?,
+            value: number_in(number, known)?,
         }),
         Library::CompressedValue {
             length,
             value: number,
         } => Some(Coding::CompressedValue {
-            length: value(length, known)?,
-            value: value(number, known)?,
+            length: number_in(length, known)?,
+            value: number_in(number, known)?,
         }),
         Library::Irregular { length } => Some(Coding::Irregular {
-            length: value(length, known)?,
+            length: number_in(length, known)?,
         }),
         Library::Static => Some(Coding::Static),
         Library::Lsb { bits, offset } => Some(Coding::Lsb {
-            bits: value(bits, known)?,
-            offset: value(offset, known)?,
+            bits: number_in(bits, known)?,
+            offset: number_in(offset, known)?,
         }),
         Library::Crc(crc) => Some(Coding::Crc {
-            bits: value(&crc.bits, known)?,
-            polynomial: value(&crc.polynomial, known)?,
-            initial: value(&crc.initial, known)?,
-            length: value(&crc.length, known)?,
+            bits: number_in(&crc.bits, known)?,
+            polynomial: number_in(&crc.polynomial, known)?,
+            initial: number_in(&crc.initial, known)?,
+            length: number_in(&crc.length, known)?,
         }),
     }
 }

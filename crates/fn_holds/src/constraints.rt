@@ -3,6 +3,7 @@
 ghost use Rattle.std.specs.Prelude.{◌≡◌, ◌↔◌, ℕ, pos, IsTrue, Some, slice_get, length};
 ghost use Rattle.fn_expr.specs.Values.{val};
 ghost use Rattle.fn_expr.specs.Known.{assignment_of};
+ghost use Rattle.fn_expr.specs.Spread.{IsRanged};
 ghost use Rattle.fn_expr.specs.declared.expr.Expr.{Expr};
 ghost use Rattle.fn_expr.specs.declared.expr.Subject.TheVariants as subject;
 ghost use Rattle.fn_normal.specs.declared.profile.Constraint.{Constraint};
@@ -69,9 +70,31 @@ fn is_value_of(length: usize, expressions: &[Expr], known: &Known) -> bool
     ensures { IsTrue result ↔ ((n : ℕ) × (e : Expr) × (slice_get expressions.now n ≡ Some e) × (val (assignment_of known.now) e ≡ Some (pos length))) }
 {
     for expression in expressions {
-        if value(expression, known) == Some(length as i128) {
+        if is_number(expression, known, length as i128) {
             return true;
         }
     }
     false
+}
+
+/// The value of an expression, where it has one. Most are plain numbers.
+pub(crate) fn number_in(expression: &Expr, known: &Known) -> Option<i128>
+    requires { IsRanged (assignment_of known.now) expression.now }
+    ensures { result ≡ val (assignment_of known.now) expression.now }
+{
+    match expression {
+        Expr::Number(_, own) => Some(*own),
+        _ => value(expression, known),
+    }
+}
+
+/// Whether the expression has that value.
+pub(crate) fn is_number(expression: &Expr, known: &Known, number: i128) -> bool
+    requires { IsRanged (assignment_of known.now) expression.now }
+    ensures { IsTrue result ↔ (val (assignment_of known.now) expression.now ≡ Some number) }
+{
+    match expression {
+        Expr::Number(_, own) => *own == number,
+        _ => value(expression, known) == Some(number),
+    }
 }

@@ -8,15 +8,18 @@ ghost use Rattle.fn_bounds.specs.Laws.{library_exprs};
 ghost use Rattle.fn_filling.specs.Fillings as spec;
 ghost use Rattle.fn_filling.specs.Fillings.{sides_of, inner_of, listing_of};
 ghost use Rattle.fn_fits.specs.Fits.{side_of};
+ghost use Rattle.fn_expr.specs.Spread.{IsRanged};
+ghost use Rattle.fn_holds.specs.Coding.{HasSpelling, IsCarried};
 ghost use Rattle.fn_holds.specs.Level.{AllRanged};
 ghost use Rattle.fn_holds.specs.Ready.{IsShown, IsCovered, IsCoded};
 
 use crate::coding::{coding_of, is_related};
+use crate::constraints::is_number;
 use crate::level::Level;
 use crate::sides::reference_below;
 use fn_bits::Bits;
 use fn_context::Context;
-use fn_expr::{Side, Subject};
+use fn_expr::{Expr, Known, Side, Subject};
 use fn_filling::FilledField;
 use fn_normal::{Field, Library};
 use std::alloc::{AllocError, Global};
@@ -45,6 +48,57 @@ pub(crate) fn is_coded(
     if filled.inner.is_some() {
         return Ok(false);
     }
+    let (up, down) = (&filled.uncompressed, &filled.compressed);
+    match library {
+        Library::UncompressedValue { length, value } => {
+            Ok(down.is_empty() && is_spelled(&level.known, length, value, up))
+        }
+        Library::CompressedValue { length, value } => {
+            Ok(up.is_empty() && is_spelled(&level.known, length, value, down))
+        }
+        Library::Irregular { length } => Ok(is_carried(&level.known, length, up, down)),
+        Library::Static | Library::Lsb { .. } | Library::Crc(_) => {
+            is_made(alloc, context, path, level, field, library, filled)
+        }
+    }
+}
+
+/// Whether the bits are as many as the one expression says, at most 64, and spell the value of the other.
+fn is_spelled(known: &Known, length: &Expr, number: &Expr, bits: &Bits) -> bool
+    requires length { IsRanged (assignment_of known.now) length.now }
+    requires number { IsRanged (assignment_of known.now) number.now }
+    ensures { IsTrue result ↔ HasSpelling (assignment_of known.now) length.now number.now bits.now }
+{
+    let Some(found) = bits.value() else {
+        return false;
+    };
+    is_number(length, known, bits.len() as i128) && is_number(number, known, found as i128)
+}
+
+/// Whether both sides are the same bits, as many as the expression says, at most 64.
+fn is_carried(known: &Known, length: &Expr, up: &Bits, down: &Bits) -> bool
+    requires { IsRanged (assignment_of known.now) length.now }
+    ensures { IsTrue result ↔ IsCarried (assignment_of known.now) length.now up.now down.now }
+{
+    up.len() <= 64 && is_number(length, known, up.len() as i128) && *up == *down
+}
+
+/// Whether the method makes the packed side of the other one, where it may refer to the context or cover bits.
+#[inline(never)]
+fn is_made(
+    alloc: Global,
+    context: &Context,
+    path: &str,
+    level: &Level<'_>,
+    field: &Field,
+    library: &Library,
+    filled: &FilledField,
+) -> Result<bool, AllocError>
+    requires ranged { AllRanged level.now.known (library_exprs library.now) }
+    requires shown { IsShown level.now.format.now level.now.filling.now level.now.header.now level.now.packed.now }
+    requires outer { inner_of filled.now ≡ None }
+    ensures { IfOk result (λ b. IsTrue b ↔ IsCoded (bits_at context.now) path.now level.now.filling.now (assignment_of level.now.known) field.now library.now filled.now) }
+{
     let Some(coding) = coding_of(library, &level.known) else {
         return Ok(false);
     };

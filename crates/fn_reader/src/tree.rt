@@ -10,7 +10,7 @@ use fn_cert::Node;
 
 /// Where the way through a tree leads.
 #[derive(Clone, Copy)]
-pub enum Lead {
+pub(crate) enum Lead {
     /// To a format, by its index.
     Format(usize),
     Nowhere,
@@ -19,7 +19,7 @@ pub enum Lead {
 }
 
 /// Where the tree, its nodes in preorder, leads under these arguments and for the bits so many places after the cursor's.
-pub fn follow(nodes: &[Node], arguments: &[i128], cursor: &Cursor<'_>, from: usize) -> Lead
+pub(crate) fn follow(nodes: &[Node], arguments: &[i128], cursor: &Cursor<'_>, from: usize) -> Lead
     ensures { result ≡ lead_of (way (drop from cursor.now.left) arguments.now 0 nodes.now) }
 {
     let mut skipped = 0;

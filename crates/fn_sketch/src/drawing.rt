@@ -3,6 +3,7 @@
 use crate::sheet::Sheet;
 use crate::steps::follow;
 use crate::stop::Stop;
+use crate::tree::format_for;
 use crate::values::values;
 use fn_bits::{Bits, Cursor};
 use fn_cert::{MethodPlans, Step};
@@ -10,7 +11,6 @@ use fn_checker::Accepted;
 use fn_context::Context;
 use fn_filling::{Filling, below};
 use fn_normal::{Encoding, Format};
-use fn_reader::{Lead, follow as lead_by};
 use sqlite_items::at;
 use std::alloc::{AllocError, Global};
 
@@ -121,7 +121,11 @@ fn start<'a>(
     let Some(entry) = entry_at(desk.accepted.certificate().methods(), desk.method) else {
         return Err(Stop::Nowhere);
     };
-    let Lead::Format(index) = lead_by(entry.tree.as_slice(), desk.arguments, cursor, from) else {
+    let Some(sizes) = at(desk.accepted.tree_sizes(), desk.method) else {
+        return Err(Stop::Nowhere);
+    };
+    let (nodes, sizes) = (entry.tree.as_slice(), sizes.as_slice());
+    let Some(index) = format_for(nodes, sizes, desk.arguments, cursor, from) else {
         return Err(Stop::Nowhere);
     };
     let Some(format) = format_at(desk.accepted, desk.method, index) else {

@@ -7,4 +7,5 @@ mod drawing;
 mod sheet;
 mod steps;
 mod stop;
+mod tree;
 mod values;

@@ -4,7 +4,7 @@ use crate::sheet::Sheet;
 use fn_bits::Bits;
 use fn_expr::{Attribute, Expr, Measure, Operator, Side, Subject};
 use fn_normal::Part;
-use sqlite_items::Items;
+use smallvec::SmallVec;
 use std::alloc::{AllocError, Global};
 
 /// The value of an expression, if one is found by what was drawn so far.
@@ -26,8 +26,8 @@ pub(crate) fn values(
     alloc: Global,
     sheet: &Sheet<'_>,
     exprs: &[Expr],
-) -> Result<Option<Items<i128>>, AllocError> {
-    let mut found = Items::new(alloc);
+) -> Result<Option<SmallVec<i128, 4>>, AllocError> {
+    let mut found = SmallVec::new(alloc);
     for expr in exprs {
         match value(alloc, sheet, expr) {
             Some(number) => found.push(number)?,

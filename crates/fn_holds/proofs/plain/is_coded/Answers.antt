@@ -1,35 +1,38 @@
-use Rattle.std.proofs.Common.{rules, ◌∙◌, sym}
-use Rattle.std.specs.Prelude.{IsTrue, ◌↔◌, None}
-use Rattle.std.specs.Option.{option_copied}
+use Rattle.std.proofs.Common.{rules, refl}
 use Rattle.fn_context.specs.Entries.{bits_at}
 use Rattle.fn_expr.specs.Known.{assignment_of}
-use Rattle.fn_filling.specs.Entries.{below}
-use Rattle.fn_filling.specs.Fillings.{sides_of}
-use Rattle.fn_fits.specs.Fits.{reference_of}
-use Rattle.fn_holds.specs.Ready.{IsCoded}
-use Rattle.fn_holds.proofs.Coded.{any_reference, coded_is, ok_weaker}
+use Rattle.fn_holds.proofs.Coded.{argument_ranged, spelled_up, spelled_down, carried_is}
 use Rattle.fn_holds.proofs.plain.is_coded.Goals as goal
 
-pub returns-then-not-has_reference : goal.returns-then-not-has_reference
-returns-then-not-has_reference c =
-    let d = c.args.field.now in
-    let g = c.args.filled.now in
-    let f = c.args.level.now.filling.now in
-    let a = assignment_of c.args.level.now.known in
-    let ref = reference_of d.declared.part (bits_at c.args.context.now) (below c.args.path.now d.declared.name) d.initial in
-    ok_weaker _ (λ b. IsTrue b ↔ IsCoded (bits_at c.args.context.now) c.args.path.now f a d c.args.library.now g) c.is_related.result
-    (λ b same. coded_is (bits_at c.args.context.now) c.args.path.now f a d c.args.library.now g c.covered_by-covered.result.now c.in-Some.coding ref b (search rules)
-    (sym c.coding_of.ensures ∙ c.in-Some.is) c.covered_by-covered.ensures (λ i. ref)
-    (any_reference c.covered_by-covered.result.now c.in-Some.coding None ref (sides_of g).uncompressed (sides_of g).compressed b (search rules) same))
-    c.is_related.ensures
+pub is_spelled-requires-clause-length : goal.is_spelled-requires-clause-length
+is_spelled-requires-clause-length c = argument_ranged c.args.level.now.known 0 c.requires.ranged c.in-UncompressedValue.is refl
 
-pub returns : goal.returns
-returns c =
-    let d = c.args.field.now in
-    let g = c.args.filled.now in
-    let f = c.args.level.now.filling.now in
-    let a = assignment_of c.args.level.now.known in
-    ok_weaker _ (λ b. IsTrue b ↔ IsCoded (bits_at c.args.context.now) c.args.path.now f a d c.args.library.now g) c.is_related-2.result
-    (λ b same. coded_is (bits_at c.args.context.now) c.args.path.now f a d c.args.library.now g c.covered_by-covered.result.now c.in-Some.coding
-    (option_copied c.in_ok-reference.reference) b (search rules) (sym c.coding_of.ensures ∙ c.in-Some.is) c.covered_by-covered.ensures c.in_ok-reference.ensures same)
-    c.is_related-2.ensures
+pub is_spelled-requires-clause-number : goal.is_spelled-requires-clause-number
+is_spelled-requires-clause-number c = argument_ranged c.args.level.now.known 1 c.requires.ranged c.in-UncompressedValue.is refl
+
+pub is_spelled-requires-then-is_empty-2-clause-length : goal.is_spelled-requires-then-is_empty-2-clause-length
+is_spelled-requires-then-is_empty-2-clause-length c = argument_ranged c.args.level.now.known 0 c.requires.ranged c.in-CompressedValue.is refl
+
+pub is_spelled-requires-then-is_empty-2-clause-number : goal.is_spelled-requires-then-is_empty-2-clause-number
+is_spelled-requires-then-is_empty-2-clause-number c = argument_ranged c.args.level.now.known 1 c.requires.ranged c.in-CompressedValue.is refl
+
+pub is_carried-requires : goal.is_carried-requires
+is_carried-requires c = argument_ranged c.args.level.now.known 0 c.requires.ranged c.in-Irregular.is refl
+
+pub returns-then-is_empty : goal.returns-then-is_empty
+returns-then-is_empty c =
+    let same = spelled_up (bits_at c.args.context.now) c.args.path.now c.args.level.now.filling.now (assignment_of c.args.level.now.known) c.args.field.now c.args.filled.now
+    (search rules) c.in-UncompressedValue.length c.in-UncompressedValue.value in
+    rw c.in-UncompressedValue.is (λ t. same.0 (c.is_spelled.ensures.0 t, c.if-is_empty.ensures.0 refl), λ h. c.is_spelled.ensures.1 (same.1 h).0)
+
+pub returns-then-is_empty-2 : goal.returns-then-is_empty-2
+returns-then-is_empty-2 c =
+    let same = spelled_down (bits_at c.args.context.now) c.args.path.now c.args.level.now.filling.now (assignment_of c.args.level.now.known) c.args.field.now c.args.filled.now
+    (search rules) c.in-CompressedValue.length c.in-CompressedValue.value in
+    rw c.in-CompressedValue.is (λ t. same.0 (c.is_spelled-then-is_empty-2.ensures.0 t, c.if-is_empty-2.ensures.0 refl), λ h. c.is_spelled-then-is_empty-2.ensures.1 (same.1 h).0)
+
+pub returns-in-Irregular : goal.returns-in-Irregular
+returns-in-Irregular c =
+    let same = carried_is (bits_at c.args.context.now) c.args.path.now c.args.level.now.filling.now (assignment_of c.args.level.now.known) c.args.field.now c.args.filled.now
+    (search rules) c.in-Irregular.length in
+    rw c.in-Irregular.is (λ t. same.0 (c.is_carried.ensures.0 t), λ h. c.is_carried.ensures.1 (same.1 h))
