@@ -1,13 +1,14 @@
 -- Lines and words, one after the other.
-use Rattle.std.proofs.Common.{◌≡◌, ℕ, zero, suc, ◌+◌, ◌<◌, ◌≤◌, Bool, List, [], ◌∷◌, ◌++◌, length, take, drop, map, get_or, ap, refl, sym, ◌∙◌, subst, arith}
+use Rattle.std.proofs.Common.{◌≡◌, ◌==◌, ℕ, zero, suc, ◌+◌, ◌<◌, ◌≤◌, Bool, List, [], ◌∷◌, ◌++◌, length, take, drop, map, get_or, ap, refl, sym, ◌∙◌, subst, arith}
 use Rattle.std.specs.Borrow.{Bor}
-use Rattle.std.specs.List.{AllZip}
+use Rattle.std.specs.List.{AllZip, slice_split}
 use Rattle.std.specs.Str.{IsUtf8}
 use Rattle.std.specs.Prelude.{Option, Some, None, IsTrue, true, false, if◌then◌else◌}
 use Rattle.std.proofs.lemmas.List.{take_more, take_all, map-append, take-append-drop, drop_more}
+use Rattle.std.proofs.lemmas.List.Splits.{slice_split_none}
 use Rattle.fn_bits.specs.declared.lines.Line.{Line}
 use Rattle.fn_bits.specs.Lines.{numbered_lines}
-use Rattle.fn_context.proofs.Paths.{Lacks, name_lacks, cut_once}
+use Rattle.fn_context.proofs.Paths.{All-Lacks, Lacks, name_lacks, cut_once}
 use Rattle.fn_context.specs.Entries.{Entries}
 use Rattle.fn_context.specs.Path.{is_name}
 use Rattle.fn_context.specs.Text.{IsReading, Blames as BlamesText}
@@ -73,6 +74,11 @@ broken_in reads octets bad.OutOfMemory h = tt
 pub broken_at : (part : Option (Bor (List ℕ))) (octets : Bor (List ℕ)) (e : BadLine) → part ≡ Some octets → BlamesBroken e octets.now → BlamesContext e part
 broken_at part octets (bad.Number n) is h = subst (BlamesContext (bad.Number n)) (sym is) (broken_context h.0 h.1)
 broken_at part octets bad.OutOfMemory is h = tt
+
+-- ---- a line of one word
+
+pub one_word : (line : List ℕ) → Lacks 32 line → slice_split (λ octet. octet == 32) line ≡ line ∷ []
+one_word line h = slice_split_none (λ octet. octet == 32) line (All-Lacks 32 line h)
 
 -- ---- a value of an item
 

@@ -13,6 +13,7 @@ pub mod ProgramBytes
 pub mod ProgramNames
 pub mod ProgramReplies
 pub mod Replying
+pub mod Spelled
 pub mod Stepping
 pub mod WordsLemmas
 pub mod WordsRead

@@ -14,8 +14,6 @@ use Rattle.fn_normal.specs.declared.fault.ProfileFault.{ProfileFault}
 use Rattle.fn_names.specs.Readings.{HasCause, IsTextFault, Reads}
 use Rattle.fn_profile.specs.Resolved.{Resolved}
 use Rattle.fn_show.specs.Shown as listing
-use Rattle.rohcfn_tool.specs.declared.printing.Printed.{Printed}
-use Rattle.rohcfn_tool.specs.declared.printing.Printed.TheVariants as printed
 use Rattle.rohcfn_tool.specs.declared.status.Answer.{Answer}
 use Rattle.rohcfn_tool.specs.declared.status.Status.{Status}
 use Rattle.rohcfn_tool.specs.declared.status.Status.TheVariants as status
@@ -80,26 +78,26 @@ module _ {X : Type 0} (says : Says X) (faults : Faults X) (shows : Bool) (start 
   printed_start out e s rest h = subst (λ o. Prints says faults shows start 1 inputs s (o ++ rest)) (sym e) h
 
   -- a line more
-  pub printed_on : (i : ℕ) (d x : X) (ctx reached : Entries) (out new : List ℕ) (o : Printed) (text : String Global) → i < length inputs → x ≡ get_or inputs i d → SoFar says faults shows start inputs i ctx out → IsStep says faults ctx reached (i + 1) x o → o ≡ printed.Line text
-      → new ≡ out ++ string_bytes text ++ 10 ∷ [] → SoFar says faults shows start inputs (i + 1) reached new
-  printed_on i d x ctx reached out new o text h e so step is n s rest more =
-      let l = subst (λ (y : Printed). IsStep says faults ctx reached (i + 1) x y) is step in
+  pub printed_on : (i : ℕ) (d x : X) (ctx reached : Entries) (out new : List ℕ) (b : Bool) → i < length inputs → x ≡ get_or inputs i d → SoFar says faults shows start inputs i ctx out → IsStep says faults ctx reached out new (i + 1) x b → b ≡ false
+      → SoFar says faults shows start inputs (i + 1) reached new
+  printed_on i d x ctx reached out new b h e so step is s rest more =
+      let l = subst (λ (y : Bool). IsStep says faults ctx reached out new (i + 1) x y) is step in
+      let text = l.1.0 in
       let here : drop i inputs ≡ x ∷ drop (i + 1) inputs = drop_more inputs i d h ∙ ap (λ y. y ∷ drop (i + 1) inputs) (sym e) in
       let next_one : Prints says faults shows (next ctx l.0) (i + 1 + 1) (drop (i + 1) inputs) s rest = subst (λ c. Prints says faults shows c (i + 1 + 1) (drop (i + 1) inputs) s rest) l.2 more in
-      let lines : Prints says faults shows ctx (i + 1) (x ∷ drop (i + 1) inputs) s (string_bytes text ++ 10 ∷ rest) = line l.0 (string_bytes text) rest l.1 next_one in
-      subst (λ o. Prints says faults shows start 1 inputs s o) (joined out (string_bytes text) rest ∙ ap (λ o. o ++ rest) (sym n))
-      (so s (string_bytes text ++ 10 ∷ rest) (subst (λ xs. Prints says faults shows ctx (i + 1) xs s (string_bytes text ++ 10 ∷ rest)) (sym here) lines))
+      let lines : Prints says faults shows ctx (i + 1) (x ∷ drop (i + 1) inputs) s (text ++ 10 ∷ rest) = line l.0 text rest l.1.1 next_one in
+      subst (λ o. Prints says faults shows start 1 inputs s o) (joined out text rest ∙ ap (λ o. o ++ rest) (sym l.1.2))
+      (so s (text ++ 10 ∷ rest) (subst (λ xs. Prints says faults shows ctx (i + 1) xs s (text ++ 10 ∷ rest)) (sym here) lines))
 
   -- the line that refuses
-  pub printed_fault : (i : ℕ) (d x : X) (ctx reached : Entries) (out written : List ℕ) (o : Printed) (text : String Global) (r : Result Answer AllocError) → i < length inputs → x ≡ get_or inputs i d → SoFar says faults shows start inputs i ctx out → IsStep says faults ctx reached (i + 1) x o
-      → o ≡ printed.Fault text → written ≡ string_bytes text → IfOk r (IsRefusal (out ++ written)) → IfOk r (Holds (Prints says faults shows start 1 inputs))
-  printed_fault i d x ctx reached out written o text r h e so step is w g =
-      let f = subst (λ (y : Printed). IsStep says faults ctx reached (i + 1) x y) is step in
+  pub printed_fault : (i : ℕ) (d x : X) (ctx reached : Entries) (out new : List ℕ) (b : Bool) → i < length inputs → x ≡ get_or inputs i d → SoFar says faults shows start inputs i ctx out → IsStep says faults ctx reached out new (i + 1) x b → b ≡ true
+      → Prints says faults shows start 1 inputs status.Refused new
+  printed_fault i d x ctx reached out new b h e so step is =
+      let f = subst (λ (y : Bool). IsStep says faults ctx reached out new (i + 1) x y) is step in
       let here : drop i inputs ≡ x ∷ drop (i + 1) inputs = drop_more inputs i d h ∙ ap (λ y. y ∷ drop (i + 1) inputs) (sym e) in
-      let last : Prints says faults shows ctx (i + 1) (x ∷ drop (i + 1) inputs) status.Refused (string_bytes text ++ 10 ∷ []) = fault (string_bytes text) f.0 f.1 in
-      let whole = so status.Refused (string_bytes text ++ 10 ∷ []) (subst (λ xs. Prints says faults shows ctx (i + 1) xs status.Refused (string_bytes text ++ 10 ∷ [])) (sym here) last) in
-      let shaped : Prints says faults shows start 1 inputs status.Refused ((out ++ string_bytes text) ++ 10 ∷ []) = subst (λ o. Prints says faults shows start 1 inputs status.Refused o) (sym (append_assoc out (string_bytes text) (10 ∷ []))) whole in
-      refusal_is (Prints says faults shows start 1 inputs) (out ++ string_bytes text) (out ++ written) r shaped (ap (λ t. out ++ t) w) g
+      let last : Prints says faults shows ctx (i + 1) (x ∷ drop (i + 1) inputs) status.Refused (f.0 ++ 10 ∷ []) = fault f.0 f.1.0 f.1.1 in
+      let whole = so status.Refused (f.0 ++ 10 ∷ []) (subst (λ xs. Prints says faults shows ctx (i + 1) xs status.Refused (f.0 ++ 10 ∷ [])) (sym here) last) in
+      subst (λ o. Prints says faults shows start 1 inputs status.Refused o) (sym (f.2 ∙ append_assoc out f.0 (10 ∷ []))) whole
 
   -- after the last
   pub printed_end : (i : ℕ) (ctx : Entries) (out : List ℕ) (r : Result Answer AllocError) → length inputs ≤ i → SoFar says faults shows start inputs i ctx out → IfOk r (IsFinished shows ctx out) → IfOk r (Holds (Prints says faults shows start 1 inputs))

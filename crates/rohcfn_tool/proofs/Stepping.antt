@@ -1,5 +1,5 @@
 -- The line of one item or packet.
-use Rattle.std.proofs.Common.{◌≡◌, ◌∙◌, ℕ, Bool, List, [], ◌∷◌, ◌++◌, drop, get_or, length, ◌<◌, ◌≤◌, ◌+◌, map, refl, ap, sym, subst, append_assoc}
+use Rattle.std.proofs.Common.{◌≡◌, ◌∙◌, ℕ, Bool, List, [], ◌∷◌, ◌++◌, drop, get_or, length, ◌<◌, ◌≤◌, ◌+◌, map, codes, decimal, true, false, refl, ap, sym, subst, append_assoc}
 use Rattle.std.specs.Prelude.{String, string_bytes}
 use Rattle.std.specs.Global.{Global}
 use Rattle.std.proofs.lemmas.List.{append-nil, drop_more, drop_all}
@@ -17,51 +17,85 @@ use Rattle.fn_engine.specs.Reading as reading
 use Rattle.fn_engine.specs.Writing as writing
 use Rattle.fn_engine.specs.declared.reader.Read.{Read}
 use Rattle.fn_engine.specs.declared.reader.UnpackFault.{UnpackFault}
+use Rattle.fn_engine.specs.declared.writer.PackFault.{PackFault}
 use Rattle.fn_engine.specs.declared.writer.Written.{Written}
-use Rattle.rohcfn_tool.specs.declared.printing.Printed.TheVariants as printed
-use Rattle.rohcfn_tool.specs.ItemTexts.{AreValuesText, IsItemText, IsValueText}
+use Rattle.rohcfn_tool.specs.ItemTexts.{AreValuesText, HasMore, IsItemText, IsValueText}
 use Rattle.rohcfn_tool.specs.OneLine.{IsLine}
 use Rattle.rohcfn_tool.proofs.OneLines.{packet_faults}
-use Rattle.rohcfn_tool.specs.Printed.{FaultsPacket, IsItemStep, IsPacketFault, IsPacketStep, IsTaken}
+use Rattle.rohcfn_tool.specs.Printed.{IsBitsLine, IsItemStep, IsPacketFault, IsPacketStep, IsReadLine, IsRefusedItem, IsRefusedPacket, IsTaken}
 
 -- ---- items
 
-pub packed_step : (a : Accepting) (old new : Entries) (n : ℕ) (it : Item) (w : Written) (line : String Global) → writing.IsWritten a old it w → IsText (string_bytes line) w.packed → new ≡ overridden old (map (λ e. (string_bytes e.0, e.1)) w.entries.items)
-    → IsItemStep a old new n it (printed.Line line)
-packed_step a old new n it w line is text reached =
-    (w.filling, record { best = is.best; spelled = subst (IsText (string_bytes line)) is.packed_is text }, reached ∙ ap (overridden old) is.entries_are)
+pub packed_step : (a : Accepting) (old new : Entries) (before after : List ℕ) (n : ℕ) (it : Item) (w : Written) → writing.IsWritten a old it w → IsBitsLine w.packed before after → new ≡ overridden old (map (λ e. (string_bytes e.0, e.1)) w.entries.items)
+    → IsItemStep a old new before after n it false
+packed_step a old new before after n it w is text reached =
+    (w.filling, (text.0, record { best = is.best; spelled = subst (IsText text.0) is.packed_is text.1 }, text.2), reached ∙ ap (overridden old) is.entries_are)
+
+pub item_refused : (a : Accepting) (old : Entries) (before after : List ℕ) (n : ℕ) (it : Item) (e : PackFault) → writing.Blames e a old it → IsRefusedItem e n before after → IsItemStep a old old before after n it true
+item_refused a old before after n it e blames is = (is.0, ((e, blames, is.1.0), is.1.1), is.2)
 
 -- ---- packets
 
-pub read_step : (a : Accepting) (old new : Entries) (n : ℕ) (packet : List Bool) (from to : Place) (r : Read) (line : String Global) → from ≡ record { used = []; left = packet } → reading.IsRead a old from to r → IsTaken r.item r.bits (string_bytes line)
-    → new ≡ overridden old (map (λ e. (string_bytes e.0, e.1)) r.entries.items) → IsPacketStep a old new n packet (printed.Line line)
-read_step a old new n packet from to r line start is text reached =
-    let item_here = subst (λ it. IsTaken it r.bits (string_bytes line)) is.item_is text in (
+pub read_step : (a : Accepting) (old new : Entries) (before after : List ℕ) (n : ℕ) (packet : List Bool) (from to : Place) (r : Read) → from ≡ record { used = []; left = packet } → reading.IsRead a old from to r → IsReadLine r.item r.bits before after
+    → new ≡ overridden old (map (λ e. (string_bytes e.0, e.1)) r.entries.items) → IsPacketStep a old new before after n packet false
+read_step a old new before after n packet from to r start is text reached =
+    let item_here = subst (λ it. IsTaken it r.bits text.0) is.item_is text.1 in (
       r.filling,
-      record {
-        fits = record { fits = is.fits; rest = to.left; front = sym (ap (λ (p : Place). p.left) start) ∙ is.advances.left };
-        taken = subst (λ k. IsTaken (item r.filling) k (string_bytes line)) is.bits_is item_here;
-      },
+      (
+        text.0,
+        record {
+          fits = record { fits = is.fits; rest = to.left; front = sym (ap (λ (p : Place). p.left) start) ∙ is.advances.left };
+          taken = subst (λ k. IsTaken (item r.filling) k text.0) is.bits_is item_here;
+        },
+        text.2,
+      ),
       reached ∙ ap (overridden old) is.entries_are,
     )
 
-pub packet_faulted : (a : Accepting) (ctx : Entries) (n : ℕ) (packet : List Bool) (from : Place) (e : UnpackFault) (p : Resolved) (methods : List Method) (text : List ℕ) → from ≡ record { used = []; left = packet } → reading.Blames e a ctx from.left → p ≡ a.profile → methods ≡ p.methods
-    → IsPacketFault e methods n text → IsSound p → FaultsPacket a ctx n packet text × IsLine text
-packet_faulted a ctx n packet from e p methods text start blames same shown is sound =
+pub packet_refused : (a : Accepting) (old : Entries) (before after : List ℕ) (n : ℕ) (packet : List Bool) (from : Place) (e : UnpackFault) → from ≡ record { used = []; left = packet } → reading.Blames e a old from.left → IsRefusedPacket a e n before after
+    → IsPacketStep a old old before after n packet true
+packet_refused a old before after n packet from e start blames is =
+    (is.0, ((e, subst (reading.Blames e a old) (ap (λ (q : Place). q.left) start) blames, is.1.0), is.1.1), is.2)
+
+pub packet_faulted : (a : Accepting) (n : ℕ) (e : UnpackFault) (p : Resolved) (methods : List Method) (text line before after : List ℕ) → p ≡ a.profile → methods ≡ p.methods → IsPacketFault e methods n text → IsSound p → line ≡ text → after ≡ before ++ line ++ 10 ∷ []
+    → IsRefusedPacket a e n before after
+packet_faulted a n e p methods text line before after same shown is sound told grown =
     let words : AreWords methods = subst AreWords (sym shown) sound.words in
-    ((e, subst (reading.Blames e a ctx) (ap (λ (q : Place). q.left) start) blames, subst (λ ms. IsPacketFault e ms n text) (shown ∙ ap (λ (q : Resolved). q.methods) same) is), packet_faults e methods n text words is)
+    (text, (subst (λ ms. IsPacketFault e ms n text) (shown ∙ ap (λ (q : Resolved). q.methods) same) is, packet_faults e methods n text words is), grown ∙ ap (λ l. before ++ l ++ 10 ∷ []) told)
+
+pub took_line : (it : Item) (count : ℕ) (before mid after : List ℕ) → HasMore (IsItemText it) before mid → after ≡ mid ++ codes " took " ++ decimal count ++ 10 ∷ [] → IsReadLine it count before after
+took_line it count before mid after h e =
+    (h.0 ++ codes " took " ++ decimal count, (h.0, h.1, refl), e ∙ ap (λ m. m ++ codes " took " ++ decimal count ++ 10 ∷ []) h.2 ∙ (simp append_assoc))
 
 -- ---- the text of an item
 
-abbrev pub ValuesSoFar : Item → List AskedValue → List ℕ → Type 0
-ValuesSoFar it values text = (rest : List ℕ) → AreValuesText values rest → IsItemText it (text ++ rest)
+pub item_grown : (it : Item) (values : List AskedValue) (before mid after : List ℕ) → HasMore (λ text. IsText text it.header) before mid → values ≡ it.asked → HasMore (AreValuesText values) mid after → HasMore (IsItemText it) before after
+item_grown it values before mid after h same g =
+    (h.0 ++ g.0, (h.0, g.0, h.1, subst (λ vs. AreValuesText vs g.0) same g.1, refl), g.2 ∙ ap (λ m. m ++ g.0) h.2 ∙ append_assoc before h.0 g.0)
 
-pub values_more : (it : Item) (values : List AskedValue) (i : ℕ) (d v : AskedValue) (text word new : List ℕ) → i < length values → v ≡ get_or values i d → ValuesSoFar it (drop i values) text → IsValueText v word → new ≡ text ++ word → ValuesSoFar it (drop (i + 1) values) new
-values_more it values i d v text word new inside at so_far is joined rest more =
-    let here : drop i values ≡ v ∷ drop (i + 1) values = drop_more values i d inside ∙ ap (λ y. y ∷ drop (i + 1) values) (sym at) in
-    let all : AreValuesText (drop i values) (word ++ rest) = subst (λ vs. AreValuesText vs (word ++ rest)) (sym here) (word, rest, is, more, refl) in
-    subst (IsItemText it) (sym (append_assoc text word rest) ∙ ap (λ t. t ++ rest) (sym joined)) (so_far (word ++ rest) all)
+-- the values so far are the front of all values
+abbrev pub ValuesSoFar : List AskedValue → List AskedValue → List ℕ → List ℕ → Type 0
+ValuesSoFar all left before now = HasMore (λ front. (rest : List ℕ) → AreValuesText left rest → AreValuesText all (front ++ rest)) before now
 
-pub values_end : (it : Item) (values : List AskedValue) (i : ℕ) (text : List ℕ) → length values ≤ i → ValuesSoFar it (drop i values) text → IsItemText it text
-values_end it values i text whole so_far =
-    subst (IsItemText it) (append-nil text) (so_far [] (subst (λ vs. AreValuesText vs []) (sym (drop_all i values whole)) refl))
+pub values_start : (all : List AskedValue) (text : List ℕ) → ValuesSoFar all (drop 0 all) text text
+values_start all text = ([], λ rest h. h, sym (append-nil text))
+
+pub values_more : (values : List AskedValue) (i : ℕ) (d v : AskedValue) (before text new : List ℕ) → i < length values → v ≡ get_or values i d → ValuesSoFar values (drop i values) before text → HasMore (IsValueText v) text new
+    → ValuesSoFar values (drop (i + 1) values) before new
+values_more values i d v before text new inside at so_far is =
+    let here : drop i values ≡ v ∷ drop (i + 1) values = drop_more values i d inside ∙ ap (λ y. y ∷ drop (i + 1) values) (sym at) in (
+      so_far.0 ++ is.0,
+      λ rest more.
+        let all : AreValuesText (drop i values) (is.0 ++ rest) = subst (λ vs. AreValuesText vs (is.0 ++ rest)) (sym here) (is.0, rest, is.1, more, refl) in
+        subst (AreValuesText values) (sym (append_assoc so_far.0 is.0 rest)) (so_far.1 (is.0 ++ rest) all),
+      is.2 ∙ ap (λ t. t ++ is.0) so_far.2 ∙ append_assoc before so_far.0 is.0,
+    )
+
+pub values_end : (values : List AskedValue) (i : ℕ) (before text : List ℕ) → length values ≤ i → ValuesSoFar values (drop i values) before text → HasMore (AreValuesText values) before text
+values_end values i before text whole so_far =
+    let last : AreValuesText (drop i values) [] = subst (λ vs. AreValuesText vs []) (sym (drop_all i values whole)) refl in
+    (so_far.0, subst (AreValuesText values) (append-nil so_far.0) (so_far.1 [] last), so_far.2)
+
+pub value_grown : (v : AskedValue) (name before mid after : List ℕ) → name ≡ v.name → mid ≡ before ++ codes " " ++ name ++ codes "=" → HasMore (λ spelled. IsText spelled v.bits) mid after → HasMore (IsValueText v) before after
+value_grown v name before mid after same e h =
+    (codes " " ++ v.name ++ codes "=" ++ h.0, (h.0, h.1, refl), h.2 ∙ ap (λ m. m ++ h.0) (e ∙ ap (λ n. before ++ codes " " ++ n ++ codes "=") same) ∙ (simp append_assoc))

@@ -15,3 +15,9 @@ AreValuesText (v ∷ vs) text = (word : List ℕ) × (rest : List ℕ) × IsValu
 -- an item: the text of its header, then its values
 abbrev pub IsItemText : Item → List ℕ → Type 0
 IsItemText it text = (front : List ℕ) × (values : List ℕ) × IsText front it.header × AreValuesText it.asked values × (text ≡ front ++ values)
+
+-- ---- a text that grows
+
+-- the text goes on by one of which this is so
+abbrev pub HasMore : (List ℕ → Type 0) → List ℕ → List ℕ → Type 0
+HasMore P before after = (text : List ℕ) × P text × (after ≡ before ++ text)

@@ -22,8 +22,6 @@ use Rattle.fn_engine.specs.declared.reader.UnpackFault.TheVariants.{Truncated, R
 use Rattle.fn_engine.specs.declared.writer.PackFault.{PackFault}
 use Rattle.fn_engine.specs.declared.writer.PackFault.TheVariants as writer
 use Rattle.rohcfn_tool.specs.declared.bundle.Parts.{Parts}
-use Rattle.rohcfn_tool.specs.declared.printing.Printed.{Printed}
-use Rattle.rohcfn_tool.specs.declared.printing.Printed.TheVariants as printed
 use Rattle.rohcfn_tool.specs.declared.status.Answer.{Answer}
 use Rattle.rohcfn_tool.specs.declared.status.Status.{Status}
 use Rattle.rohcfn_tool.specs.declared.status.Status.TheVariants as status
@@ -244,13 +242,32 @@ pub record IsFinished (shows : Bool) (ctx : Entries) (lines : List ℕ) (a : Ans
   pub ends : IsEnd shows ctx text
   pub output_is : string_bytes a.output ≡ lines ++ text
 
--- a line for an input, after which the context is the next, or the one line of its refusal
-abbrev pub IsStep : {X : Type 0} → (Entries → X → Filling → List ℕ → Type 0) → (Entries → ℕ → X → List ℕ → Type 0) → Entries → Entries → ℕ → X → Printed → Type 0
-IsStep says faults old new n x (printed.Line text) = (f : Filling) × says old x f (string_bytes text) × (new ≡ next old f)
-IsStep says faults old new n x (printed.Fault text) = faults old n x (string_bytes text) × IsLine (string_bytes text)
+-- the output goes on by a line of which this is so
+abbrev pub HasLine : (List ℕ → Type 0) → List ℕ → List ℕ → Type 0
+HasLine P before after = (text : List ℕ) × P text × (after ≡ before ++ text ++ 10 ∷ [])
 
-abbrev pub IsItemStep : Accepting → Entries → Entries → ℕ → Item → Printed → Type 0
-IsItemStep a old new n it = IsStep (IsItemLine a) (FaultsItem a) old new n it
+-- the line of a refusal, which is one line
+abbrev pub IsRefusedItem : PackFault → ℕ → List ℕ → List ℕ → Type 0
+IsRefusedItem e n = HasLine (λ text. IsItemFault e n text × IsLine text)
 
-abbrev pub IsPacketStep : Accepting → Entries → Entries → ℕ → List Bool → Printed → Type 0
-IsPacketStep a old new n packet = IsStep (IsPacketLine a) (FaultsPacket a) old new n packet
+abbrev pub IsRefusedPacket : Accepting → UnpackFault → ℕ → List ℕ → List ℕ → Type 0
+IsRefusedPacket a e n = HasLine (λ text. IsPacketFault e a.profile.methods n text × IsLine text)
+
+-- the line of packed bits
+abbrev pub IsBitsLine : List Bool → List ℕ → List ℕ → Type 0
+IsBitsLine bits = HasLine (λ text. IsText text bits)
+
+-- the line of an item that was read
+abbrev pub IsReadLine : Item → ℕ → List ℕ → List ℕ → Type 0
+IsReadLine it count = HasLine (IsTaken it count)
+
+-- The output goes on by a line for an input, after which the context is the next; or, where it was refused, by the one line of its refusal.
+abbrev pub IsStep : {X : Type 0} → (Entries → X → Filling → List ℕ → Type 0) → (Entries → ℕ → X → List ℕ → Type 0) → Entries → Entries → List ℕ → List ℕ → ℕ → X → Bool → Type 0
+IsStep says faults old new before after n x false = (f : Filling) × HasLine (says old x f) before after × (new ≡ next old f)
+IsStep says faults old new before after n x true = HasLine (λ text. faults old n x text × IsLine text) before after
+
+abbrev pub IsItemStep : Accepting → Entries → Entries → List ℕ → List ℕ → ℕ → Item → Bool → Type 0
+IsItemStep a old new before after n it = IsStep (IsItemLine a) (FaultsItem a) old new before after n it
+
+abbrev pub IsPacketStep : Accepting → Entries → Entries → List ℕ → List ℕ → ℕ → List Bool → Bool → Type 0
+IsPacketStep a old new before after n packet = IsStep (IsPacketLine a) (FaultsPacket a) old new before after n packet

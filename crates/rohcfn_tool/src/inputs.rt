@@ -139,6 +139,18 @@ fn read_item(alloc: Global, line: &str) -> Result<Option<Item>, AllocError>
     ensures found { IfOk result (λ o. IfSome o (IsItem line.now)) }
     ensures none { IfOk result (λ o. IfNone o ((it : Item) → IsItem line.now it → ⊥)) }
 {
+    match line.split_once(' ') {
+        Some(_) => item_in(alloc, line),
+        None => item_of(alloc, &[line]),
+    }
+}
+
+/// The item of a line of any number of words.
+#[inline(never)]
+fn item_in(alloc: Global, line: &str) -> Result<Option<Item>, AllocError>
+    ensures found { IfOk result (λ o. IfSome o (IsItem line.now)) }
+    ensures none { IfOk result (λ o. IfNone o ((it : Item) → IsItem line.now it → ⊥)) }
+{
     let words = pieces(alloc, line)?;
     item_of(alloc, words.as_slice())
 }

@@ -12,6 +12,7 @@ pub mod program;
 pub mod proving;
 pub mod replies;
 pub mod showing;
+mod spelling;
 pub mod status;
 pub mod verdicts;
 pub mod words;

@@ -8,7 +8,7 @@ use crate::accepting::{Judged, accept};
 use crate::bundle::Parts;
 use crate::events::{read_events, read_octets};
 use crate::inputs::BadLine;
-use crate::printing::{item_text, push_line};
+use crate::printing::{push_item_text, push_line};
 use crate::replies::refusal;
 use crate::status::{Answer, Status};
 use crate::words::End;
@@ -214,9 +214,9 @@ fn push_items(alloc: Global, output: &mut String, items: &[(Flow, Item)]) -> Res
 fn push_item(alloc: Global, output: &mut String, flow: Flow, item: &Item) -> Result<(), AllocError>
     ensures { OnOk result (spec.IsItemPushed flow item.now (string_bytes output.old) (string_bytes output.new)) }
 {
-    let text = item_text(alloc, item)?;
     let mut buffer = Buffer::new();
     output.push_str(buffer.format(flow.number()))?;
     output.push(' ')?;
-    push_line(output, text.as_str())
+    push_item_text(alloc, output, item)?;
+    output.push('\n')
 }

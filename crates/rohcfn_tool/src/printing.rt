@@ -2,9 +2,10 @@
 
 ghost use Rattle.std.specs.Prelude.{◌≡◌, ◌∷◌, ◌++◌, [], true, IfOk, OnOk, codes, decimal, string_bytes};
 ghost use Rattle.rohcfn_tool.specs.OneLine.{IsLine};
-ghost use Rattle.rohcfn_tool.specs.ItemTexts.{IsItemText, IsValueText};
+ghost use Rattle.rohcfn_tool.specs.ItemTexts.{AreValuesText, HasMore, IsItemText, IsValueText};
 ghost use Rattle.rohcfn_tool.specs.Printed as spec;
 
+use crate::spelling::push_bits;
 use crate::status::{Answer, Status};
 use crate::verdicts::{format_name, method_name};
 use fn_bits::{Bits, Cursor};
@@ -16,15 +17,6 @@ use fn_normal::Method;
 use fn_reader::Blamed;
 use itoa::Buffer;
 use std::alloc::{AllocError, Global};
-
-/// A line of the output.
-#[derive(Drop)]
-pub enum Printed {
-    /// The line of an item or a packet.
-    Line(String),
-    /// The line of its refusal, which is the last.
-    Fault(String),
-}
 
 /// A line of packed bits for each item, up to the first that is refused, and after the last the context that is reached, where it is wanted.
 pub(crate) fn pack_all(
@@ -39,9 +31,12 @@ pub(crate) fn pack_all(
     let mut context = start;
     let mut output = String::new(alloc);
     for (i, item) in items.iter().enumerate() {
-        match pack_one(alloc, accepted, &mut context, i + 1, item)? {
-            Printed::Line(line) => push_line(&mut output, line.as_str())?,
-            Printed::Fault(line) => return refused_after(output, line.as_str()),
+        let refused = pack_one(alloc, accepted, &mut context, &mut output, i + 1, item)?;
+        if refused {
+            return Ok(Answer {
+                status: Status::Refused,
+                output,
+            });
         }
     }
     finish(alloc, shows, output, &context)
@@ -60,9 +55,12 @@ pub(crate) fn unpack_all(
     let mut context = start;
     let mut output = String::new(alloc);
     for (i, packet) in packets.iter().enumerate() {
-        match unpack_one(alloc, accepted, &mut context, i + 1, packet)? {
-            Printed::Line(line) => push_line(&mut output, line.as_str())?,
-            Printed::Fault(line) => return refused_after(output, line.as_str()),
+        let refused = unpack_one(alloc, accepted, &mut context, &mut output, i + 1, packet)?;
+        if refused {
+            return Ok(Answer {
+                status: Status::Refused,
+                output,
+            });
         }
     }
     finish(alloc, shows, output, &context)
@@ -73,18 +71,6 @@ pub(crate) fn push_line(output: &mut String, line: &str) -> Result<(), AllocErro
 {
     output.push_str(line)?;
     output.push('\n')
-}
-
-/// The lines so far, and the one that refuses.
-fn refused_after(output: String, line: &str) -> Result<Answer, AllocError>
-    ensures { IfOk result (spec.IsRefusal (string_bytes output ++ line.now)) }
-{
-    let mut output = output;
-    push_line(&mut output, line)?;
-    Ok(Answer {
-        status: Status::Refused,
-        output,
-    })
 }
 
 /// The lines, and the context after them where it is wanted.
@@ -122,15 +108,16 @@ fn with_context(alloc: Global, output: String, context: &Context) -> Result<Answ
 
 // ---- items
 
-/// The line of an item, whose number counts from 1. The context goes on to the next.
+/// Adds the line of an item, whose number counts from 1. The context goes on to the next. Whether it was refused.
 fn pack_one(
     alloc: Global,
     accepted: &Accepted,
     context: &mut Context,
+    output: &mut String,
     number: usize,
     item: &Item,
-) -> Result<Printed, AllocError>
-    ensures { IfOk result (spec.IsItemStep accepted.now context.old context.new number item.now) }
+) -> Result<bool, AllocError>
+    ensures { IfOk result (spec.IsItemStep accepted.now context.old context.new (string_bytes output.old) (string_bytes output.new) number item.now) }
 {
     match pack(alloc, accepted, context, item) {
         Ok(
@@ -140,12 +127,38 @@ fn pack_one(
                 entries,
             },
         ) => {
-            let line = packed.print_text(alloc)?;
+            push_packed(alloc, output, &packed)?;
             context.replace(entries)?;
-            Ok(Printed::Line(line))
+            Ok(false)
         }
-        Err(fault) => Ok(Printed::Fault(item_fault(alloc, number, fault)?)),
+        Err(fault) => {
+            refuse_item(alloc, output, number, fault)?;
+            Ok(true)
+        }
     }
+}
+
+/// Adds a line of bits.
+fn push_packed(alloc: Global, output: &mut String, packed: &Bits) -> Result<(), AllocError>
+    ensures { OnOk result (spec.IsBitsLine packed.now (string_bytes output.old) (string_bytes output.new)) }
+{
+    push_bits(alloc, output, packed)?;
+    output.push('\n')
+}
+
+/// Adds the line of a refused item.
+#[inline(never)]
+fn refuse_item(
+    alloc: Global,
+    output: &mut String,
+    number: usize,
+    fault: PackFault,
+) -> Result<(), AllocError>
+    ensures { OnOk result (spec.IsRefusedItem fault number (string_bytes output.old) (string_bytes output.new)) }
+{
+    let line = item_fault(alloc, number, fault)?;
+    push_line(output, line.as_str())?;
+    Ok(())
 }
 
 /// The line of a refused item.
@@ -178,15 +191,16 @@ fn asked_line(alloc: Global, number: usize, name: &str) -> Result<String, AllocE
 
 // ---- packets
 
-/// The line of a packet, whose number counts from 1. The context goes on to the next.
+/// Adds the line of a packet, whose number counts from 1. The context goes on to the next. Whether it was refused.
 fn unpack_one(
     alloc: Global,
     accepted: &Accepted,
     context: &mut Context,
+    output: &mut String,
     number: usize,
     packet: &Bits,
-) -> Result<Printed, AllocError>
-    ensures { IfOk result (spec.IsPacketStep accepted.now context.old context.new number packet.now) }
+) -> Result<bool, AllocError>
+    ensures { IfOk result (spec.IsPacketStep accepted.now context.old context.new (string_bytes output.old) (string_bytes output.new) number packet.now) }
 {
     let mut cursor = Cursor::new(packet);
     match unpack(alloc, accepted, context, &mut cursor) {
@@ -198,60 +212,91 @@ fn unpack_one(
                 entries,
             },
         ) => {
-            let line = read_line(alloc, &item, bits)?;
+            push_read(alloc, output, &item, bits)?;
             context.replace(entries)?;
-            Ok(Printed::Line(line))
+            Ok(false)
         }
         Err(fault) => {
-            let profile = accepted.profile();
-            profile.keeps();
-            let methods = profile.methods();
-            Ok(Printed::Fault(packet_fault(alloc, methods, number, fault)?))
+            refuse_packet(alloc, accepted, output, number, fault)?;
+            Ok(true)
         }
     }
 }
 
-/// An item, and how many bits its packet took.
-fn read_line(alloc: Global, item: &Item, bits: usize) -> Result<String, AllocError>
-    ensures { IfOk result (λ text. spec.IsTaken item.now bits (string_bytes text)) }
+/// Adds the line of a refused packet.
+#[inline(never)]
+fn refuse_packet(
+    alloc: Global,
+    accepted: &Accepted,
+    output: &mut String,
+    number: usize,
+    fault: UnpackFault,
+) -> Result<(), AllocError>
+    ensures { OnOk result (spec.IsRefusedPacket accepted.now fault number (string_bytes output.old) (string_bytes output.new)) }
 {
-    let mut text = item_text(alloc, item)?;
-    push_took(&mut text, bits)?;
-    Ok(text)
+    let profile = accepted.profile();
+    profile.keeps();
+    let line = packet_fault(alloc, profile.methods(), number, fault)?;
+    push_line(output, line.as_str())?;
+    Ok(())
+}
+
+/// Adds a line of an item, and how many bits its packet took.
+fn push_read(
+    alloc: Global,
+    output: &mut String,
+    item: &Item,
+    bits: usize,
+) -> Result<(), AllocError>
+    ensures { OnOk result (spec.IsReadLine item.now bits (string_bytes output.old) (string_bytes output.new)) }
+{
+    push_item_text(alloc, output, item)?;
+    push_took(output, bits)?;
+    Ok(())
 }
 
 fn push_took(text: &mut String, bits: usize) -> Result<(), AllocError>
-    ensures { OnOk result (string_bytes text.new ≡ string_bytes text.old ++ codes " took " ++ decimal bits) }
+    ensures { OnOk result (string_bytes text.new ≡ string_bytes text.old ++ codes " took " ++ decimal bits ++ 10 ∷ []) }
 {
     let mut buffer = Buffer::new();
     text.push_str(" took ")?;
-    text.push_str(buffer.format(bits))
+    push_line(text, buffer.format(bits))
 }
 
-/// The text of an item: its header, then each value after a blank.
-pub(crate) fn item_text(alloc: Global, item: &Item) -> Result<String, AllocError>
-    ensures { IfOk result (λ text. IsItemText item.now (string_bytes text)) }
+/// Adds the text of an item: its header, then each value after a blank.
+pub(crate) fn push_item_text(alloc: Global, text: &mut String, item: &Item) -> Result<(), AllocError>
+    ensures { OnOk result (HasMore (IsItemText item.now) (string_bytes text.old) (string_bytes text.new)) }
 {
-    let mut text = item.header.print_text(alloc)?;
-    for value in item.asked.as_slice() {
-        let word = value_text(alloc, value)?;
-        text.push_str(word.as_str())?;
+    push_bits(alloc, text, &item.header)?;
+    push_values(alloc, text, item.asked.as_slice())?;
+    Ok(())
+}
+
+/// Adds the text of values, each after a blank.
+fn push_values(alloc: Global, text: &mut String, values: &[AskedValue]) -> Result<(), AllocError>
+    ensures { OnOk result (HasMore (AreValuesText values.now) (string_bytes text.old) (string_bytes text.new)) }
+{
+    for value in values {
+        push_value(alloc, text, value)?;
     }
-    Ok(text)
+    Ok(())
 }
 
-/// The value of a field, after a blank.
-fn value_text(alloc: Global, value: &AskedValue) -> Result<String, AllocError>
-    ensures { IfOk result (λ text. IsValueText value.now (string_bytes text)) }
+/// Adds the value of a field, after a blank.
+fn push_value(alloc: Global, text: &mut String, value: &AskedValue) -> Result<(), AllocError>
+    ensures { OnOk result (HasMore (IsValueText value.now) (string_bytes text.old) (string_bytes text.new)) }
 {
-    let bits = value.bits.print_text(alloc)?;
-    value_words(alloc, value.name.as_str(), bits.as_str())
+    push_named(text, value.name.as_str())?;
+    push_bits(alloc, text, &value.bits)?;
+    Ok(())
 }
 
-fn value_words(alloc: Global, name: &str, bits: &str) -> Result<String, AllocError>
-    ensures { IfOk result (λ text. string_bytes text ≡ codes " " ++ name.now ++ codes "=" ++ bits.now) }
+fn push_named(text: &mut String, name: &str) -> Result<(), AllocError>
+    ensures { OnOk result (string_bytes text.new ≡ string_bytes text.old ++ codes " " ++ name.now ++ codes "=") }
 {
-    format!(in alloc; " {name}={bits}")
+    text.push(' ')?;
+    text.push_str(name)?;
+    text.push('=')
 }
 
 /// The line of a refused packet.
