@@ -18,8 +18,8 @@ use std::alloc::{AllocError, Global};
 const CALL_DEPTH: usize = 16;
 
 /// A filling of the top that may be the one whose packed bits are at the cursor's place. It is drawn by the tree and the read plans alone, and neither bounds nor constraints nor
-/// what is known already are tested on the way: nothing is promised of it, and who asks for it judges it. None where the plan leads nowhere. The error is want
-/// of memory.
+/// what is known already are tested on the way: nothing is promised of it, and who asks for it judges it. None where the plan leads nowhere, or where fewer bits are left
+/// than any packet has. The error is want of memory.
 pub fn sketch(
     alloc: Global,
     accepted: &Accepted,
@@ -27,6 +27,9 @@ pub fn sketch(
     cursor: &Cursor<'_>,
 ) -> Result<Option<Filling>, AllocError> {
     let method = accepted.profile().top();
+    if cursor.rest() < least_of(accepted, method) {
+        return Ok(None);
+    }
     let desk = Desk {
         accepted,
         context,
@@ -38,6 +41,14 @@ pub fn sketch(
         Ok(filling) => Ok(Some(filling)),
         Err(Stop::Nowhere) => Ok(None),
         Err(Stop::OutOfMemory) => Err(AllocError),
+    }
+}
+
+/// The least count of packed bits of the method, by its bounds.
+fn least_of(accepted: &Accepted, method: usize) -> usize {
+    match at(accepted.profile().sizes(), method) {
+        Some(sizes) => usize::try_from(sizes.whole.compressed.least).unwrap_or(usize::MAX),
+        None => 0,
     }
 }
 
