@@ -5,7 +5,7 @@ use Rattle.std.specs.List.{AllZip, slice_split}
 use Rattle.std.specs.Str.{IsUtf8}
 use Rattle.std.specs.Prelude.{Option, Some, None, IsTrue, true, false, if◌then◌else◌}
 use Rattle.std.proofs.lemmas.List.{take_more, take_all, map-append, take-append-drop, drop_more}
-use Rattle.std.proofs.lemmas.List.Splits.{slice_split_none}
+use Rattle.std.proofs.lemmas.List.Splits.{slice_split_at, slice_split_none}
 use Rattle.fn_bits.specs.declared.lines.Line.{Line}
 use Rattle.fn_bits.specs.Lines.{numbered_lines}
 use Rattle.fn_context.proofs.Paths.{All-Lacks, Lacks, name_lacks, cut_once}
@@ -75,10 +75,13 @@ pub broken_at : (part : Option (Bor (List ℕ))) (octets : Bor (List ℕ)) (e : 
 broken_at part octets (bad.Number n) is h = subst (BlamesContext (bad.Number n)) (sym is) (broken_context h.0 h.1)
 broken_at part octets bad.OutOfMemory is h = tt
 
--- ---- a line of one word
+-- ---- the words of a line
 
 pub one_word : (line : List ℕ) → Lacks 32 line → slice_split (λ octet. octet == 32) line ≡ line ∷ []
 one_word line h = slice_split_none (λ octet. octet == 32) line (All-Lacks 32 line h)
+
+pub more_words : (line word more : List ℕ) → line ≡ word ++ 32 ∷ more → Lacks 32 word → slice_split (λ octet. octet == 32) line ≡ word ∷ slice_split (λ octet. octet == 32) more
+more_words line word more e h = ap (slice_split (λ octet. octet == 32)) e ∙ slice_split_at (λ octet. octet == 32) word 32 more (All-Lacks 32 word h) refl
 
 -- ---- a value of an item
 

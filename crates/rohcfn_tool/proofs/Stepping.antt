@@ -1,7 +1,6 @@
 -- The line of one item or packet.
 use Rattle.std.proofs.Common.{◌≡◌, ◌∙◌, ℕ, Bool, List, [], ◌∷◌, ◌++◌, drop, get_or, length, ◌<◌, ◌≤◌, ◌+◌, map, codes, decimal, true, false, refl, ap, sym, subst, append_assoc}
-use Rattle.std.specs.Prelude.{String, string_bytes}
-use Rattle.std.specs.Global.{Global}
+use Rattle.std.specs.Prelude.{string_bytes}
 use Rattle.std.proofs.lemmas.List.{append-nil, drop_more, drop_all}
 use Rattle.fn_bits.specs.Cursor.{Place}
 use Rattle.fn_bits.specs.Text.{IsText}
@@ -20,7 +19,6 @@ use Rattle.fn_engine.specs.declared.reader.UnpackFault.{UnpackFault}
 use Rattle.fn_engine.specs.declared.writer.PackFault.{PackFault}
 use Rattle.fn_engine.specs.declared.writer.Written.{Written}
 use Rattle.rohcfn_tool.specs.ItemTexts.{AreValuesText, HasMore, IsItemText, IsValueText}
-use Rattle.rohcfn_tool.specs.OneLine.{IsLine}
 use Rattle.rohcfn_tool.proofs.OneLines.{packet_faults}
 use Rattle.rohcfn_tool.specs.Printed.{IsBitsLine, IsItemStep, IsPacketFault, IsPacketStep, IsReadLine, IsRefusedItem, IsRefusedPacket, IsTaken}
 

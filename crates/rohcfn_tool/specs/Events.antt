@@ -34,6 +34,13 @@ AreEventWords (word ∷ words) (Reset flow) = (word ≡ codes "reset") × AreRes
 abbrev pub IsEvent : List ℕ → Event → Type 0
 IsEvent line e = AreEventWords (slice_split (λ octet. octet == 32) line) e
 
+-- the words between the blanks are a flow and an item; or a flow, and nothing else
+abbrev pub IsSend : List ℕ → ℕ → Item → Type 0
+IsSend text flow it = AreSendWords (slice_split (λ octet. octet == 32) text) flow it
+
+abbrev pub IsReset : List ℕ → ℕ → Type 0
+IsReset text flow = AreResetWords (slice_split (λ octet. octet == 32) text) flow
+
 -- the text less its white space
 abbrev pub without_space : List ℕ → List ℕ
 without_space text = filter (λ octet. not (is_space octet)) text

@@ -4,10 +4,10 @@ ghost use Rattle.std.specs.Prelude.{◌≡◌, ℕ, List, IfOk, IfErr, IfSome, I
 ghost use Rattle.fn_source.specs.Lexical.{is_space};
 ghost use Rattle.fn_filling.specs.declared.filling.Item.{Item};
 ghost use Rattle.fn_line.specs.declared.runs.Event.{Event};
-ghost use Rattle.rohcfn_tool.specs.Events.{AreEventWords, AreOctets, AreResetWords, AreSendWords, IsEvent, IsFlow, without_space};
+ghost use Rattle.rohcfn_tool.specs.Events.{AreOctets, AreResetWords, IsEvent, IsFlow, IsReset, IsSend, without_space};
 ghost use Rattle.rohcfn_tool.specs.Inputs.{BlamesLine, HasLines};
 
-use crate::inputs::{BadLine, bad_line_of, item_of, pieces};
+use crate::inputs::{BadLine, bad_line_of, pieces, read_item};
 use fn_bits::lines::lines;
 use fn_filling::Item;
 use fn_line::{Event, Flow};
@@ -39,25 +39,16 @@ fn read_event(alloc: Global, line: &str) -> Result<Option<Event>, AllocError>
     ensures found { IfOk result (λ o. IfSome o (IsEvent line.now)) }
     ensures none { IfOk result (λ o. IfNone o ((e : Event) → IsEvent line.now e → ⊥)) }
 {
-    let words = pieces(alloc, line)?;
-    event_of(alloc, words.as_slice())
-}
-
-/// The event of words, or `None` where they are none.
-fn event_of(alloc: Global, words: &[&str]) -> Result<Option<Event>, AllocError>
-    ensures found { IfOk result (λ o. IfSome o (AreEventWords (map (λ w. w.now) words.now))) }
-    ensures none { IfOk result (λ o. IfNone o ((e : Event) → AreEventWords (map (λ w. w.now) words.now) e → ⊥)) }
-{
-    let [word, more @ ..] = words else {
+    let Some((word, more)) = line.split_once(' ') else {
         return Ok(None);
     };
-    if *word == "send" {
-        match send_of(alloc, more)? {
+    if word == "send" {
+        match read_send(alloc, more)? {
             Some(sent) => Ok(Some(Event::Send(sent.0, sent.1))),
             None => Ok(None),
         }
-    } else if *word == "reset" {
-        match reset_of(more) {
+    } else if word == "reset" {
+        match read_reset(alloc, more)? {
             Some(flow) => Ok(Some(Event::Reset(flow))),
             None => Ok(None),
         }
@@ -67,20 +58,29 @@ fn event_of(alloc: Global, words: &[&str]) -> Result<Option<Event>, AllocError>
 }
 
 /// The flow and the item of a send, or `None` where the words are none.
-fn send_of(alloc: Global, words: &[&str]) -> Result<Option<(Flow, Item)>, AllocError>
-    ensures found { IfOk result (λ o. IfSome o (λ sent. AreSendWords (map (λ w. w.now) words.now) sent.0 sent.1)) }
-    ensures none { IfOk result (λ o. IfNone o ((flow : ℕ) (it : Item) → AreSendWords (map (λ w. w.now) words.now) flow it → ⊥)) }
+fn read_send(alloc: Global, words: &str) -> Result<Option<(Flow, Item)>, AllocError>
+    ensures found { IfOk result (λ o. IfSome o (λ sent. IsSend words.now sent.0 sent.1)) }
+    ensures none { IfOk result (λ o. IfNone o ((flow : ℕ) (it : Item) → IsSend words.now flow it → ⊥)) }
 {
-    let [flow, item @ ..] = words else {
+    let Some((flow, item)) = words.split_once(' ') else {
         return Ok(None);
     };
     let Some(flow) = read_flow(flow) else {
         return Ok(None);
     };
-    match item_of(alloc, item)? {
+    match read_item(alloc, item)? {
         Some(item) => Ok(Some((flow, item))),
         None => Ok(None),
     }
+}
+
+/// The flow of a reset, or `None` where the words are none.
+fn read_reset(alloc: Global, words: &str) -> Result<Option<Flow>, AllocError>
+    ensures found { IfOk result (λ o. IfSome o (IsReset words.now)) }
+    ensures none { IfOk result (λ o. IfNone o ((flow : ℕ) → IsReset words.now flow → ⊥)) }
+{
+    let words = pieces(alloc, words)?;
+    Ok(reset_of(words.as_slice()))
 }
 
 /// The flow of a reset, or `None` where the words are none.

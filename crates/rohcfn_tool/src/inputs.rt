@@ -135,7 +135,7 @@ fn read_bits(alloc: Global, text: &str) -> Result<Option<Bits>, AllocError>
 }
 
 /// The item of a line, or `None` where it is none.
-fn read_item(alloc: Global, line: &str) -> Result<Option<Item>, AllocError>
+pub(crate) fn read_item(alloc: Global, line: &str) -> Result<Option<Item>, AllocError>
     ensures found { IfOk result (λ o. IfSome o (IsItem line.now)) }
     ensures none { IfOk result (λ o. IfNone o ((it : Item) → IsItem line.now it → ⊥)) }
 {
@@ -156,7 +156,7 @@ fn item_in(alloc: Global, line: &str) -> Result<Option<Item>, AllocError>
 }
 
 /// The item of words, or `None` where they are none.
-pub(crate) fn item_of(alloc: Global, words: &[&str]) -> Result<Option<Item>, AllocError>
+fn item_of(alloc: Global, words: &[&str]) -> Result<Option<Item>, AllocError>
     ensures found { IfOk result (λ o. IfSome o (AreItemWords (map (λ word. word.now) words.now))) }
     ensures none { IfOk result (λ o. IfNone o ((it : Item) → AreItemWords (map (λ word. word.now) words.now) it → ⊥)) }
 {

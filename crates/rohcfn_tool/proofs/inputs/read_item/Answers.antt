@@ -1,4 +1,4 @@
-use Rattle.std.proofs.Common.{List, ℕ, ◌∷◌, [], sym, subst, arith}
+use Rattle.std.proofs.Common.{List, ℕ, sym, subst, arith}
 use Rattle.std.specs.Prelude.{None, IfOk, IfSome, IfNone}
 use Rattle.std.proofs.lemmas.Str.Pattern.{split_parts}
 use Rattle.fn_context.proofs.Paths.{Lacks-from}
