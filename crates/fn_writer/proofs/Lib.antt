@@ -10,3 +10,4 @@ pub mod Whole
 pub mod Learning
 pub mod Choosing
 pub mod Taken
+pub mod Refuted

@@ -36,6 +36,7 @@ use Rattle.fn_writing.proofs.Knowing.{start_known}
 use Rattle.fn_writer.specs.declared.fault.WriteFault.{WriteFault}
 use Rattle.fn_writer.specs.declared.fault.WriteFault.TheVariants.{Failed, OutOfMemory}
 use Rattle.fn_writer.specs.Going.{Serves, IsDeep, IsGoing, BlamesAt, Begins}
+use Rattle.fn_writer.specs.Refuting.{NeverBegins}
 use Rattle.fn_writer.specs.Walking.{site_of, site_at, Fails, Blames, IsWritten}
 use Rattle.fn_writer.proofs.Inner.{moved}
 
@@ -61,15 +62,19 @@ module _ (place : Place) (stands : Stands place) (c : ℕ) (start : Start) (b : 
   abbrev p : Resolved
   p = place.accepted.now.profile
 
-  -- where no filling of the format fits none has the number
-  pub never_fits : NeverFits place start.format → (source : List Bool) (asked : List AskedValue) (alike : ℕ) → alike + start.digits.rest ≡ start.digits.span → ShareDigits start.digits alike → Fails place source asked c alike
-  never_fits never source asked alike count share = record {
+  -- where none of the format begins the source none has the number
+  pub never_begins : (source : List Bool) → NeverBegins place start.format source → (asked : List AskedValue) (alike : ℕ) → alike + start.digits.rest ≡ start.digits.span → ShareDigits start.digits alike → Fails place source asked c alike
+  never_begins source never asked alike count share = record {
     some = let below = b.reading.below in omega (arith, below, count);
     within = λ n at. let room = b.room n at in omega (arith, room, count);
     none = writing_fails p.methods p.sizes p.top place.accepted.now.certificate place.accepted.now.counts b.checked (bits_at place.context.now) (site_of place source asked) start.format b.format b.plans.write c start.digits
-        b.reading (λ f h. never f h.begins.fits
+        b.reading (λ f h. never asked f h.begins
         (b.reading.all f (tried p.methods p.sizes p.top place.accepted.now.certificate place.accepted.now.counts b.checked (bits_at place.context.now) (site_of place source asked) f h.begins) h.within).format_is) alike share;
   }
+
+  -- where no filling of the format fits none begins the source
+  pub never_fits : NeverFits place start.format → (source : List Bool) (asked : List AskedValue) (alike : ℕ) → alike + start.digits.rest ≡ start.digits.span → ShareDigits start.digits alike → Fails place source asked c alike
+  never_fits never source asked alike count share = never_begins source (λ asked f h. never f h.fits) asked alike count share
 
   module _ (scene : Scene) (is : IsSceneOf place start.format scene) where
     pub serves : Serves place.accepted.now scene

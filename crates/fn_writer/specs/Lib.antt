@@ -1,3 +1,4 @@
 pub mod Walking
 pub mod Going
 pub mod Taking
+pub mod Refuting

@@ -8,6 +8,7 @@ mod beginning;
 mod calling;
 mod ending;
 pub mod fault;
+mod refuting;
 mod stepping;
 mod taking;
 pub mod writing;

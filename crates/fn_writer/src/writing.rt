@@ -13,8 +13,9 @@ use crate::beginning::start_at;
 use crate::calling::{header_from, is_header_at, own_bits, passed_on, place_of, radix_of};
 use crate::ending::{finish, plans_of};
 use crate::fault::WriteFault;
+use crate::refuting::is_refuted;
 use crate::stepping::{choose_step, fault_of, plain_step};
-use fn_best::Digits;
+use fn_best::{Digits, Start};
 use fn_bits::Cursor;
 use fn_cert::Step;
 use fn_checker::Accepted;
@@ -50,6 +51,32 @@ pub fn write_method(
     let Some(start) = start_at(place, number) else {
         return Err(WriteFault::Failed(1));
     };
+    if is_refuted(place, start.format, source, from) {
+        return Err(WriteFault::Failed(start.digits.alike()));
+    }
+    write_format(depth, alloc, place, start, source, from, asked, number)
+}
+
+/// Writes it where its number begins so.
+#[cycle(writing)]
+#[inline(never)]
+fn write_format(
+    depth: usize,
+    alloc: Global,
+    place: &Place<'_>,
+    start: Start,
+    source: &Cursor<'_>,
+    from: usize,
+    asked: &[AskedValue],
+    number: u64,
+) -> Result<Filling, WriteFault>
+    requires stands { Stands place.now }
+    requires deep { HasDepth place.now depth }
+    requires within { from ≤ length source.now.left }
+    requires begins { going.Begins place.now number start }
+    ensures found { IfOk result (spec.IsWritten place.now (drop from source.now.left) asked.now number) }
+    ensures fault { IfErr result (λ e. spec.Blames e place.now (drop from source.now.left) asked.now number) }
+{
     let mut digits = start.digits;
     let Some(mut level) = place.level(alloc, start.format)? else {
         return Err(WriteFault::Failed(digits.alike()));

@@ -10,6 +10,7 @@ use Rattle.fn_walk.specs.Standing.{NeverFits, IsAtStart}
 use Rattle.fn_writing.specs.Writing.{header_offset, known_bits, source_for}
 use Rattle.fn_writer.proofs.Called as called
 use Rattle.fn_writer.proofs.Ended.{some_made, none_made}
+use Rattle.fn_writer.proofs.Refuted.{never_begins}
 use Rattle.fn_writer.proofs.Whole as whole
 use Rattle.fn_writer.proofs.Inner as inner
 use Rattle.fn_writer.proofs.Passing.{if_err, blames_common, plain_fails}
@@ -232,28 +233,37 @@ write_inner-returns-clause-fault t c =
     c.args.number (subst (λ z. Blames e c.place_of-place.result own z c.args.number) (c.as_slice-else-is_header_at.ensures ∙ c.new-none.ensures) h))
     c.write_method-else-is_header_at.ensures.fault
 
-pub write_method-returns-in_default-2-clause-fault : goal.write_method-returns-in_default-2-clause-fault
-write_method-returns-in_default-2-clause-fault t c =
-    whole.never_fits c.args.place.now c.requires.stands c.args.number c.in-Some.start c.in-Some.ensures.found
-    (none_made (NeverFits c.args.place.now c.in-Some.start.format) c.in_ok-level.field-0 c.in_default-2.not-Some c.in_ok-level.ensures.none) (drop c.args.from c.args.source.now.left) c.args.asked.now c.alike.result
-    c.alike.ensures.count c.alike.ensures.share
-
-pub write_method-follow-requires : goal.write_method-follow-requires
-write_method-follow-requires t c =
+pub write_method-returns-then-is_refuted-clause-fault : goal.write_method-returns-then-is_refuted-clause-fault
+write_method-returns-then-is_refuted-clause-fault t c =
     let place = c.args.place.now in
     let bits = drop c.args.from c.args.source.now.left in
     let b = c.in-Some.ensures.found in
+    whole.never_begins place c.requires.stands c.args.number c.in-Some.start b bits (never_begins place b.sound c.in-Some.start.format bits (c.if-is_refuted.ensures refl)) c.args.asked.now c.alike.result
+    c.alike.ensures.count c.alike.ensures.share
+
+pub write_format-returns-in_default-clause-fault : goal.write_format-returns-in_default-clause-fault
+write_format-returns-in_default-clause-fault t c =
+    let start = c.args.start in
+    whole.never_fits c.args.place.now c.requires.stands c.args.number start c.requires.begins (none_made (NeverFits c.args.place.now start.format) c.in_ok-level.field-0 c.in_default.not-Some c.in_ok-level.ensures.none)
+    (drop c.args.from c.args.source.now.left) c.args.asked.now c.alike.result c.alike.ensures.count c.alike.ensures.share
+
+pub write_format-follow-requires : goal.write_format-follow-requires
+write_format-follow-requires t c =
+    let place = c.args.place.now in
+    let start = c.args.start in
+    let bits = drop c.args.from c.args.source.now.left in
+    let b = c.requires.begins in
     let is = c.scene-scene.ensures in
-    let at = some_made (IsAtStart place c.in-Some.start.format) c.in_ok-level.field-0 c.in-Some-2.level c.in-Some-2.is c.in_ok-level.ensures.found in
-    let going = whole.going place c.requires.stands c.args.number c.in-Some.start b c.scene-scene.result is c.in-Some-2.level at c.in-Some-plans_of.plans.now (sym c.in-Some-plans_of.ensures) bits c.args.asked.now in (
+    let at = some_made (IsAtStart place start.format) c.in_ok-level.field-0 c.in-Some.level c.in-Some.is c.in_ok-level.ensures.found in
+    let going = whole.going place c.requires.stands c.args.number start b c.scene-scene.result is c.in-Some.level at c.in-Some-plans_of.plans.now (sym c.in-Some-plans_of.ensures) bits c.args.asked.now in (
       omega arith,
       (
         c.requires.within,
         (
-          whole.serves place c.requires.stands c.args.number c.in-Some.start b c.scene-scene.result is,
+          whole.serves place c.requires.stands c.args.number start b c.scene-scene.result is,
           (
-            whole.deep place c.requires.stands c.args.number c.in-Some.start b c.scene-scene.result is c.args.depth c.requires.deep,
-            subst (λ z. IsGoing place.accepted.now c.scene-scene.result bits c.args.asked.now z c.args.number c.in-Some.start.digits c.in-Some-2.level) (sym c.as_slice.ensures) going,
+            whole.deep place c.requires.stands c.args.number start b c.scene-scene.result is c.args.depth c.requires.deep,
+            subst (λ z. IsGoing place.accepted.now c.scene-scene.result bits c.args.asked.now z c.args.number start.digits c.in-Some.level) (sym c.as_slice.ensures) going,
           ),
         ),
       ),
