@@ -84,8 +84,8 @@ values_more values i d v before text new inside at so_far is =
     let here : drop i values ≡ v ∷ drop (i + 1) values = drop_more values i d inside ∙ ap (λ y. y ∷ drop (i + 1) values) (sym at) in (
       so_far.0 ++ is.0,
       λ rest more.
-        let all : AreValuesText (drop i values) (is.0 ++ rest) = subst (λ vs. AreValuesText vs (is.0 ++ rest)) (sym here) (is.0, rest, is.1, more, refl) in
-        subst (AreValuesText values) (sym (append_assoc so_far.0 is.0 rest)) (so_far.1 (is.0 ++ rest) all),
+          let all : AreValuesText (drop i values) (is.0 ++ rest) = subst (λ vs. AreValuesText vs (is.0 ++ rest)) (sym here) (is.0, rest, is.1, more, refl) in
+          subst (AreValuesText values) (sym (append_assoc so_far.0 is.0 rest)) (so_far.1 (is.0 ++ rest) all),
       is.2 ∙ ap (λ t. t ++ is.0) so_far.2 ∙ append_assoc before so_far.0 is.0,
     )
 

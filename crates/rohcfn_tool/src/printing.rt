@@ -242,12 +242,7 @@ fn refuse_packet(
 }
 
 /// Adds a line of an item, and how many bits its packet took.
-fn push_read(
-    alloc: Global,
-    output: &mut String,
-    item: &Item,
-    bits: usize,
-) -> Result<(), AllocError>
+fn push_read(alloc: Global, output: &mut String, item: &Item, bits: usize) -> Result<(), AllocError>
     ensures { OnOk result (spec.IsReadLine item.now bits (string_bytes output.old) (string_bytes output.new)) }
 {
     push_item_text(alloc, output, item)?;
@@ -264,7 +259,11 @@ fn push_took(text: &mut String, bits: usize) -> Result<(), AllocError>
 }
 
 /// Adds the text of an item: its header, then each value after a blank.
-pub(crate) fn push_item_text(alloc: Global, text: &mut String, item: &Item) -> Result<(), AllocError>
+pub(crate) fn push_item_text(
+    alloc: Global,
+    text: &mut String,
+    item: &Item,
+) -> Result<(), AllocError>
     ensures { OnOk result (HasMore (IsItemText item.now) (string_bytes text.old) (string_bytes text.new)) }
 {
     push_bits(alloc, text, &item.header)?;
