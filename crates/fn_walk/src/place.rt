@@ -56,14 +56,14 @@ impl<'a> Place<'a> {
 }
 
 /// The format of a method, both by their indices. None where there is none.
-fn format_of(accepted: &Accepted, method: usize, index: usize) -> Option<&Format>
+pub fn format_of(accepted: &Accepted, method: usize, index: usize) -> Option<&Format>
     ensures { option_copied result ≡ format_at accepted.now.profile.methods method index }
 {
     accepted.profile().methods().get(method)?.formats.get(index)
 }
 
-/// Its bounds.
-fn sizes_of(accepted: &Accepted, method: usize, index: usize) -> Option<&FormatSizes>
+/// The bounds of a format of a method, both by their indices. None where there is no such format.
+pub fn sizes_of(accepted: &Accepted, method: usize, index: usize) -> Option<&FormatSizes>
     ensures { option_copied result ≡ sizes_at accepted.now.profile.sizes method index }
 {
     accepted.profile().sizes().get(method)?.formats.get(index)

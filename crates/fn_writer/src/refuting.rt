@@ -1,20 +1,15 @@
 //! Formats of which no filling can fit: the arguments and the header alone tell it.
 
 ghost use Rattle.std.specs.Prelude.{◌≡◌, ◌≤◌, false, IsTrue, IfSome, drop, length};
-ghost use Rattle.std.specs.Option.{option_copied};
 ghost use Rattle.fn_expr.specs.Values.{compare};
 ghost use Rattle.fn_filling.specs.Fillings as fillings;
-ghost use Rattle.fn_fits.specs.Bounded.{sizes_at};
-ghost use Rattle.fn_fits.specs.Fits.{format_at};
 ghost use Rattle.fn_writer.specs.Refuting as spec;
 
 use fn_bits::Cursor;
-use fn_checker::Accepted;
 use fn_expr::{Comparison, Cond, Expr};
-use fn_normal::{
-    Bounds, Constraint, Encoding, Field, Format, FormatSizes, Library, Part, Shared, Sizes,
-};
+use fn_normal::{Bounds, Constraint, Encoding, Field, Library, Part, Shared, Sizes};
 use fn_walk::Place;
+use fn_walk::place::{format_of, sizes_of};
 use sqlite_items::at;
 
 /// Whether the arguments or the header tell that no filling of the format fits. They don't tell it always.
@@ -37,20 +32,6 @@ pub(crate) fn is_refuted(place: &Place<'_>, format: usize, source: &Cursor<'_>, 
         source,
         from,
     )
-}
-
-/// The format of a method, both by their indices.
-fn format_of(accepted: &Accepted, method: usize, index: usize) -> Option<&Format>
-    ensures { option_copied result ≡ format_at accepted.now.profile.methods method index }
-{
-    accepted.profile().methods().get(method)?.formats.get(index)
-}
-
-/// Its bounds.
-fn sizes_of(accepted: &Accepted, method: usize, index: usize) -> Option<&FormatSizes>
-    ensures { option_copied result ≡ sizes_at accepted.now.profile.sizes method index }
-{
-    accepted.profile().sizes().get(method)?.formats.get(index)
 }
 
 /// Whether one of the constraints is false, whatever the fields hold. Without parameters none is looked at.
