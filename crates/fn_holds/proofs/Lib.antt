@@ -8,3 +8,4 @@ pub mod Levels
 pub mod Fields
 pub mod Alike
 pub mod Pieces
+pub mod Seeing

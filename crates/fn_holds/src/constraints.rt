@@ -3,7 +3,6 @@
 ghost use Rattle.std.specs.Prelude.{◌≡◌, ◌↔◌, ℕ, pos, IsTrue, Some, slice_get, length};
 ghost use Rattle.fn_expr.specs.Values.{val};
 ghost use Rattle.fn_expr.specs.Known.{assignment_of};
-ghost use Rattle.fn_expr.specs.Spread.{IsRanged};
 ghost use Rattle.fn_expr.specs.declared.expr.Expr.{Expr};
 ghost use Rattle.fn_expr.specs.declared.expr.Subject.TheVariants as subject;
 ghost use Rattle.fn_normal.specs.declared.profile.Constraint.{Constraint};
@@ -11,7 +10,8 @@ ghost use Rattle.fn_filling.specs.Fillings.{level, listing_of};
 ghost use Rattle.fn_fits.specs.Fits.{Holds, side_of};
 ghost use Rattle.fn_holds.specs.Level.{AllRanged, ConstraintRanged};
 
-use fn_expr::{Expr, Known, Side, decide, value};
+use crate::seen::{Seen, decide_in, is_number};
+use fn_expr::{Expr, Side};
 use fn_filling::Filling;
 use fn_normal::{Constraint, Shared};
 
@@ -19,7 +19,7 @@ use fn_normal::{Constraint, Shared};
 pub(crate) fn constraints_hold(
     constraints: &[Shared<Constraint>],
     filling: &Filling,
-    known: &Known,
+    known: &Seen<'_>,
 ) -> bool
     requires { (j : ℕ) (c : Constraint) → slice_get constraints.now j ≡ Some c → ConstraintRanged known.now c }
     ensures { IsTrue result ↔ ((j : ℕ) (c : Constraint) → slice_get constraints.now j ≡ Some c →
@@ -33,7 +33,7 @@ pub(crate) fn constraints_hold(
     true
 }
 
-fn constraint_holds(constraint: &Constraint, filling: &Filling, known: &Known) -> bool
+fn constraint_holds(constraint: &Constraint, filling: &Filling, known: &Seen<'_>) -> bool
     requires { ConstraintRanged known.now constraint.now }
     ensures { IsTrue result ↔ Holds (side_of (listing_of filling.now) (level filling.now)) (assignment_of known.now) constraint.now }
 {
@@ -47,7 +47,7 @@ fn constraint_holds(constraint: &Constraint, filling: &Filling, known: &Known) -
         Constraint::Enforce {
             condition,
             place: _,
-        } => decide(condition, known) == Some(true),
+        } => decide_in(condition, known) == Some(true),
     }
 }
 
@@ -65,7 +65,7 @@ fn length_of(filling: &Filling, field: usize, side: Side) -> usize
 }
 
 /// Whether the length is the value of one of the expressions.
-fn is_value_of(length: usize, expressions: &[Expr], known: &Known) -> bool
+fn is_value_of(length: usize, expressions: &[Expr], known: &Seen<'_>) -> bool
     requires { AllRanged known.now expressions.now }
     ensures { IsTrue result ↔ ((n : ℕ) × (e : Expr) × (slice_get expressions.now n ≡ Some e) × (val (assignment_of known.now) e ≡ Some (pos length))) }
 {
@@ -75,26 +75,4 @@ fn is_value_of(length: usize, expressions: &[Expr], known: &Known) -> bool
         }
     }
     false
-}
-
-/// The value of an expression, where it has one. Most are plain numbers.
-pub(crate) fn number_in(expression: &Expr, known: &Known) -> Option<i128>
-    requires { IsRanged (assignment_of known.now) expression.now }
-    ensures { result ≡ val (assignment_of known.now) expression.now }
-{
-    match expression {
-        Expr::Number(_, own) => Some(*own),
-        _ => value(expression, known),
-    }
-}
-
-/// Whether the expression has that value.
-pub(crate) fn is_number(expression: &Expr, known: &Known, number: i128) -> bool
-    requires { IsRanged (assignment_of known.now) expression.now }
-    ensures { IsTrue result ↔ (val (assignment_of known.now) expression.now ≡ Some number) }
-{
-    match expression {
-        Expr::Number(_, own) => *own == number,
-        _ => value(expression, known) == Some(number),
-    }
 }

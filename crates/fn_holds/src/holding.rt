@@ -9,12 +9,13 @@ ghost use Rattle.fn_holds.specs.Ready.{ArgumentsLieAt, IsReady, IsShown, HasLeve
 ghost use Rattle.fn_holds.specs.Level.{AllRanged};
 
 use crate::constraints::constraints_hold;
-use crate::level::{Level, level_of, values_of};
+use crate::level::{Level, level_of};
 use crate::plain::{is_bare, is_coded};
+use crate::seen::{Seen, values_in};
 use crate::sides::{WholeSides, header_of, is_header, is_packed, packed_of};
 use fn_bits::Bits;
 use fn_context::Context;
-use fn_expr::{Expr, Known};
+use fn_expr::Expr;
 use fn_filling::{FilledField, Filling, below};
 use fn_normal::{Encoding, Field};
 use fn_profile::Profile;
@@ -96,14 +97,13 @@ fn whole_holds(
 {
     profile.keeps();
     let level = level_of(
-        alloc,
         profile,
         method,
         arguments,
         filling,
         header_bits,
         packed_bits,
-    )?;
+    );
     let Some(level) = level else {
         return Ok(false);
     };
@@ -137,7 +137,7 @@ pub fn level_fits(
     let Some(packed) = packed_of(alloc, filling)? else {
         return Ok(false);
     };
-    let level = level_of(alloc, profile, method, arguments, filling, &header, &packed)?;
+    let level = level_of(profile, method, arguments, filling, &header, &packed);
     let Some(level) = level else {
         return Ok(false);
     };
@@ -278,7 +278,7 @@ fn call_holds(
     context: &Context,
     path: &str,
     filled: &FilledField,
-    known: &Known,
+    known: &Seen<'_>,
     field: &Field,
     method: usize,
     arguments: &[Expr],
@@ -288,7 +288,7 @@ fn call_holds(
     requires lie { ValuesLieAt profile.now known.now method arguments.now }
     ensures { IfOk result (λ b. IsTrue b ↔ IsCalled profile.now.methods (bits_at context.now) path.now (assignment_of known.now) field.now method arguments.now filled.now) }
 {
-    let Some(values) = values_of(alloc, arguments, known)? else {
+    let Some(values) = values_in(alloc, arguments, known)? else {
         return Ok(false);
     };
     let here = below(alloc, path, field.declared.name.as_str())?;

@@ -6,13 +6,13 @@ ghost use Rattle.std.specs.Option.{option_copied};
 ghost use Rattle.fn_fits.specs.Fits.{format_at, vals};
 ghost use Rattle.fn_expr.specs.Known.{assignment_of};
 ghost use Rattle.fn_fits.specs.Bounded.{sizes_at};
-ghost use Rattle.fn_fits.specs.Numbers as fits;
 ghost use Rattle.fn_holds.specs.Level as spec;
 ghost use Rattle.fn_holds.specs.Ready as ready;
 
+use crate::seen::Seen;
 use crate::shape::{is_bounded, is_shaped};
 use fn_bits::Bits;
-use fn_expr::{Expr, Known, Numbers, SideNumbers, value};
+use fn_expr::{Expr, Known, value};
 use fn_filling::Filling;
 use fn_normal::{Format, FormatSizes};
 use fn_profile::Profile;
@@ -26,7 +26,7 @@ pub(crate) struct Level<'a> {
     pub(crate) filling: &'a Filling,
     pub(crate) header: &'a Bits,
     pub(crate) packed: &'a Bits,
-    pub(crate) known: Known,
+    pub(crate) known: Seen<'a>,
 }
 
 /// The format of a filling, with its bounds.
@@ -39,35 +39,32 @@ struct Place<'a> {
 /// The level of a filling of the method, where its header and its packed bits are these. None where no filling that fits is
 /// like it.
 pub(crate) fn level_of<'a>(
-    alloc: Global,
     profile: &'a Profile,
     method: usize,
-    arguments: &[i128],
+    arguments: &'a [i128],
     filling: &'a Filling,
     header_bits: &'a Bits,
     packed_bits: &'a Bits,
-) -> Result<Option<Level<'a>>, AllocError>
+) -> Option<Level<'a>>
     requires header { header_bits.now ≡ header filling.now }
     requires packed { packed_bits.now ≡ packed filling.now }
-    ensures shown { IfOk result (λ o. IfSome o (λ l. (l.filling.now ≡ filling.now) × ready.IsShown l.format.now filling.now l.header.now l.packed.now)) }
-    ensures found { IfOk result (λ o. IfSome o (λ l. ready.HasLevel profile.now method arguments.now filling.now l.format.now l.known)) }
-    ensures none { IfOk result (λ o. IfNone o (ready.NeverFits profile.now.methods method arguments.now filling.now)) }
+    ensures shown { IfSome result (λ l. (l.filling.now ≡ filling.now) × ready.IsShown l.format.now filling.now l.header.now l.packed.now) }
+    ensures found { IfSome result (λ l. ready.HasLevel profile.now method arguments.now filling.now l.format.now l.known) }
+    ensures none { IfNone result (ready.NeverFits profile.now.methods method arguments.now filling.now) }
 {
     profile.keeps();
-    let Some(place) = place_of(profile, method, filling) else {
-        return Ok(None);
-    };
+    let place = place_of(profile, method, filling)?;
     if !is_bounded(place.sizes, filling, header_bits, packed_bits) {
-        return Ok(None);
+        return None;
     }
-    let known = known_level(alloc, filling, header_bits, packed_bits, arguments)?;
-    Ok(Some(Level {
+    let known = Seen::of(filling, header_bits, packed_bits, arguments);
+    Some(Level {
         format: place.format,
         filling,
         header: header_bits,
         packed: packed_bits,
         known,
-    }))
+    })
 }
 
 /// The format of a filling of the method, if it has the fields and the listing of one.
@@ -94,44 +91,6 @@ fn sizes_of(profile: &Profile, method: usize, index: usize) -> Option<&FormatSiz
     ensures { option_copied result ≡ sizes_at profile.now.sizes method index }
 {
     profile.sizes().get(method)?.formats.get(index)
-}
-
-/// The numbers of the fields, of the whole and of the arguments.
-pub(crate) fn known_level(
-    alloc: Global,
-    filling: &Filling,
-    header_bits: &Bits,
-    packed_bits: &Bits,
-    arguments: &[i128],
-) -> Result<Known, AllocError>
-    requires header { header_bits.now ≡ header filling.now }
-    requires packed { packed_bits.now ≡ packed filling.now }
-    ensures { IfOk result (λ k. k ≡ fits.known_level filling.now arguments.now) }
-{
-    let mut fields = Items::from_vec(Vec::with_capacity(alloc, filling.fields.len())?);
-    for field in filling.fields.as_slice() {
-        fields.push(SideNumbers {
-            uncompressed: numbers(&field.uncompressed),
-            compressed: numbers(&field.compressed),
-        })?;
-    }
-    Ok(Known {
-        fields,
-        whole: SideNumbers {
-            uncompressed: numbers(header_bits),
-            compressed: numbers(packed_bits),
-        },
-        parameters: Items::from_slice(alloc, arguments)?,
-    })
-}
-
-fn numbers(bits: &Bits) -> Numbers
-    ensures { result ≡ fits.numbers bits.now }
-{
-    Numbers {
-        value: bits.value().map(|number| number as i128),
-        length: Some(bits.len() as i128),
-    }
 }
 
 /// The values of several expressions, where each has one.

@@ -9,5 +9,6 @@ mod constraints;
 pub mod holding;
 pub mod level;
 mod plain;
+mod seen;
 mod shape;
 pub mod sides;

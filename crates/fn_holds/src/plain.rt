@@ -13,13 +13,13 @@ ghost use Rattle.fn_holds.specs.Coding.{HasSpelling, IsCarried};
 ghost use Rattle.fn_holds.specs.Level.{AllRanged};
 ghost use Rattle.fn_holds.specs.Ready.{IsShown, IsCovered, IsCoded};
 
-use crate::coding::{coding_of, is_related};
-use crate::constraints::is_number;
+use crate::coding::{coding_in, is_related};
 use crate::level::Level;
+use crate::seen::{Seen, is_number};
 use crate::sides::reference_below;
 use fn_bits::Bits;
 use fn_context::Context;
-use fn_expr::{Expr, Known, Side, Subject};
+use fn_expr::{Expr, Side, Subject};
 use fn_filling::FilledField;
 use fn_normal::{Field, Library};
 use std::alloc::{AllocError, Global};
@@ -64,7 +64,7 @@ pub(crate) fn is_coded(
 }
 
 /// Whether the bits are as many as the one expression says, at most 64, and spell the value of the other.
-fn is_spelled(known: &Known, length: &Expr, number: &Expr, bits: &Bits) -> bool
+fn is_spelled(known: &Seen<'_>, length: &Expr, number: &Expr, bits: &Bits) -> bool
     requires length { IsRanged (assignment_of known.now) length.now }
     requires number { IsRanged (assignment_of known.now) number.now }
     ensures { IsTrue result ↔ HasSpelling (assignment_of known.now) length.now number.now bits.now }
@@ -76,7 +76,7 @@ fn is_spelled(known: &Known, length: &Expr, number: &Expr, bits: &Bits) -> bool
 }
 
 /// Whether both sides are the same bits, as many as the expression says, at most 64.
-fn is_carried(known: &Known, length: &Expr, up: &Bits, down: &Bits) -> bool
+fn is_carried(known: &Seen<'_>, length: &Expr, up: &Bits, down: &Bits) -> bool
     requires { IsRanged (assignment_of known.now) length.now }
     ensures { IsTrue result ↔ IsCarried (assignment_of known.now) length.now up.now down.now }
 {
@@ -99,7 +99,7 @@ fn is_made(
     requires outer { inner_of filled.now ≡ None }
     ensures { IfOk result (λ b. IsTrue b ↔ IsCoded (bits_at context.now) path.now level.now.filling.now (assignment_of level.now.known) field.now library.now filled.now) }
 {
-    let Some(coding) = coding_of(library, &level.known) else {
+    let Some(coding) = coding_in(library, &level.known) else {
         return Ok(false);
     };
     let empty = Bits::new(alloc);

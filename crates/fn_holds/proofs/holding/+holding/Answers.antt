@@ -108,8 +108,8 @@ shown_level {o} {l} P is all = subst (λ x. IfSome x P) is all
 
 pub whole_holds-fields_hold-requires : goal.whole_holds-fields_hold-requires
 whole_holds-fields_hold-requires t c =
-    let shown = shown_level (λ l. (l.filling.now ≡ c.args.filling.now) × IsShown l.format.now c.args.filling.now l.header.now l.packed.now) c.in-Some.is c.in_ok-level.ensures.shown in
-    let found = shown_level (λ l. HasLevel c.args.profile.now c.args.method c.args.arguments.now c.args.filling.now l.format.now l.known) c.in-Some.is c.in_ok-level.ensures.found in
+    let shown = shown_level (λ l. (l.filling.now ≡ c.args.filling.now) × IsShown l.format.now c.args.filling.now l.header.now l.packed.now) c.in-Some.is c.level_of-level.ensures.shown in
+    let found = shown_level (λ l. HasLevel c.args.profile.now c.args.method c.args.arguments.now c.args.filling.now l.format.now l.known) c.in-Some.is c.level_of-level.ensures.found in
     let ready = ready_level c.args.profile.now c.keeps.ensures c.args.method c.args.arguments.now c.args.filling.now _ _ found c.requires.1.1.1.0 in (
       (search rules),
       (
@@ -123,8 +123,8 @@ whole_holds-returns t c =
     let p = c.args.profile.now in
     let f = c.args.filling.now in
     let ctx = bits_at c.args.context.now in
-    let shown = shown_level (λ l. (l.filling.now ≡ f) × IsShown l.format.now f l.header.now l.packed.now) c.in-Some.is c.in_ok-level.ensures.shown in
-    let found = shown_level (λ l. HasLevel p c.args.method c.args.arguments.now f l.format.now l.known) c.in-Some.is c.in_ok-level.ensures.found in
+    let shown = shown_level (λ l. (l.filling.now ≡ f) × IsShown l.format.now f l.header.now l.packed.now) c.in-Some.is c.level_of-level.ensures.shown in
+    let found = shown_level (λ l. HasLevel p c.args.method c.args.arguments.now f l.format.now l.known) c.in-Some.is c.level_of-level.ensures.found in
     let a = assignment_of c.in-Some.level.known in
     ok_weaker (λ b. IsTrue b ↔ AllFit p.methods ctx c.args.path.now c.in-Some.level.format.now c.in-Some.level.filling.now a)
     (λ b. IsTrue b ↔ Fits p.methods ctx c.args.method c.args.arguments.now c.args.path.now f) c.fields_hold.result

@@ -19,7 +19,7 @@ returns-then-not-has_reference c =
     let ref = reference_of d.declared.part (bits_at c.args.context.now) (below c.args.path.now d.declared.name) d.initial in
     ok_weaker _ (λ b. IsTrue b ↔ IsCoded (bits_at c.args.context.now) c.args.path.now f a d c.args.library.now g) c.is_related.result
     (λ b same. coded_is (bits_at c.args.context.now) c.args.path.now f a d c.args.library.now g c.covered_by-covered.result.now c.in-Some.coding ref b (search rules)
-    (sym c.coding_of.ensures ∙ c.in-Some.is) c.covered_by-covered.ensures (λ i. ref)
+    (sym c.coding_in.ensures ∙ c.in-Some.is) c.covered_by-covered.ensures (λ i. ref)
     (any_reference c.covered_by-covered.result.now c.in-Some.coding None ref (sides_of g).uncompressed (sides_of g).compressed b (search rules) same))
     c.is_related.ensures
 
@@ -31,5 +31,5 @@ returns c =
     let a = assignment_of c.args.level.now.known in
     ok_weaker _ (λ b. IsTrue b ↔ IsCoded (bits_at c.args.context.now) c.args.path.now f a d c.args.library.now g) c.is_related-2.result
     (λ b same. coded_is (bits_at c.args.context.now) c.args.path.now f a d c.args.library.now g c.covered_by-covered.result.now c.in-Some.coding
-    (option_copied c.in_ok-reference.reference) b (search rules) (sym c.coding_of.ensures ∙ c.in-Some.is) c.covered_by-covered.ensures c.in_ok-reference.ensures same)
+    (option_copied c.in_ok-reference.reference) b (search rules) (sym c.coding_in.ensures ∙ c.in-Some.is) c.covered_by-covered.ensures c.in_ok-reference.ensures same)
     c.is_related-2.ensures
