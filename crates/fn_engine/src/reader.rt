@@ -135,7 +135,8 @@ fn read_sketched(
     let Some(filling) = sketch(alloc, accepted, context, cursor)? else {
         return Ok(None);
     };
-    let Some(whole) = fits(alloc, accepted, context, &filling)? else {
+    let judged = fits(alloc, accepted, context, &filling)?;
+    let Some(whole) = judged else {
         return Ok(None);
     };
     if !cursor.begins_with(&whole.packed) {

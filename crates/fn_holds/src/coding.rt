@@ -10,7 +10,6 @@ ghost use Rattle.fn_holds.specs.Coding as spec;
 
 use crate::seen::{Seen, number_in};
 use fn_bits::Bits;
-use fn_expr::{Known, value};
 use fn_lib::{
     compressed_value_down, compressed_value_up, crc_down, crc_up, irregular_down, irregular_up,
     lsb_down, lsb_up, static_down, static_up, uncompressed_value_down, uncompressed_value_up,
@@ -57,43 +56,6 @@ impl Coding {
             | Coding::Irregular { .. }
             | Coding::Crc { .. } => false,
         }
-    }
-}
-
-/// The method with the values of its arguments, none where one has no value.
-pub fn coding_of(library: &Library, known: &Known) -> Option<Coding>
-    requires { AllRanged known.now (library_exprs library.now) }
-    ensures { result ≡ spec.coding_of (assignment_of known.now) library.now }
-{
-    match library {
-        Library::UncompressedValue {
-            length,
-            value: number,
-        } => Some(Coding::UncompressedValue {
-            length: value(length, known)?,
-            value: value(number, known)?,
-        }),
-        Library::CompressedValue {
-            length,
-            value: number,
-        } => Some(Coding::CompressedValue {
-            length: value(length, known)?,
-            value: value(number, known)?,
-        }),
-        Library::Irregular { length } => Some(Coding::Irregular {
-            length: value(length, known)?,
-        }),
-        Library::Static => Some(Coding::Static),
-        Library::Lsb { bits, offset } => Some(Coding::Lsb {
-            bits: value(bits, known)?,
-            offset: value(offset, known)?,
-        }),
-        Library::Crc(crc) => Some(Coding::Crc {
-            bits: value(&crc.bits, known)?,
-            polynomial: value(&crc.polynomial, known)?,
-            initial: value(&crc.initial, known)?,
-            length: value(&crc.length, known)?,
-        }),
     }
 }
 

@@ -1,23 +1,18 @@
 //! What a level of a filling makes known to its expressions.
 
-ghost use Rattle.std.specs.Prelude.{◌≡◌, IfOk, IfSome, IfNone};
+ghost use Rattle.std.specs.Prelude.{◌≡◌, IfSome, IfNone};
 ghost use Rattle.fn_filling.specs.Fillings.{header, packed};
 ghost use Rattle.std.specs.Option.{option_copied};
-ghost use Rattle.fn_fits.specs.Fits.{format_at, vals};
-ghost use Rattle.fn_expr.specs.Known.{assignment_of};
+ghost use Rattle.fn_fits.specs.Fits.{format_at};
 ghost use Rattle.fn_fits.specs.Bounded.{sizes_at};
-ghost use Rattle.fn_holds.specs.Level as spec;
 ghost use Rattle.fn_holds.specs.Ready as ready;
 
 use crate::seen::Seen;
 use crate::shape::{is_bounded, is_shaped};
 use fn_bits::Bits;
-use fn_expr::{Expr, Known, value};
 use fn_filling::Filling;
 use fn_normal::{Format, FormatSizes};
 use fn_profile::Profile;
-use sqlite_items::Items;
-use std::alloc::{AllocError, Global};
 
 /// A level of a filling: its format, the two sides of the whole, and the numbers that its expressions may ask for.
 #[derive(Drop)]
@@ -91,23 +86,4 @@ fn sizes_of(profile: &Profile, method: usize, index: usize) -> Option<&FormatSiz
     ensures { option_copied result ≡ sizes_at profile.now.sizes method index }
 {
     profile.sizes().get(method)?.formats.get(index)
-}
-
-/// The values of several expressions, where each has one.
-pub fn values_of(
-    alloc: Global,
-    expressions: &[Expr],
-    known: &Known,
-) -> Result<Option<Items<i128>>, AllocError>
-    requires { spec.AllRanged known.now expressions.now }
-    ensures { IfOk result (λ o. o ≡ vals (assignment_of known.now) expressions.now) }
-{
-    let mut values = Items::new(alloc);
-    for expression in expressions {
-        let Some(number) = value(expression, known) else {
-            return Ok(None);
-        };
-        values.push(number)?;
-    }
-    Ok(Some(values))
 }
