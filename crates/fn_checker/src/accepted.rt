@@ -83,8 +83,8 @@ impl Accepted {
         self.spans.as_slice()
     }
 
-    /// For each method, and for each node of its tree from the last to the first in preorder, how many nodes the subtree of that node has. Nothing is promised of
-    /// them: they shorten the way of who judges what he finds.
+    /// For each method, and for each node of its tree from the last to the first in preorder, how many nodes the subtree of that node has. Nothing is promised
+    /// of them: they shorten the way of who judges what he finds.
     pub fn tree_sizes(&self) -> &[Items<usize>] {
         self.tree_sizes.as_slice()
     }

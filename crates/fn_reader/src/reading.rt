@@ -24,7 +24,8 @@ use std::alloc::Global;
 
 /// Reads the filling of the method whose packed bits are so many places after the cursor's.
 ///
-/// `depth` is how many methods a chain of calls from this one may have. Each called filling is judged at the end of its own level. The error is Short, where the bits run out, Refused, with the innermost method at work, or want of memory.
+/// `depth` is how many methods a chain of calls from this one may have. Each called filling is judged at the end of its own level. The error is Short, where
+/// the bits run out, Refused, with the innermost method at work, or want of memory.
 #[cycle(reading)]
 pub fn read_method(
     depth: usize,

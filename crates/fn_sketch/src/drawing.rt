@@ -17,9 +17,9 @@ use std::alloc::{AllocError, Global};
 /// How many methods a chain of calls from the top may have.
 const CALL_DEPTH: usize = 16;
 
-/// A filling of the top that may be the one whose packed bits are at the cursor's place. It is drawn by the tree and the read plans alone, and neither bounds nor constraints nor
-/// what is known already are tested on the way: nothing is promised of it, and who asks for it judges it. None where the plan leads nowhere, or where fewer bits are left
-/// than any packet has. The error is want of memory.
+/// A filling of the top that may be the one whose packed bits are at the cursor's place. It is drawn by the tree and the read plans alone, and neither bounds
+/// nor constraints nor what is known already are tested on the way: nothing is promised of it, and who asks for it judges it. None where the plan leads
+/// nowhere, or where fewer bits are left than any packet has. The error is want of memory.
 pub fn sketch(
     alloc: Global,
     accepted: &Accepted,

@@ -102,7 +102,8 @@ impl<'a> Sheet<'a> {
             .any(|listed| *listed == field)
     }
 
-    /// How many packed bits stand before those of the listed field, by the lengths of the fields before it. The error is Nowhere, where it was passed before, or isn't listed.
+    /// How many packed bits stand before those of the listed field, by the lengths of the fields before it. The error is Nowhere, where it was passed before,
+    /// or isn't listed.
     pub(crate) fn before(&mut self, field: usize) -> Result<usize, Stop> {
         let listing = self.format.listing.as_slice();
         for place in self.next..listing.len() {

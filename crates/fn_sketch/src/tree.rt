@@ -4,8 +4,8 @@ use fn_bits::Cursor;
 use fn_cert::Node;
 use sqlite_items::at;
 
-/// The format to which the tree, its nodes in preorder, leads under these arguments and for the bits so many places after the cursor's. `sizes` has how many nodes the subtree
-/// of each node has, from the last node to the first.
+/// The format to which the tree, its nodes in preorder, leads under these arguments and for the bits so many places after the cursor's. `sizes` has how many
+/// nodes the subtree of each node has, from the last node to the first.
 pub(crate) fn format_for(
     nodes: &[Node],
     sizes: &[usize],

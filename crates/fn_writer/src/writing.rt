@@ -27,8 +27,8 @@ use fn_walk::Place;
 use sqlite_items::Items;
 use std::alloc::Global;
 
-/// Writes the filling of the method's candidate with this number: its header takes from the bits that are so many places after the source's, and its asked fields have
-/// these values.
+/// Writes the filling of the method's candidate with this number: its header takes from the bits that are so many places after the source's, and its asked
+/// fields have these values.
 ///
 /// `depth` is how many methods a chain of calls from this one may have. The error is Failed or want of memory.
 #[cycle(writing)]
