@@ -59,7 +59,7 @@ impl Coding {
     }
 }
 
-/// The same by the numbers of a level.
+/// The method with the values of its arguments by the numbers of a level, none where one has no value.
 pub(crate) fn coding_in(library: &Library, known: &Seen<'_>) -> Option<Coding>
     requires { AllRanged known.now (library_exprs library.now) }
     ensures { result ≡ spec.coding_of (assignment_of known.now) library.now }

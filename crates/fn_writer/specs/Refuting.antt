@@ -50,6 +50,7 @@ pub record IsFalse (args : List ℤ) (condition : Cond) : Type 0 where
   pub other_is : operand args other ≡ Some other_value
   pub is_false : compare comparison one_value other_value ≡ false
 
+-- one of the constraints is such a conjunct
 pub record HasFalse (args : List ℤ) (constraints : List Constraint) : Type 0 where
   pub index : ℕ
   pub condition : Cond
@@ -79,6 +80,7 @@ pub data HaveBefore (fields : List Field) (sizes : List Sizes) : ℕ → ℕ →
       b.uncompressed.least ≡ b.uncompressed.most → HaveBefore fields sizes (i + 1) (n + b.uncompressed.least)
   one_other : {i n : ℕ} (d : Field) → HaveBefore fields sizes i n → slice_get fields i ≡ Some d → is_header d.declared.part ≡ false → HaveBefore fields sizes (i + 1) n
 
+-- a header field is a constant, which is not in front of the bits where the field begins
 pub record Differs (fields : List Field) (sizes : List Sizes) (bits : List Bool) : Type 0 where
   pub index : ℕ
   pub offset : ℕ
@@ -88,8 +90,9 @@ pub record Differs (fields : List Field) (sizes : List Sizes) (bits : List Bool)
   pub in_header : is_header field.declared.part ≡ true
   pub other : IsOther field.encoding (drop offset bits)
 
--- ---- a format that is told so
+-- ---- a format that is refuted
 
+-- one of its constraints is false under the arguments, or the header differs from it
 pub data IsRefuted (place : Place) (n : ℕ) (bits : List Bool) : Type 0 where
   by_constraint : (format : Format) → format_at place.accepted.now.profile.methods place.method n ≡ Some format → HasFalse place.arguments.now format.constraints → IsRefuted place n bits
   by_header : (format : Format) (sizes : FormatSizes) → format_at place.accepted.now.profile.methods place.method n ≡ Some format → sizes_at place.accepted.now.profile.sizes place.method n ≡ Some sizes →
