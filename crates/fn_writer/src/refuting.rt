@@ -143,13 +143,10 @@ fn only_length(bounds: Bounds, most: usize) -> Option<usize>
 }
 
 fn is_constant(encoding: &Encoding) -> bool {
-    let Encoding::Library(library) = encoding else {
-        return false;
-    };
-    let Library::UncompressedValue { .. } = library else {
-        return false;
-    };
-    true
+    matches!(
+        encoding,
+        Encoding::Library(Library::UncompressedValue { .. })
+    )
 }
 
 /// Whether the encoding is a constant which the bits there do not begin with.
