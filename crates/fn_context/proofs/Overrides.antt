@@ -1,5 +1,5 @@
-use Rattle.std.proofs.Common.{◌≡◌, ℕ, Bool, true, false, cond, List, [], ◌∷◌, ◌++◌, ◌||◌, map, Option, Some, None, refl, sym, ap, ◌∙◌, subst, append_assoc}
-use Rattle.std.specs.Prelude.{IsSome, reverse, is_some}
+use Rattle.std.proofs.Common.{◌≡◌, ℕ, zero, suc, Bool, true, false, cond, List, [], ◌∷◌, ◌++◌, ◌||◌, map, Option, Some, None, refl, sym, ap, ◌∙◌, subst, append_assoc}
+use Rattle.std.specs.Prelude.{IsSome, IsSomeAnd, reverse, is_some, slice_get, string_bytes, String}
 use Rattle.std.specs.List.{IsDistinct, AllByRecursion, list_any}
 use Rattle.std.specs.Map.{lookup, keys_of}
 use Rattle.std.specs.Option.{option_or}
@@ -10,7 +10,8 @@ use Rattle.std.proofs.lemmas.Bool.Decides.{same_from_decides}
 use Rattle.std.proofs.lemmas.List.{map-append, reverse-append}
 use Rattle.std.proofs.lemmas.Map.Keys.{IsDistinct-push}
 use Rattle.std.proofs.lemmas.Slice.Eq.{bytes_eq-Decides}
-use Rattle.indexmap.specs.IndexMap.{insert_entry}
+use Rattle.std.specs.String.{string_eq}
+use Rattle.indexmap.specs.IndexMap.{insert_entry, set_value_at}
 use Rattle.fn_context.specs.Entries.{Entries, bits_at, AreDistinct, with_entry, overridden}
 
 pub bytes_eq-sym : (x y : List ℕ) → bytes_eq x y ≡ bytes_eq y x
@@ -168,3 +169,19 @@ module _ {K : Type 0} (key : K → List ℕ) where
   copied_more old new items rest k p v b all distinct e steps text bits is =
       ap (λ es. es ++ shown key rest) (ap (shown key) e ∙ shown-insert key old k v) ∙ (λ i. with_entry (shown key old) (text i) (bits i) ++ shown key rest)
       ∙ copy_more (shown key old) (shown key rest) all (key p) b distinct (ap (λ xs. shown key old ++ shown key xs) (sym steps) ∙ is)
+
+-- bits that are written at the place of a path are put at that path
+pub written_at : {Z : Type 0} (es : List (String Z × List Bool)) (i : ℕ) (path : String Z) (bits : List Bool) → IsDistinct string_eq (keys_of es) →
+    IsSomeAnd (slice_get es i) (λ e. string_bytes e.0 ≡ string_bytes path) → set_value_at es i bits ≡ insert_entry string_eq es path bits
+unfolding IsDistinct
+written_at [] i path bits distinct there = absurd there
+written_at (e ∷ es) zero path bits distinct there = ap (λ b. cond b ((e.0, bits) ∷ es) (e ∷ insert_entry string_eq es path bits)) (sym ((bytes_eq-Decides (string_bytes path) (string_bytes e.0)).1 (sym there)))
+written_at {Z} (e ∷ es) (suc i) path bits distinct there =
+    ap (λ l. e ∷ l) (written_at es i path bits distinct.1 there)
+    ∙ ap (λ b. cond b ((e.0, bits) ∷ es) (e ∷ insert_entry string_eq es path bits)) (sym (bytes_eq-sym (string_bytes path) (string_bytes e.0) ∙ apart es i distinct.0 there))
+  where
+    apart : (xs : List (String Z × List Bool)) (j : ℕ) → AllByRecursion (λ y. string_eq e.0 y ≡ false) (keys_of xs) → IsSomeAnd (slice_get xs j) (λ x. string_bytes x.0 ≡ string_bytes path) →
+        bytes_eq (string_bytes e.0) (string_bytes path) ≡ false
+    apart [] j h at = absurd at
+    apart (x ∷ xs) zero h at = subst (λ z. bytes_eq (string_bytes e.0) z ≡ false) at h.0
+    apart (x ∷ xs) (suc j) h at = apart xs j h.1 at

@@ -1,4 +1,6 @@
-ghost use Rattle.std.specs.Prelude.{◌≡◌, [], length, map, IfOk, OnOk, OnErr, string_bytes};
+ghost use Rattle.std.specs.Prelude.{◌≡◌, ◌+◌, ◌<◌, ◌≤◌, [], length, map, slice_get, IfOk, IsOk, IsSomeAnd, IsTrue, OnOk, OnErr, string_bytes};
+ghost use Rattle.std.specs.String.{string_eq};
+ghost use Rattle.indexmap.specs.IndexMap.{IsUnique, insert_entry, spare};
 ghost use Rattle.std.specs.Option.{option_copied};
 ghost use Rattle.fn_context.specs.Entries.{AreDistinct, bits_at, overridden, with_entry};
 
@@ -59,8 +61,10 @@ impl Context {
         ensures err { OnErr result (self.new ≡ self.old) }
     {
         self.kept.reserve(entries.len())?;
+        let mut place = 0;
         for (path, bits) in entries {
-            self.kept.insert(path, bits)?;
+            put_at(&mut self.kept, place, path, bits)?;
+            place = place.saturating_add(1);
         }
         Ok(())
     }
@@ -83,5 +87,38 @@ impl Context {
             kept.insert(String::from_str(alloc, path.as_str())?, bits.copy(alloc)?)?;
         }
         Ok(Context { kept })
+    }
+}
+
+/// Puts bits at a path, which is looked for at that place first: the entries of one profile mostly come in the order in which they stand.
+fn put_at(
+    kept: &mut IndexMap<String, Bits>,
+    place: usize,
+    path: String,
+    bits: Bits,
+) -> Result<(), AllocError>
+    requires unique { IsUnique string_eq kept.old }
+    ensures entries { OnOk result (kept.new.entries ≡ insert_entry string_eq kept.old.entries path bits) }
+    ensures unique { IsUnique string_eq kept.new }
+    ensures spare { spare kept.old ≤ spare kept.new + 1 }
+    ensures succeeds { 0 < spare kept.old → IsOk result }
+{
+    if is_at(kept, place, path.as_str()) {
+        if let Some(found) = kept.get_index_mut(place) {
+            *found = bits;
+            return Ok(());
+        }
+    }
+    kept.insert(path, bits)?;
+    Ok(())
+}
+
+/// Whether the entry of that place has the path.
+fn is_at(kept: &IndexMap<String, Bits>, place: usize, path: &str) -> bool
+    ensures { IsTrue result → IsSomeAnd (slice_get kept.now.entries place) (λ e. string_bytes e.0 ≡ path.now) }
+{
+    match kept.get_index(place) {
+        Some((found, _)) => found.as_str() == path,
+        None => false,
     }
 }

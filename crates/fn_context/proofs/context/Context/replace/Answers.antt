@@ -6,16 +6,7 @@ pub loop-path-preserved : goal.loop-path-preserved
 loop-path-preserved c = (
   tt,
   tt,
-  c.insert.ensures.unique,
-  omega (arith, c.in-Some.ensures.steps.1, c.loop-path.invariant.3, c.insert.ensures.spare),
-  replaced_more string_bytes _ _ _ _ c.in-Some.path c.in-Some.bits _ c.in_ok-insert.ensures.entries c.in-Some.ensures.steps.0 c.loop-path.invariant.4,
-)
-
-pub loop-path-preserved-in_ok-insert : goal.loop-path-preserved-in_ok-insert
-loop-path-preserved-in_ok-insert c = (
-  tt,
-  tt,
-  c.insert.ensures.unique,
-  omega (arith, c.in-Some.ensures.steps.1, c.loop-path.invariant.3, c.insert.ensures.spare),
-  replaced_more string_bytes _ _ _ _ c.in-Some.path c.in-Some.bits _ c.in_ok-insert.ensures.entries c.in-Some.ensures.steps.0 c.loop-path.invariant.4,
+  c.in_ok-put_at.ensures.unique,
+  omega (arith, c.in-Some.ensures.steps.1, c.loop-path.invariant.3, c.in_ok-put_at.ensures.spare),
+  replaced_more string_bytes _ _ _ _ c.in-Some.path c.in-Some.bits _ c.in_ok-put_at.ensures.entries c.in-Some.ensures.steps.0 c.loop-path.invariant.4,
 )
