@@ -9,6 +9,9 @@ use indexmap::IndexMap;
 use std::alloc::{AllocError, Global};
 use std::marker::Model;
 
+/// How many entries are looked through for a path: more are looked up by its hash, which costs as much as some comparisons.
+const FEW: usize = 4;
+
 /// Bits by path, in order.
 #[derive(Drop)]
 pub struct Context {
@@ -51,7 +54,15 @@ impl Context {
     pub fn get(&self, path: &str) -> Option<&Bits>
         ensures { option_copied result ≡ bits_at self.now path.now }
     {
-        self.kept.get(path)
+        if self.kept.len() > FEW {
+            return self.kept.get(path);
+        }
+        for (found, bits) in &self.kept {
+            if found.as_str() == path {
+                return Some(bits);
+            }
+        }
+        None
     }
 
     /// Puts bits at each path in turn: a path that is there keeps its place, a new one goes last, and of two entries for one
