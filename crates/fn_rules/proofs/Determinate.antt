@@ -1,7 +1,6 @@
 -- A valid certificate makes the profile determinate.
-use Rattle.std.proofs.Common.{◌≡◌, refl, sym, ◌∙◌, ap, subst, ℕ, suc, ◌≤◌, Bool, true, false, List, [], ◌∷◌, ◌++◌, length, map, arith, length-append}
-use Rattle.std.specs.Prelude.{Option, Some, None, ℤ, option_map, slice_get, ◌||◌}
-use Rattle.std.proofs.lemmas.Option.{slice_get-map}
+use Rattle.std.proofs.Common.{◌≡◌, refl, sym, ◌∙◌, ap, subst, ℕ, ◌≤◌, Bool, true, false, List, [], ◌∷◌, ◌++◌, length, arith, length-append}
+use Rattle.std.specs.Prelude.{Option, Some, None, ℤ, slice_get, ◌||◌}
 use Rattle.std.proofs.lemmas.List.{append-nil}
 use Rattle.fn_expr.specs.declared.expr.Side.{Side}
 use Rattle.fn_expr.specs.declared.expr.Side.TheVariants.{Uncompressed, Compressed}
@@ -22,7 +21,7 @@ use Rattle.fn_cert.specs.declared.certificate.Step.{Step}
 use Rattle.fn_cert.specs.Kept.{Entries}
 use Rattle.fn_filling.specs.declared.filling.Filling.{Filling, out-Filling}
 use Rattle.fn_filling.specs.declared.filling.FilledField.{FilledField}
-use Rattle.fn_filling.specs.Fillings.{sides_of, inner_of, fields_of, level, packed}
+use Rattle.fn_filling.specs.Fillings.{inner_of, fields_of, level, packed}
 use Rattle.fn_filling.specs.Entries.{Path, below}
 use Rattle.fn_filling.proofs.Unique.{filling_same, field_same, list_same, also_at}
 use Rattle.fn_fits.specs.Fits.{Context, Fits, FieldFits, LevelFits, side_of, assigned, vals}
@@ -31,7 +30,7 @@ use Rattle.fn_fits.proofs.Inverted.{parts, length-fields}
 use Rattle.fn_fits.proofs.Bounding.{placed}
 use Rattle.fn_cert.specs.declared.rule.Fact.{Fact}
 use Rattle.fn_cert.specs.declared.rule.Fact.TheVariants.{Done}
-use Rattle.fn_rules.specs.Facts.{has_all, has_none, unlisted, at_start}
+use Rattle.fn_rules.specs.Facts.{has_all, has_none}
 use Rattle.fn_cert.specs.declared.rule.Rule.{Rule}
 use Rattle.fn_rules.specs.Rules.{is_call, where_true, read_rule}
 use Rattle.fn_rules.specs.Plans.{rule_of, enabled, learnt, known_after, all_enabled, known_at_start, wanted, way_of, IsPlan}
@@ -42,21 +41,10 @@ use Rattle.fn_rules.specs.Laws.{ValidIsDeterminate}
 use Rattle.fn_rules.specs.Reading.{Follows}
 use Rattle.fn_rules.proofs.Agree.{agree_has_all, agree_append, and_true, side_is, inner_is}
 use Rattle.fn_rules.proofs.Plans.{all_learnt}
-use Rattle.fn_rules.proofs.Steps.{Pair, OnlyOne, unfilled, unlisted_empty, step}
+use Rattle.fn_rules.proofs.Steps.{Pair, OnlyOne, unfilled, at_the_start, declared_at, step}
 use Rattle.fn_rules.proofs.Told.{follows}
 
 module _ (methods : List Method) (table : List MethodSizes) (ctx : Context) (args : List ℤ) (path : Path) (format : Format) (f g : Filling) (p : Pair methods ctx args path format f g) where
-  -- at the start
-  start_next : (b : Bool) (n : ℕ) (facts : List Fact) → lists format.listing n ≡ b → AgreeAll (view f) (view g) facts → AgreeAll (view f) (view g) (unlisted b n facts)
-  start_next true n facts e h = h
-  start_next false n facts e h =
-      let same = unlisted_empty methods ctx args path format f g f p.level_f n e ∙ sym (unlisted_empty methods ctx args path format f g g p.level_g n e) in
-      (ap length same, (same, h))
-
-  at_the_start : (n : ℕ) (ds : List Field) → AgreeAll (view f) (view g) (at_start format.listing n ds)
-  at_the_start n [] = tt
-  at_the_start n (d ∷ ds) = start_next (lists format.listing n) n (at_start format.listing (suc n) ds) refl (at_the_start (suc n) ds)
-
   -- after a step
   one_step : (s : Step) (known : List Fact) (o : Option Rule) → read_rule format s ≡ o → enabled known o ≡ true → AgreeAll (view f) (view g) known → AgreeAll (view f) (view g) (learnt o)
   one_step s known None is e h = absurd (cc)
@@ -72,14 +60,6 @@ module _ (methods : List Method) (table : List MethodSizes) (ctx : Context) (arg
       let b = and_true (enabled known (read_rule format s)) (all_enabled (rule_of Read table format) (learnt (read_rule format s) ++ known) steps) e in
       plan steps (learnt (read_rule format s) ++ known) b.1 (agree_append (view f) (view g) (learnt (read_rule format s)) known (one_step s known (read_rule format s) refl b.0 h) h)
 
-  declared_at : (z : Filling) → LevelFits format z args → (i : ℕ) (d : Field) (x : FilledField) → slice_get format.fields i ≡ Some d → slice_get (fields_of z) i ≡ Some x → (sides_of x).declared ≡ d.declared
-  declared_at z h i d x e e' =
-      let in_filling : slice_get (map (λ s. s.declared) (level z)) i ≡ Some (sides_of x).declared =
-      slice_get-map (λ s. s.declared) (level z) i ∙ ap (option_map (λ s. s.declared)) (slice_get-map sides_of (fields_of z) i ∙ ap (option_map sides_of) e') in
-      let in_format : slice_get (map (λ d. d.declared) format.fields) i ≡ Some d.declared = slice_get-map (λ d. d.declared) format.fields i ∙ ap (option_map (λ d. d.declared)) e in
-      let both : Some (sides_of x).declared ≡ Some d.declared = sym in_filling ∙ (ap (λ l. slice_get l i) h.shaped.declared_is ∙ in_format) in
-      cc
-
   was_done : (i : ℕ) (listed called : Bool) → called ≡ true → AgreeAll (view f) (view g) (where_true (listed || called) (Done i ∷ [])) → AgreeAll (view f) (view g) (Done i ∷ [])
   was_done i true called e h = h
   was_done i false true e h = h
@@ -87,21 +67,21 @@ module _ (methods : List Method) (table : List MethodSizes) (ctx : Context) (arg
 
   field_at : (steps : List Step) → IsPlan (way_of Read table format) steps → (i : ℕ) (d : Field) (x y : FilledField) → slice_get format.fields i ≡ Some d → slice_get (fields_of f) i ≡ Some x → slice_get (fields_of g) i ≡ Some y → x ≡ y
   field_at steps valid i d x y e ex ey =
-      let all = plan steps (known_at_start format) valid.enabled (at_the_start 0 format.fields) in
+      let all = plan steps (known_at_start format) valid.enabled (at_the_start methods ctx args path format f g p.twins 0 format.fields) in
       let hu = agree_has_all (view f) (view g) (known_after (rule_of Read table format) (known_at_start format) steps) (wanted Read format i d Uncompressed) (all_learnt Read format (known_after (rule_of Read table format) (known_at_start format) steps) valid.complete i d Uncompressed e) all in
       let hc = agree_has_all (view f) (view g) (known_after (rule_of Read table format) (known_at_start format) steps) (wanted Read format i d Compressed) (all_learnt Read format (known_after (rule_of Read table format) (known_at_start format) steps) valid.complete i d Compressed e) all in
       let u = sym (side_is f i x Uncompressed ex) ∙ (hu.0 ∙ side_is g i y Uncompressed ey) in
       let c = sym (side_is f i x Compressed ex) ∙ (hc.0 ∙ side_is g i y Compressed ey) in
-      let name = declared_at f p.level_f i d x e ex ∙ sym (declared_at g p.level_g i d y e ey) in
+      let name = declared_at methods ctx args path format f g f p.twins.level_f i d x e ex ∙ sym (declared_at methods ctx args path format f g g p.twins.level_g i d y e ey) in
       field_same x y (λ j. record { declared = name j; uncompressed = u j; compressed = c j }) (inner_same (is_call d.encoding) refl hc.1) where
         inner_same : (b : Bool) → is_call d.encoding ≡ b → AgreeAll (view f) (view g) (where_true (lists format.listing i || is_call d.encoding) (Done i ∷ [])) → inner_of x ≡ inner_of y
         inner_same true e' h = let w = was_done i (lists format.listing i) (is_call d.encoding) e' h in sym (inner_is f i x ex) ∙ (w.0.1 ∙ inner_is g i y ey)
-        inner_same false e' h = unfilled (p.each_f i d x e ex) e' ∙ sym (unfilled (p.each_g i d y e ey) e')
+        inner_same false e' h = unfilled (p.twins.each_f i d x e ex) e' ∙ sym (unfilled (p.twins.each_g i d y e ey) e')
 
   pub same_fields : (steps : List Step) → IsPlan (way_of Read table format) steps → fields_of f ≡ fields_of g
   same_fields steps valid =
-      let m = length-fields format f p.level_f.shaped in
-      let n = length-fields format g p.level_g.shaped in
+      let m = length-fields format f p.twins.level_f.shaped in
+      let n = length-fields format g p.twins.level_g.shaped in
       list_same (fields_of f) (fields_of g) (m ∙ sym n) (λ i x y e e'.
       let d = also_at (fields_of f) format.fields i x m e in field_at steps valid i d.0 x y d.1 e e')
 
@@ -139,10 +119,7 @@ module _ (methods : List Method) (table : List MethodSizes) (top : ℕ) (cert : 
         let each_g = subst (λ (z : Format). (i : ℕ) (d : Field) (x : FilledField) → slice_get z.fields i ≡ Some d → slice_get (fields_of g) i ≡ Some x →
         FieldFits methods ctx (side_of z.listing (level g)) (assigned z.listing (level g) args) path d d.encoding x) same_format h.each in
         let pair : Pair methods ctx args path format f g = record {
-          level_f = fitting;
-          level_g = level_g;
-          each_f = each;
-          each_g = each_g;
+          twins = record { level_f = fitting; level_g = level_g; each_f = each; each_g = each_g };
           only_one = λ i d x e e' k es ec args inner is_args is_inner. only_inner (each i d x e e') k es ec args inner is_args is_inner;
           rest_f = r;
           rest_g = r';

@@ -1,6 +1,7 @@
--- Two fillings at the front of the same bits agree on what a step gives, where they agree on what it needs.
-use Rattle.std.proofs.Common.{◌≡◌, refl, sym, ◌∙◌, ap, subst, ℕ, Bool, true, false, List, [], ◌∷◌, ◌++◌, length, map}
-use Rattle.std.specs.Prelude.{Option, Some, None, ℤ, pos, option_and_then, slice_get, ◌&&◌, not, flat_map}
+-- Two fillings agree on what a step gives, where they agree on what it needs; for the steps that read bits they stand at the front of the same bits.
+use Rattle.std.proofs.Common.{◌≡◌, refl, sym, ◌∙◌, ap, subst, ℕ, suc, Bool, true, false, List, [], ◌∷◌, ◌++◌, length, map}
+use Rattle.std.specs.Prelude.{Option, Some, None, ℤ, pos, option_map, option_and_then, slice_get, ◌&&◌, not, flat_map}
+use Rattle.std.proofs.lemmas.Option.{slice_get-map}
 use Rattle.fn_expr.specs.Values.{Assignment, val}
 use Rattle.fn_filling.specs.Entries.{Path, below}
 use Rattle.fn_filling.specs.Fillings.{Sides, sides_of, inner_of, fields_of, level, packed, packed_bits, header, inner_at}
@@ -30,9 +31,9 @@ use Rattle.fn_fits.proofs.Inverted.{coded_parts, length-fields, called_parts}
 use Rattle.fn_filling.proofs.Unique.{also_at}
 use Rattle.fn_cert.specs.declared.rule.Fact.{Fact}
 use Rattle.fn_cert.specs.declared.rule.Fact.TheVariants.{LengthOf, BitsOf, Done}
-use Rattle.fn_rules.specs.Facts.{inputs, inputs_of_all, before}
+use Rattle.fn_rules.specs.Facts.{inputs, inputs_of_all, before, unlisted, at_start}
 use Rattle.fn_cert.specs.declared.rule.Rule.{Rule}
-use Rattle.fn_rules.specs.Rules.{rule, rule_once, is_call, read_take, where_true, read_call, all_of, listed_before, by_library, up_needs, down_needs, length_needs, length_given, value_given, attribute_of, by_length, by_value, read_rule}
+use Rattle.fn_rules.specs.Rules.{rule, rule_once, is_call, read_take, where_true, read_call, all_of, listed_before, by_library, up_needs, down_needs, length_needs, length_given, value_given, attribute_of, by_length, by_value, common_rule, read_rule}
 use Rattle.fn_rules.specs.Views.{view, side_at, AgreeAll}
 use Rattle.fn_rules.proofs.Agree.{agree_left, agree_right, and_true, not_true, when_some, side_is, inner_is}
 use Rattle.fn_rules.proofs.Inputs.{val_same, vals_same, packed_is}
@@ -72,12 +73,16 @@ module _ (methods : List Method) (ctx : Context) (args : List ℤ) (path : Path)
   abbrev EachFits : Filling → Type 0
   EachFits z = (i : ℕ) (d : Field) (x : FilledField) → slice_get format.fields i ≡ Some d → slice_get (fields_of z) i ≡ Some x → FieldFits methods ctx (S z) (A z) path d d.encoding x
 
-  -- two fillings that fit at one place, at the front of the same bits
-  pub record Pair : Type 0 where
+  -- two fillings of the format that fit at one place
+  pub record Twins : Type 0 where
     pub level_f : LevelFits format f args
     pub level_g : LevelFits format g args
     pub each_f : EachFits f
     pub each_g : EachFits g
+
+  -- at the front of the same bits, where what calls of the first hold is alone
+  pub record Pair : Type 0 where
+    pub twins : Twins
     pub only_one : (i : ℕ) (d : Field) (x : FilledField) → slice_get format.fields i ≡ Some d → slice_get (fields_of f) i ≡ Some x →
         (k : ℕ) (es : List Expr) → d.encoding ≡ encoding.Call k es →
         (args : List ℤ) (inner : Filling) → vals (A f) es ≡ Some args → inner_of x ≡ Some inner → OnlyOne methods ctx k args (below path d.declared.name) inner
@@ -86,13 +91,13 @@ module _ (methods : List Method) (ctx : Context) (args : List ℤ) (path : Path)
     pub front : packed f ++ rest_f ≡ packed g ++ rest_g
 
   -- the two fields at an index
-  record Both (i : ℕ) (d : Field) : Type 0 where
-    x : FilledField
-    y : FilledField
-    at_f : slice_get (fields_of f) i ≡ Some x
-    at_g : slice_get (fields_of g) i ≡ Some y
+  pub record Both (i : ℕ) (d : Field) : Type 0 where
+    pub x : FilledField
+    pub y : FilledField
+    pub at_f : slice_get (fields_of f) i ≡ Some x
+    pub at_g : slice_get (fields_of g) i ≡ Some y
 
-  both_at : Pair → (i : ℕ) (d : Field) → slice_get format.fields i ≡ Some d → Both i d
+  pub both_at : Twins → (i : ℕ) (d : Field) → slice_get format.fields i ≡ Some d → Both i d
   both_at p i d e =
       let x = also_at format.fields (fields_of f) i d (sym (length-fields format f p.level_f.shaped)) e in
       let y = also_at format.fields (fields_of g) i d (sym (length-fields format g p.level_g.shaped)) e in
@@ -104,11 +109,29 @@ module _ (methods : List Method) (ctx : Context) (args : List ℤ) (path : Path)
     at_option None is = refl
     at_option (Some s) is = h.unlisted i s is e
 
+  -- what is known at the start
+  start_next : Twins → (b : Bool) (n : ℕ) (facts : List Fact) → lists format.listing n ≡ b → AgreeAll (view f) (view g) facts → AgreeAll (view f) (view g) (unlisted b n facts)
+  start_next p true n facts e h = h
+  start_next p false n facts e h = let same = unlisted_empty f p.level_f n e ∙ sym (unlisted_empty g p.level_g n e) in (ap length same, (same, h))
+
+  pub at_the_start : Twins → (n : ℕ) (ds : List Field) → AgreeAll (view f) (view g) (at_start format.listing n ds)
+  at_the_start p n [] = tt
+  at_the_start p n (d ∷ ds) = start_next p (lists format.listing n) n (at_start format.listing (suc n) ds) refl (at_the_start p (suc n) ds)
+
+  -- a field is declared as in the format
+  pub declared_at : (z : Filling) → LevelFits format z args → (i : ℕ) (d : Field) (x : FilledField) → slice_get format.fields i ≡ Some d → slice_get (fields_of z) i ≡ Some x → (sides_of x).declared ≡ d.declared
+  declared_at z h i d x e e' =
+      let in_filling : slice_get (map (λ s. s.declared) (level z)) i ≡ Some (sides_of x).declared =
+      slice_get-map (λ s. s.declared) (level z) i ∙ ap (option_map (λ s. s.declared)) (slice_get-map sides_of (fields_of z) i ∙ ap (option_map sides_of) e') in
+      let in_format : slice_get (map (λ d. d.declared) format.fields) i ≡ Some d.declared = slice_get-map (λ d. d.declared) format.fields i ∙ ap (option_map (λ d. d.declared)) e in
+      let both : Some (sides_of x).declared ≡ Some d.declared = sym in_filling ∙ (ap (λ l. slice_get l i) h.shaped.declared_is ∙ in_format) in
+      cc
+
   -- the packed bits, by the listing
   front_of : (p : Pair) → flat_map (λ i. side_at (view f) i Compressed) format.listing ++ p.rest_f ≡ flat_map (λ i. side_at (view g) i Compressed) format.listing ++ p.rest_g
   front_of p =
       let is = λ (z : Filling) (h : LevelFits format z args). ap (λ l. packed_bits l (level z)) h.shaped.listing_is ∙ packed_is format.listing (level z) in
-      ap (λ z. z ++ p.rest_f) (sym (is f p.level_f)) ∙ (p.front ∙ ap (λ z. z ++ p.rest_g) (is g p.level_g))
+      ap (λ z. z ++ p.rest_f) (sym (is f p.twins.level_f)) ∙ (p.front ∙ ap (λ z. z ++ p.rest_g) (is g p.twins.level_g))
 
   take_step : Pair → (i : ℕ) (d : Field) (r : Rule) → slice_get format.fields i ≡ Some d → read_take format i d ≡ Some r → AgreeAll (view f) (view g) r.needs → AgreeAll (view f) (view g) r.gives
   take_step p i d r e t n =
@@ -117,10 +140,10 @@ module _ (methods : List Method) (ctx : Context) (args : List ℤ) (path : Path)
       let m : AgreeAll (view f) (view g) (LengthOf Compressed i ∷ map Done (before i format.listing)) = subst (λ z. AgreeAll (view f) (view g) z.needs) (sym w.1) n in
       let here = place (view f) (view g) format.listing i p.rest_f p.rest_g b.0 m.1 (front_of p) in
       let same = (split_same (side_at (view f) i Compressed) (side_at (view g) i Compressed) here.rest here.other m.0 here.same).0 in
-      let q = both_at p i d e in
+      let q = both_at p.twins i d e in
       let no_call = not_true (is_call d.encoding) b.1 in
       let inner : inner_at f i ≡ inner_at g i =
-      inner_is f i q.x q.at_f ∙ (unfilled (p.each_f i d q.x e q.at_f) no_call ∙ sym (inner_is g i q.y q.at_g ∙ unfilled (p.each_g i d q.y e q.at_g) no_call)) in
+      inner_is f i q.x q.at_f ∙ (unfilled (p.twins.each_f i d q.x e q.at_f) no_call ∙ sym (inner_is g i q.y q.at_g ∙ unfilled (p.twins.each_g i d q.y e q.at_g) no_call)) in
       subst (λ z. AgreeAll (view f) (view g) z.gives) w.1 (same, ((same, inner), tt))
 
   -- the packed bits of the two inner fillings begin the same bits
@@ -131,7 +154,7 @@ module _ (methods : List Method) (ctx : Context) (args : List ℤ) (path : Path)
 
   begun : Pair → (i : ℕ) (b : Bool) → lists format.listing i ≡ b → AgreeAll (view f) (view g) (where_true b (listed_before format i)) → Begun (side_at (view f) i Compressed) (side_at (view g) i Compressed)
   begun p i true e n = let here = place (view f) (view g) format.listing i p.rest_f p.rest_g e n (front_of p) in record { rest = here.rest; other = here.other; same = here.same }
-  begun p i false e n = record { rest = []; other = []; same = ap (λ z. z ++ []) (unlisted_empty f p.level_f i e ∙ sym (unlisted_empty g p.level_g i e)) }
+  begun p i false e n = record { rest = []; other = []; same = ap (λ z. z ++ []) (unlisted_empty f p.twins.level_f i e ∙ sym (unlisted_empty g p.twins.level_g i e)) }
 
   call_step : Pair → (i : ℕ) (d : Field) (r : Rule) → slice_get format.fields i ≡ Some d → read_call format i d.encoding ≡ Some r → AgreeAll (view f) (view g) r.needs → AgreeAll (view f) (view g) r.gives
   call_step p i d r e t n =
@@ -140,10 +163,10 @@ module _ (methods : List Method) (ctx : Context) (args : List ℤ) (path : Path)
       let order = where_true (lists format.listing i) (listed_before format i) in
       let inputs_agree = agree_left (view f) (view g) (inputs_of_all format c.1) order m in
       let start = begun p i (lists format.listing i) refl (agree_right (view f) (view g) (inputs_of_all format c.1) order m) in
-      let q = both_at p i d e in
-      let cf = called_parts methods ctx (p.each_f i d q.x e q.at_f) c.0 c.1 c.2 in
-      let cg = called_parts methods ctx (p.each_g i d q.y e q.at_g) c.0 c.1 c.2 in
-      let values : vals (A f) c.1 ≡ vals (A g) c.1 = vals_same (view f) (view g) format p.level_f.shaped.declared_is p.level_g.shaped.declared_is args c.1 inputs_agree in
+      let q = both_at p.twins i d e in
+      let cf = called_parts methods ctx (p.twins.each_f i d q.x e q.at_f) c.0 c.1 c.2 in
+      let cg = called_parts methods ctx (p.twins.each_g i d q.y e q.at_g) c.0 c.1 c.2 in
+      let values : vals (A f) c.1 ≡ vals (A g) c.1 = vals_same (view f) (view g) format p.twins.level_f.shaped.declared_is p.twins.level_g.shaped.declared_is args c.1 inputs_agree in
       let args_same : cg.args ≡ cf.args = let x = cf.is_args in let y = cg.is_args in cc in
       let cx : side_at (view f) i Compressed ≡ packed cf.inner = side_is f i q.x Compressed q.at_f ∙ cf.packed_is in
       let cy : side_at (view g) i Compressed ≡ packed cg.inner = side_is g i q.y Compressed q.at_g ∙ cg.packed_is in
@@ -165,7 +188,7 @@ module _ (methods : List Method) (ctx : Context) (args : List ℤ) (path : Path)
     in_f : Solved (S f) (A f) l ref (sides_of both.x).uncompressed (sides_of both.x).compressed
     in_g : Solved (S g) (A g) l ref (sides_of both.y).uncompressed (sides_of both.y).compressed
 
-  coded_at : Pair → (i : ℕ) (d : Field) (l : Library) → slice_get format.fields i ≡ Some d → d.encoding ≡ encoding.Library l → Coded i d l
+  coded_at : Twins → (i : ℕ) (d : Field) (l : Library) → slice_get format.fields i ≡ Some d → d.encoding ≡ encoding.Library l → Coded i d l
   coded_at p i d l e is =
       let q = both_at p i d e in
       let ref = reference_of d.declared.part ctx (below path d.declared.name) d.initial in
@@ -191,24 +214,24 @@ module _ (methods : List Method) (ctx : Context) (args : List ℤ) (path : Path)
   length_same : {i : ℕ} {d : Field} (b : Both i d) (side : Side) → length (field_side (Some (sides_of b.x)) side) ≡ length (field_side (Some (sides_of b.y)) side) → length (side_at (view f) i side) ≡ length (side_at (view g) i side)
   length_same {i} b side same = ap length (side_is f i b.x side b.at_f) ∙ (same ∙ ap length (sym (side_is g i b.y side b.at_g)))
 
-  up_step : Pair → (i : ℕ) (d : Field) (l : Library) → slice_get format.fields i ≡ Some d → d.encoding ≡ encoding.Library l → AgreeAll (view f) (view g) (up_needs format i l) → AgreeAll (view f) (view g) (LengthOf Uncompressed i ∷ BitsOf Uncompressed i ∷ [])
+  up_step : Twins → (i : ℕ) (d : Field) (l : Library) → slice_get format.fields i ≡ Some d → d.encoding ≡ encoding.Library l → AgreeAll (view f) (view g) (up_needs format i l) → AgreeAll (view f) (view g) (LengthOf Uncompressed i ∷ BitsOf Uncompressed i ∷ [])
   up_step p i d l e is n =
       let c = coded_at p i d l e is in
       let same = side_same c.both Uncompressed (up_same (view f) (view g) format p.level_f.shaped.declared_is p.level_g.shaped.declared_is args i c.ref _ _ _ _ l (side_is f i c.both.x Compressed c.both.at_f) (side_is g i c.both.y Compressed c.both.at_g) c.in_f c.in_g n) in
       (ap length same, (same, tt))
 
-  down_step : Pair → (i : ℕ) (d : Field) (l : Library) → slice_get format.fields i ≡ Some d → d.encoding ≡ encoding.Library l → AgreeAll (view f) (view g) (down_needs format i l) → AgreeAll (view f) (view g) (LengthOf Compressed i ∷ BitsOf Compressed i ∷ [])
+  down_step : Twins → (i : ℕ) (d : Field) (l : Library) → slice_get format.fields i ≡ Some d → d.encoding ≡ encoding.Library l → AgreeAll (view f) (view g) (down_needs format i l) → AgreeAll (view f) (view g) (LengthOf Compressed i ∷ BitsOf Compressed i ∷ [])
   down_step p i d l e is n =
       let c = coded_at p i d l e is in
       let same = side_same c.both Compressed (down_same (view f) (view g) format p.level_f.shaped.declared_is p.level_g.shaped.declared_is args i c.ref _ _ _ _ l (side_is f i c.both.x Uncompressed c.both.at_f) (side_is g i c.both.y Uncompressed c.both.at_g) c.in_f c.in_g n) in
       (ap length same, (same, tt))
 
-  u_length_step : Pair → (i : ℕ) (d : Field) (l : Library) → slice_get format.fields i ≡ Some d → d.encoding ≡ encoding.Library l → AgreeAll (view f) (view g) (length_needs format Uncompressed l) → AgreeAll (view f) (view g) (LengthOf Uncompressed i ∷ [])
+  u_length_step : Twins → (i : ℕ) (d : Field) (l : Library) → slice_get format.fields i ≡ Some d → d.encoding ≡ encoding.Library l → AgreeAll (view f) (view g) (length_needs format Uncompressed l) → AgreeAll (view f) (view g) (LengthOf Uncompressed i ∷ [])
   u_length_step p i d l e is n =
       let c = coded_at p i d l e is in
       (length_same c.both Uncompressed (u_lengths_same (view f) (view g) format p.level_f.shaped.declared_is p.level_g.shaped.declared_is args i c.ref _ _ _ _ l c.in_f c.in_g n), tt)
 
-  c_length_step : Pair → (i : ℕ) (d : Field) (l : Library) → slice_get format.fields i ≡ Some d → d.encoding ≡ encoding.Library l → AgreeAll (view f) (view g) (length_needs format Compressed l) → AgreeAll (view f) (view g) (LengthOf Compressed i ∷ [])
+  c_length_step : Twins → (i : ℕ) (d : Field) (l : Library) → slice_get format.fields i ≡ Some d → d.encoding ≡ encoding.Library l → AgreeAll (view f) (view g) (length_needs format Compressed l) → AgreeAll (view f) (view g) (LengthOf Compressed i ∷ [])
   c_length_step p i d l e is n =
       let c = coded_at p i d l e is in
       (length_same c.both Compressed (c_lengths_same (view f) (view g) format p.level_f.shaped.declared_is p.level_g.shaped.declared_is args i c.ref _ _ _ _ l c.in_f c.in_g n), tt)
@@ -219,14 +242,14 @@ module _ (methods : List Method) (ctx : Context) (args : List ℤ) (path : Path)
   equal_numbers : (x y : List Bool) (v w : Option ℤ) → v ≡ w → v ≡ Some (pos (num x)) → w ≡ Some (pos (num y)) → num x ≡ num y
   equal_numbers x y v w e a b = cc
 
-  bracket_step : Pair → (i : ℕ) (side : Side) (k : Constraint) (e : Expr) (n : ℕ) → slice_get format.constraints n ≡ Some k → length_given i side k ≡ Some e →
+  bracket_step : Twins → (i : ℕ) (side : Side) (k : Constraint) (e : Expr) (n : ℕ) → slice_get format.constraints n ≡ Some k → length_given i side k ≡ Some e →
       AgreeAll (view f) (view g) (inputs format e) → length (side_at (view f) i side) ≡ length (side_at (view g) i side)
   bracket_step p i side k e n is given h =
       equal_lengths (side_at (view f) i side) (side_at (view g) i side) (val (A f) e) (val (A g) e) (val_same (view f) (view g) format p.level_f.shaped.declared_is p.level_g.shaped.declared_is args e h)
       (length_value (S f) (A f) i side k e refl given (p.level_f.constraints n k is))
       (length_value (S g) (A g) i side k e refl given (p.level_g.constraints n k is))
 
-  solve_step : Pair → (i : ℕ) (k : Constraint) (e : Expr) (n : ℕ) → slice_get format.constraints n ≡ Some k → value_given i k ≡ Some e →
+  solve_step : Twins → (i : ℕ) (k : Constraint) (e : Expr) (n : ℕ) → slice_get format.constraints n ≡ Some k → value_given i k ≡ Some e →
       AgreeAll (view f) (view g) (LengthOf Uncompressed i ∷ inputs format e) → side_at (view f) i Uncompressed ≡ side_at (view g) i Uncompressed
   solve_step p i k e n is given h =
       num_same (side_at (view f) i Uncompressed) (side_at (view g) i Uncompressed) h.0
@@ -234,23 +257,35 @@ module _ (methods : List Method) (ctx : Context) (args : List ℤ) (path : Path)
       (equated_value (S f) (A f) (attribute_of i Uncompressed measure.Value) k e given (p.level_f.constraints n k is))
       (equated_value (S g) (A g) (attribute_of i Uncompressed measure.Value) k e given (p.level_g.constraints n k is)))
 
-  -- the step lemma
-  pub step : Pair → (s : Step) (r : Rule) → read_rule format s ≡ Some r → AgreeAll (view f) (view g) r.needs → AgreeAll (view f) (view g) r.gives
-  step p (Take i) r e n = let a = and_then_some (read_take format i) (slice_get format.fields i) r e in take_step p i a.0 r a.1 a.2 n
-  step p (Call i) r e n = let a = and_then_some (λ d. read_call format i d.encoding) (slice_get format.fields i) r e in call_step p i a.0 r a.1 a.2 n
-  step p (LibraryUp i) r e n = library_step i (up_needs format i) (LengthOf Uncompressed i ∷ BitsOf Uncompressed i ∷ []) r e (up_step p i) n
-  step p (LibraryDown i) r e n = library_step i (down_needs format i) (LengthOf Compressed i ∷ BitsOf Compressed i ∷ []) r e (down_step p i) n
-  step p (MethodLength i Uncompressed) r e n = library_step i (length_needs format Uncompressed) (LengthOf Uncompressed i ∷ []) r e (u_length_step p i) n
-  step p (MethodLength i Compressed) r e n = library_step i (length_needs format Compressed) (LengthOf Compressed i ∷ []) r e (c_length_step p i) n
-  step p (ConstraintLength i side k) r e n =
+  -- the step lemma of the rules that both directions have
+  pub common : Twins → (s : Step) (r : Rule) → common_rule format s ≡ Some r → AgreeAll (view f) (view g) r.needs → AgreeAll (view f) (view g) r.gives
+  common p (LibraryUp i) r e n = library_step i (up_needs format i) (LengthOf Uncompressed i ∷ BitsOf Uncompressed i ∷ []) r e (up_step p i) n
+  common p (LibraryDown i) r e n = library_step i (down_needs format i) (LengthOf Compressed i ∷ BitsOf Compressed i ∷ []) r e (down_step p i) n
+  common p (MethodLength i Uncompressed) r e n = library_step i (length_needs format Uncompressed) (LengthOf Uncompressed i ∷ []) r e (u_length_step p i) n
+  common p (MethodLength i Compressed) r e n = library_step i (length_needs format Compressed) (LengthOf Compressed i ∷ []) r e (c_length_step p i) n
+  common p (ConstraintLength i side k) r e n =
       let d = and_then_some (λ d. by_length format i side k) (slice_get format.fields i) r e in
       let m = map_some (λ e. rule (inputs format e) (LengthOf side i ∷ [])) (option_and_then (length_given i side) (slice_get format.constraints k)) r d.2 in
       let a = and_then_some (length_given i side) (slice_get format.constraints k) m.0 m.1 in
       subst (λ z. AgreeAll (view f) (view g) z.gives) m.2 (bracket_step p i side a.0 m.0 k a.1 a.2 (subst (λ z. AgreeAll (view f) (view g) z.needs) (sym m.2) n), tt)
-  step p (Solve i k) r e n =
+  common p (Solve i k) r e n =
       let d = and_then_some (λ d. by_value format i k) (slice_get format.fields i) r e in
       let m = map_some (λ e. rule (LengthOf Uncompressed i ∷ inputs format e) (BitsOf Uncompressed i ∷ [])) (option_and_then (value_given i) (slice_get format.constraints k)) r d.2 in
       let a = and_then_some (value_given i) (slice_get format.constraints k) m.0 m.1 in
       subst (λ z. AgreeAll (view f) (view g) z.gives) m.2 (solve_step p i a.0 m.0 k a.1 a.2 (subst (λ z. AgreeAll (view f) (view g) z.needs) (sym m.2) n), tt)
-  step p (Choose i) r e n = absurd (cc)
-  step p (Ask i) r e n = absurd (cc)
+  common p (Take i) r e n = absurd (cc)
+  common p (Call i) r e n = absurd (cc)
+  common p (Choose i) r e n = absurd (cc)
+  common p (Ask i) r e n = absurd (cc)
+
+  -- the step lemma of reading
+  pub step : Pair → (s : Step) (r : Rule) → read_rule format s ≡ Some r → AgreeAll (view f) (view g) r.needs → AgreeAll (view f) (view g) r.gives
+  step p (Take i) r e n = let a = and_then_some (read_take format i) (slice_get format.fields i) r e in take_step p i a.0 r a.1 a.2 n
+  step p (Call i) r e n = let a = and_then_some (λ d. read_call format i d.encoding) (slice_get format.fields i) r e in call_step p i a.0 r a.1 a.2 n
+  step p (LibraryUp i) r e n = common p.twins (LibraryUp i) r e n
+  step p (LibraryDown i) r e n = common p.twins (LibraryDown i) r e n
+  step p (MethodLength i side) r e n = common p.twins (MethodLength i side) r e n
+  step p (ConstraintLength i side k) r e n = common p.twins (ConstraintLength i side k) r e n
+  step p (Solve i k) r e n = common p.twins (Solve i k) r e n
+  step p (Choose i) r e n = common p.twins (Choose i) r e n
+  step p (Ask i) r e n = common p.twins (Ask i) r e n

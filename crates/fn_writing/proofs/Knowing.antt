@@ -42,12 +42,12 @@ both_true a b e h = λ i. (e ∙ refl) i && h i
 
 -- ---- facts that both directions know alike
 
-abbrev NotDone : Fact → Type 0
+abbrev pub NotDone : Fact → Type 0
 NotDone (LengthOf side i) = Unit {0}
 NotDone (BitsOf side i) = Unit {0}
 NotDone (Done i) = ⊥
 
-abbrev NoneDone : List Fact → Type 0
+abbrev pub NoneDone : List Fact → Type 0
 NoneDone [] = Unit {0}
 NoneDone (x ∷ xs) = NotDone x × NoneDone xs
 
@@ -122,16 +122,16 @@ size_plain format (Some e) = inputs_plain format e
 
 -- ---- the steps of both directions
 
-record IsPlain (r : Rule) : Type 0 where
-  needs : NoneDone r.needs
-  gives : NoneDone r.gives
+pub record IsPlain (r : Rule) : Type 0 where
+  pub needs : NoneDone r.needs
+  pub gives : NoneDone r.gives
 
 library_plain : (needs : Library → List Fact) (gives : List Fact) (e : Encoding) (r : Rule) → by_library needs gives e ≡ Some r → ((l : Library) → NoneDone (needs l)) → NoneDone gives → IsPlain r
 library_plain needs gives (encoding.Library l) r e h k = let same = same_Some _ r e in subst IsPlain same record { needs = h l; gives = k }
 library_plain needs gives encoding.Bare r e h k = absurd (cc)
 library_plain needs gives (encoding.Call j es) r e h k = absurd (cc)
 
-rule_plain : (format : Format) (step : Step) (r : Rule) → common_rule format step ≡ Some r → IsPlain r
+pub rule_plain : (format : Format) (step : Step) (r : Rule) → common_rule format step ≡ Some r → IsPlain r
 rule_plain format (LibraryUp i) r e =
     let d = and_then_some _ (slice_get format.fields i) r e in
     library_plain (up_needs format i) _ d.0.encoding r d.2 (up_plain format i) (tt, (tt, tt))
@@ -163,7 +163,7 @@ unlisted_plain : (b : Bool) (n : ℕ) (xs : List Fact) → NoneDone xs → NoneD
 unlisted_plain true n xs h = h
 unlisted_plain false n xs h = (tt, (tt, h))
 
-start_plain : (listing : List ℕ) (n : ℕ) (ds : List Field) → NoneDone (at_start listing n ds)
+pub start_plain : (listing : List ℕ) (n : ℕ) (ds : List Field) → NoneDone (at_start listing n ds)
 start_plain listing n [] = tt
 start_plain listing n (d ∷ ds) = unlisted_plain (lists listing n) n (at_start listing (suc n) ds) (start_plain listing (suc n) ds)
 
