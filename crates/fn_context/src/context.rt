@@ -4,6 +4,7 @@ ghost use Rattle.indexmap.specs.IndexMap.{IsUnique, insert_entry, spare};
 ghost use Rattle.std.specs.Option.{option_copied};
 ghost use Rattle.fn_context.specs.Entries.{AreDistinct, bits_at, overridden, with_entry};
 
+use crate::path::are_same;
 use fn_bits::Bits;
 use indexmap::IndexMap;
 use std::alloc::{AllocError, Global};
@@ -58,7 +59,7 @@ impl Context {
             return self.kept.get(path);
         }
         for (found, bits) in &self.kept {
-            if found.as_str() == path {
+            if are_same(found.as_bytes(), path.as_bytes()) {
                 return Some(bits);
             }
         }
@@ -129,7 +130,7 @@ fn is_at(kept: &IndexMap<String, Bits>, place: usize, path: &str) -> bool
     ensures { IsTrue result → IsSomeAnd (slice_get kept.now.entries place) (λ e. string_bytes e.0 ≡ path.now) }
 {
     match kept.get_index(place) {
-        Some((found, _)) => found.as_str() == path,
+        Some((found, _)) => are_same(found.as_bytes(), path.as_bytes()),
         None => false,
     }
 }

@@ -25,3 +25,18 @@ fn is_name_octet(octet: u8) -> bool
 {
     octet.is_ascii_alphanumeric() || octet == b'_'
 }
+
+/// Whether two names or paths have the same octets. One by one that is less work than the comparison of texts, since they are short.
+pub fn are_same(octets: &[u8], others: &[u8]) -> bool
+    ensures { IsTrue result ↔ (octets.now ≡ others.now) }
+{
+    if octets.len() != others.len() {
+        return false;
+    }
+    for place in 0..octets.len() {
+        if octets[place] != others[place] {
+            return false;
+        }
+    }
+    true
+}

@@ -17,6 +17,11 @@ abbrev pub below : Path → List ℕ → Path
 below [] name = name
 below (x ∷ xs) name = (x ∷ xs) ++ (46 ∷ name)
 
+-- a path that is a field's name, unless it stands below another
+abbrev pub name_or_path : List ℕ → Option Path → Path
+name_or_path name None = name
+name_or_path name (Some path) = path
+
 -- a field's own entry; local fields have none
 abbrev pub own_entry : Part → Path → List Bool → Entries
 own_entry Header path bits = (path, bits) ∷ []

@@ -8,6 +8,7 @@ use fn_bits::Bits;
 use fn_context::Context;
 use fn_normal::Part;
 use std::alloc::{AllocError, Global};
+use std::marker::Model;
 
 impl Filling {
     ghost use Rattle.std.specs.Prelude.{◌≡◌, map, IfOk, string_bytes};
@@ -36,6 +37,45 @@ pub fn below(alloc: Global, path: &str, name: &str) -> Result<String, AllocError
     here.push('.')?;
     here.push_str(name)?;
     Ok(here)
+}
+
+/// The path of a field below another. At the top that is the field's name, and takes no memory.
+#[derive(Drop)]
+pub struct FieldPath<'a> {
+    name: &'a str,
+    below: Option<String>,
+}
+
+impl<'a> Model for FieldPath<'a> {
+    ghost use Rattle.std.specs.Prelude.{option_map, string_bytes};
+    ghost use Rattle.fn_filling.specs.Entries.{Path, name_or_path};
+
+    ghost Value = { Path };
+
+    ghost view = { λ p. name_or_path p.name.now (option_map string_bytes p.below) };
+}
+
+impl<'a> FieldPath<'a> {
+    /// The path of a field of that name below a path, which is empty at the top. The error is want of memory.
+    pub fn of(alloc: Global, path: &str, name: &'a str) -> Result<FieldPath<'a>, AllocError>
+        ensures { IfOk result (λ p. p ≡ below path.now name.now) }
+    {
+        let below = if path.is_empty() {
+            None
+        } else {
+            Some(below(alloc, path, name)?)
+        };
+        Ok(FieldPath { name, below })
+    }
+
+    pub fn as_str(&self) -> &str
+        ensures { result.now ≡ self.now }
+    {
+        match &self.below {
+            Some(path) => path.as_str(),
+            None => self.name,
+        }
+    }
 }
 
 /// Adds the entries of a filling that stands below a path.

@@ -16,7 +16,7 @@ use crate::sides::{WholeSides, header_of, is_header, is_packed, packed_of};
 use fn_bits::Bits;
 use fn_context::Context;
 use fn_expr::Expr;
-use fn_filling::{FilledField, Filling, below};
+use fn_filling::{FieldPath, FilledField, Filling};
 use fn_normal::{Encoding, Field};
 use fn_profile::Profile;
 use std::alloc::{AllocError, Global};
@@ -291,7 +291,7 @@ fn call_holds(
     let Some(values) = values_in(alloc, arguments, known)? else {
         return Ok(false);
     };
-    let here = below(alloc, path, field.declared.name.as_str())?;
+    let here = FieldPath::of(alloc, path, field.declared.name.as_str())?;
     inner_holds(
         alloc,
         profile,

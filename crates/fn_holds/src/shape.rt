@@ -7,6 +7,7 @@ ghost use Rattle.fn_fits.specs.Bounded.{LiesBetween, SidesLie, LengthsLie};
 ghost use Rattle.fn_holds.specs.Level.{FieldLies, FieldsLie};
 
 use fn_bits::Bits;
+use fn_context::path::are_same;
 use fn_filling::{FilledField, Filling};
 use fn_normal::{Bounds, Declared, Field, Format, FormatSizes, Sizes};
 
@@ -35,8 +36,10 @@ fn are_declared(fields: &[Field], filled: &[FilledField]) -> bool
 fn is_declared(declared: &Declared, filled: &Declared) -> bool
     ensures { IsTrue result ↔ (filled.now ≡ declared.now) }
 {
-    filled.name.as_str() == declared.name.as_str()
-        && filled.part == declared.part
+    are_same(
+        filled.name.as_str().as_bytes(),
+        declared.name.as_str().as_bytes(),
+    ) && filled.part == declared.part
         && filled.asked == declared.asked
 }
 
