@@ -3,6 +3,7 @@
 ghost use Rattle.std.specs.Prelude.{◌≡◌};
 ghost use Rattle.fn_checker.specs.Accepted.{IsAccepted, IsDeterminate};
 
+use crate::acts::PlanActs;
 use fn_cert::Certificate;
 use fn_profile::Profile;
 use fn_rules::CheckFault;
@@ -17,6 +18,7 @@ pub struct Accepted {
     counts: Items<u64>,
     spans: Items<Items<u64>>,
     tree_sizes: Items<Items<usize>>,
+    plan_acts: Items<Items<PlanActs>>,
 }
 
 impl Model for Accepted {
@@ -41,6 +43,7 @@ impl Accepted {
         counts: Items<u64>,
         spans: Items<Items<u64>>,
         tree_sizes: Items<Items<usize>>,
+        plan_acts: Items<Items<PlanActs>>,
     ) -> Accepted
         requires { IsAccepted (record { profile = profile; certificate = certificate; counts = counts; spans = spans }) }
         ensures profile { result.profile ≡ profile }
@@ -52,6 +55,7 @@ impl Accepted {
             counts,
             spans,
             tree_sizes,
+            plan_acts,
         }
     }
 
@@ -87,6 +91,11 @@ impl Accepted {
     /// of them: they shorten the way of who judges what he finds.
     pub fn tree_sizes(&self) -> &[Items<usize>] {
         self.tree_sizes.as_slice()
+    }
+
+    /// For each method the acts of its formats' plans, by which fillings are drawn up. Nothing is promised of them either.
+    pub fn plan_acts(&self) -> &[Items<PlanActs>] {
+        self.plan_acts.as_slice()
     }
 
     /// A law of what is accepted: the certificate is valid for the profile.

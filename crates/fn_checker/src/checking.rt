@@ -16,6 +16,7 @@ ghost use Rattle.fn_checker.specs.Judged.{Serve, AreEntriesRight, AreFormatsRigh
 
 use crate::accepted::{Accepted, CheckError, Refusal};
 use crate::jumps::tree_sizes;
+use crate::shortening::plan_acts;
 use fn_best::format_counts;
 use fn_cert::{Certificate, Direction, MethodPlans, Plans};
 use fn_normal::{Format, Method, MethodSizes};
@@ -77,8 +78,11 @@ fn accepted(
     let Ok(sizes) = tree_sizes(alloc, entries) else {
         return Err(forgotten(profile, certificate));
     };
+    let Ok(acts) = plan_acts(alloc, methods, entries) else {
+        return Err(forgotten(profile, certificate));
+    };
     match format_counts(alloc, methods, entries, counts.as_slice()) {
-        Ok(spans) => Ok(Accepted::of(profile, certificate, counts, spans, sizes)),
+        Ok(spans) => Ok(Accepted::of(profile, certificate, counts, spans, sizes, acts)),
         Err(_) => Err(forgotten(profile, certificate)),
     }
 }

@@ -1,16 +1,17 @@
-//! Fillings by the trees and the read plans of an accepted profile.
+//! Fillings by the trees and the plans of an accepted profile.
 
+use crate::desk::{Desk, Digits, Goal};
 use crate::sheet::Sheet;
-use crate::steps::follow;
+use crate::steps::act;
 use crate::stop::Stop;
-use crate::tree::format_for;
 use crate::values::values;
 use fn_bits::{Bits, Cursor};
-use fn_cert::{MethodPlans, Step};
-use fn_checker::Accepted;
+use fn_checker::{Accepted, Act};
 use fn_context::Context;
-use fn_filling::{Filling, below};
+use fn_expr::Side;
+use fn_filling::{AskedValue, Filling, Item, below};
 use fn_normal::{Encoding, Format};
+use smallvec::SmallVec;
 use sqlite_items::at;
 use std::alloc::{AllocError, Global};
 
@@ -26,18 +27,44 @@ pub fn sketch(
     context: &Context,
     cursor: &Cursor<'_>,
 ) -> Result<Option<Filling>, AllocError> {
-    let method = accepted.profile().top();
-    if cursor.rest() < least_of(accepted, method) {
+    if cursor.rest() < least_of(accepted, accepted.profile().top()) {
         return Ok(None);
     }
-    let desk = Desk {
+    drawn(alloc, &top(accepted, context, &[]), Goal::Read, cursor)
+}
+
+/// A filling of the top that may be the candidate with this number for the item, drawn likewise by the write plans: nothing is promised of it either.
+pub fn sketch_item(
+    alloc: Global,
+    accepted: &Accepted,
+    context: &Context,
+    item: &Item,
+    number: u64,
+) -> Result<Option<Filling>, AllocError> {
+    let desk = top(accepted, context, item.asked.as_slice());
+    let source = Cursor::new(&item.header);
+    drawn(alloc, &desk, Goal::Write(number), &source)
+}
+
+/// Where the top is drawn.
+fn top<'a>(accepted: &'a Accepted, context: &'a Context, asked: &'a [AskedValue]) -> Desk<'a> {
+    Desk {
         accepted,
         context,
-        method,
-        arguments: [].as_slice(),
+        method: accepted.profile().top(),
+        arguments: &[],
         path: "",
-    };
-    match draw(CALL_DEPTH, alloc, &desk, cursor, 0) {
+        asked,
+    }
+}
+
+fn drawn(
+    alloc: Global,
+    desk: &Desk<'_>,
+    goal: Goal,
+    source: &Cursor<'_>,
+) -> Result<Option<Filling>, AllocError> {
+    match draw(CALL_DEPTH, alloc, desk, goal, source, 0) {
         Ok(filling) => Ok(Some(filling)),
         Err(Stop::Nowhere) => Ok(None),
         Err(Stop::OutOfMemory) => Err(AllocError),
@@ -52,37 +79,61 @@ fn least_of(accepted: &Accepted, method: usize) -> usize {
     }
 }
 
-/// Where a method is drawn: under the values of its arguments, below the path of the field that the filling fills.
-#[derive(Clone, Copy)]
-struct Desk<'a> {
-    accepted: &'a Accepted,
-    context: &'a Context,
-    method: usize,
-    arguments: &'a [i128],
-    path: &'a str,
-}
-
-/// The filling of the method whose packed bits are so many places after the cursor's.
+/// The filling of the method whose source begins so many places after the cursor's.
 #[cycle(drawing)]
 fn draw(
     depth: usize,
     alloc: Global,
     desk: &Desk<'_>,
-    cursor: &Cursor<'_>,
+    goal: Goal,
+    source: &Cursor<'_>,
     from: usize,
 ) -> Result<Filling, Stop> {
-    let (index, format, plan) = start(desk, cursor, from)?;
-    let mut sheet = Sheet::blank(alloc, format, desk.arguments, from)?;
-    for step in plan {
-        match *step {
-            Step::Call(field) => call(depth, alloc, desk, &mut sheet, field, cursor)?,
-            own => follow(alloc, desk.context, desk.path, &mut sheet, own, cursor)?,
+    let start = desk.start(goal, source, from)?;
+    let mut digits = start.digits;
+    let mut sheet = Sheet::blank(alloc, start.format, desk.arguments, from)?;
+    for next in start.acts {
+        match *next {
+            Act::Call { field, takes } => {
+                let goal = inner_goal(desk, &sheet, goal, field, &mut digits)?;
+                call(depth, alloc, desk, &mut sheet, goal, field, takes, source)?;
+            }
+            other => act(alloc, desk, &mut sheet, other, &mut digits, source)?,
         }
     }
-    Ok(sheet.into_filling(alloc, index)?)
+    Ok(sheet.into_filling(alloc, start.index)?)
 }
 
-/// Draws what fills a field that calls a method: from no bits where it isn't listed.
+/// The goal of the filling inside the field: in writing the next digit is its number. The error is Nowhere.
+fn inner_goal(
+    desk: &Desk<'_>,
+    sheet: &Sheet<'_>,
+    goal: Goal,
+    field: usize,
+    digits: &mut Digits,
+) -> Result<Goal, Stop> {
+    match goal {
+        Goal::Read => Ok(Goal::Read),
+        Goal::Write(_) => {
+            let called = called_by(sheet, field)?;
+            let radix = desk.radix(called)?;
+            Ok(Goal::Write(digits.next(radix)?))
+        }
+    }
+}
+
+/// The method that the field calls. The error is Nowhere.
+fn called_by(sheet: &Sheet<'_>, field: usize) -> Result<usize, Stop> {
+    let Some(coded) = sheet.format.fields.get(field) else {
+        return Err(Stop::Nowhere);
+    };
+    match coded.encoding.get() {
+        Encoding::Call { method, .. } => Ok(*method),
+        Encoding::Bare | Encoding::Library(_) => Err(Stop::Nowhere),
+    }
+}
+
+/// Draws what fills a field that calls a method.
 #[cycle(drawing)]
 #[inline(never)]
 fn call(
@@ -90,72 +141,134 @@ fn call(
     alloc: Global,
     desk: &Desk<'_>,
     sheet: &mut Sheet<'_>,
+    goal: Goal,
     field: usize,
-    cursor: &Cursor<'_>,
+    takes: bool,
+    source: &Cursor<'_>,
 ) -> Result<(), Stop> {
-    let Some(coded) = sheet.format.fields.get(field) else {
+    let Some(called) = call_of(alloc, desk, sheet, field)? else {
         return Err(Stop::Nowhere);
     };
-    let Encoding::Call { method, arguments } = coded.encoding.get() else {
-        return Err(Stop::Nowhere);
+    let inside = Inside {
+        method: called.method,
+        field,
+        takes,
     };
-    let Some(arguments) = values(alloc, sheet, arguments.as_slice())? else {
-        return Err(Stop::Nowhere);
+    let arguments = called.arguments.as_slice();
+    let (accepted, context) = (desk.accepted, desk.context);
+    let filling = match &called.path {
+        Some(path) => draw_inside(
+            depth,
+            alloc,
+            accepted,
+            context,
+            arguments,
+            path.as_str(),
+            sheet,
+            goal,
+            inside,
+            source,
+        )?,
+        None => draw_inside(
+            depth,
+            alloc,
+            accepted,
+            context,
+            arguments,
+            name_of(sheet.format, field),
+            sheet,
+            goal,
+            inside,
+            source,
+        )?,
     };
+    sheet.fill(alloc, field, filling)?;
+    if takes {
+        sheet.pass(sheet.length(field, goal.side()));
+    }
+    Ok(())
+}
+
+/// A call: the method, the field that calls it, and whether the filling takes from the source.
+#[derive(Clone, Copy)]
+struct Inside {
+    method: usize,
+    field: usize,
+    takes: bool,
+}
+
+/// Draws the filling inside a field: where it doesn't take from the source, from the field's own bits of that side.
+#[cycle(drawing)]
+fn draw_inside<'x>(
+    depth: usize,
+    alloc: Global,
+    accepted: &'x Accepted,
+    context: &'x Context,
+    arguments: &'x [i128],
+    path: &'x str,
+    sheet: &Sheet<'_>,
+    goal: Goal,
+    inside: Inside,
+    source: &Cursor<'_>,
+) -> Result<Filling, Stop> {
     if depth == 0 {
         return Err(Stop::Nowhere);
     }
-    let path = below(alloc, desk.path, coded.declared.name.as_str())?;
-    let inner = Desk {
-        accepted: desk.accepted,
-        context: desk.context,
-        method: *method,
-        arguments: arguments.as_slice(),
-        path: path.as_str(),
+    let desk = Desk {
+        accepted,
+        context,
+        method: inside.method,
+        arguments,
+        path,
+        asked: &[],
     };
-    let nothing = Bits::new(alloc);
-    let filling = if sheet.lists(field) {
-        let place = sheet.before(field)?;
-        draw(depth - 1, alloc, &inner, cursor, place)?
+    if inside.takes {
+        draw(depth - 1, alloc, &desk, goal, source, sheet.ahead)
     } else {
-        draw(depth - 1, alloc, &inner, &Cursor::new(&nothing), 0)?
-    };
-    sheet.fill(alloc, field, filling)
-}
-
-/// The format to which the method's tree leads, by its index and itself, and its read plan.
-fn start<'a>(
-    desk: &Desk<'a>,
-    cursor: &Cursor<'_>,
-    from: usize,
-) -> Result<(usize, &'a Format, &'a [Step]), Stop> {
-    let Some(entry) = entry_at(desk.accepted.certificate().methods(), desk.method) else {
-        return Err(Stop::Nowhere);
-    };
-    let Some(sizes) = at(desk.accepted.tree_sizes(), desk.method) else {
-        return Err(Stop::Nowhere);
-    };
-    let (nodes, sizes) = (entry.tree.as_slice(), sizes.as_slice());
-    let Some(index) = format_for(nodes, sizes, desk.arguments, cursor, from) else {
-        return Err(Stop::Nowhere);
-    };
-    let Some(format) = format_at(desk.accepted, desk.method, index) else {
-        return Err(Stop::Nowhere);
-    };
-    match plan_at(entry, index) {
-        Some(plan) => Ok((index, format, plan)),
-        None => Err(Stop::Nowhere),
+        let own = sheet.bits(inside.field, goal.side())?.copy(alloc)?;
+        draw(depth - 1, alloc, &desk, goal, &Cursor::new(&own), 0)
     }
 }
 
-fn entry_at(entries: &[Option<MethodPlans>], method: usize) -> Option<&MethodPlans> {
-    entries.get(method)?.as_ref()
+/// What a field calls: the method, the values of its arguments, and the path below which the filling stands: none at the top, where it is the field's name.
+#[derive(Drop)]
+struct Called {
+    method: usize,
+    arguments: SmallVec<i128, 4>,
+    path: Option<String>,
 }
 
-fn format_at(accepted: &Accepted, method: usize, index: usize) -> Option<&Format> {
-    accepted.profile().methods().get(method)?.formats.get(index)
+fn call_of(
+    alloc: Global,
+    desk: &Desk<'_>,
+    sheet: &Sheet<'_>,
+    field: usize,
+) -> Result<Option<Called>, AllocError> {
+    let Some(coded) = sheet.format.fields.get(field) else {
+        return Ok(None);
+    };
+    let Encoding::Call { method, arguments } = coded.encoding.get() else {
+        return Ok(None);
+    };
+    let Some(arguments) = values(alloc, sheet, arguments.as_slice())? else {
+        return Ok(None);
+    };
+    let path = if desk.path.is_empty() {
+        None
+    } else {
+        Some(below(alloc, desk.path, coded.declared.name.as_str())?)
+    };
+    Ok(Some(Called {
+        method: *method,
+        arguments,
+        path,
+    }))
 }
 
-fn plan_at(entry: &MethodPlans, format: usize) -> Option<&[Step]> {
-    Some(entry.formats.get(format)?.plans.as_ref()?.read.as_slice())
+/// The name of the field, empty where there is no such field.
+fn name_of(format: &Format, field: usize) -> &str {
+    match format.fields.get(field) {
+        Some(found) => found.declared.name.as_str(),
+        None => "",
+    }
 }

@@ -1,8 +1,9 @@
 //! Fillings that are drawn up quickly, for who judges them anyhow.
 #![tactic(auto)]
 
-pub use drawing::sketch;
+pub use drawing::{sketch, sketch_item};
 
+mod desk;
 mod drawing;
 mod sheet;
 mod steps;

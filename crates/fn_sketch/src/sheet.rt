@@ -8,19 +8,18 @@ use fn_normal::{Declared, Format};
 use sqlite_items::{Items, at};
 use std::alloc::{AllocError, Global};
 
-/// A level that is being drawn: its format, the values of the parameters, the fields so far, and the place up to which the listed fields were passed, with
-/// the count of packed bits before it. Of a side whose length alone is known there are so many zeros.
+/// A level that is being drawn: its format, the values of the parameters, the fields so far, and how many places after the cursor's what is next of the source
+/// stands. Of a side whose length alone is known there are so many zeros.
 #[derive(Drop)]
 pub(crate) struct Sheet<'a> {
     pub(crate) format: &'a Format,
     pub(crate) arguments: &'a [i128],
     pub(crate) fields: Vec<FilledField>,
-    next: usize,
-    ahead: usize,
+    pub(crate) ahead: usize,
 }
 
 impl<'a> Sheet<'a> {
-    /// A level with no bits, before whose first packed bit there are so many. The error is want of memory.
+    /// A level with no bits, whose source begins so many places after the cursor's. The error is want of memory.
     pub(crate) fn blank(
         alloc: Global,
         format: &'a Format,
@@ -40,7 +39,6 @@ impl<'a> Sheet<'a> {
             format,
             arguments,
             fields,
-            next: 0,
             ahead: from,
         })
     }
@@ -93,30 +91,9 @@ impl<'a> Sheet<'a> {
         Ok(())
     }
 
-    /// Whether the format lists the field.
-    pub(crate) fn lists(&self, field: usize) -> bool {
-        self.format
-            .listing
-            .as_slice()
-            .iter()
-            .any(|listed| *listed == field)
-    }
-
-    /// How many packed bits stand before those of the listed field, by the lengths of the fields before it. The error is Nowhere, where it was passed before,
-    /// or isn't listed.
-    pub(crate) fn before(&mut self, field: usize) -> Result<usize, Stop> {
-        let listing = self.format.listing.as_slice();
-        for place in self.next..listing.len() {
-            let listed = listing[place];
-            self.next = place;
-            if listed == field {
-                return Ok(self.ahead);
-            }
-            self.ahead = self
-                .ahead
-                .saturating_add(self.length(listed, Side::Compressed));
-        }
-        Err(Stop::Nowhere)
+    /// Passes so many bits of the source.
+    pub(crate) fn pass(&mut self, count: usize) {
+        self.ahead = self.ahead.saturating_add(count);
     }
 }
 

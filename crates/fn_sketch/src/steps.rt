@@ -1,54 +1,174 @@
 //! The steps of a plan, without a test on the way.
 
+use crate::desk::{Desk, Digits};
 use crate::sheet::Sheet;
 use crate::stop::Stop;
-use crate::values::value;
+use crate::values::{value, whole_of};
 use fn_bits::{Bits, Cursor};
 use fn_cert::Step;
-use fn_context::Context;
-use fn_expr::{Expr, Side};
+use fn_checker::{Act, Count};
+use fn_expr::{Expr, Side, Subject};
 use fn_holds::sides::reference_below;
-use fn_lib::lsb_up;
-use fn_normal::{Encoding, Field, Library};
+use fn_lib::{crc_down, lsb_down, lsb_up};
+use fn_normal::{CrcArguments, Encoding, Field, Library};
 use fn_plans::constraints::{length_given, value_given};
 use fn_plans::library::size_of;
+use sqlite_items::at;
 use std::alloc::Global;
 
-/// Follows a step that calls no method. The error is Nowhere or want of memory.
-pub(crate) fn follow(
+/// Does what calls no method. The error is Nowhere or want of memory.
+pub(crate) fn act(
     alloc: Global,
-    context: &Context,
-    path: &str,
+    desk: &Desk<'_>,
     sheet: &mut Sheet<'_>,
-    step: Step,
-    cursor: &Cursor<'_>,
+    act: Act,
+    digits: &mut Digits,
+    source: &Cursor<'_>,
 ) -> Result<(), Stop> {
-    match step {
-        Step::Take(field) => take(alloc, sheet, field, cursor),
-        Step::LibraryUp(field) => go_up(alloc, context, path, sheet, field),
-        Step::LibraryDown(field) => go_down(alloc, sheet, field),
-        Step::MethodLength(field, side) => measure(alloc, context, path, sheet, field, side),
-        Step::ConstraintLength(field, side, number) => bracket(alloc, sheet, field, side, number),
-        Step::Solve(field, number) => solve(alloc, sheet, field, number),
-        Step::Call(_) | Step::Choose(_) | Step::Ask(_) => Err(Stop::Nowhere),
+    match act {
+        Act::Take {
+            field,
+            side,
+            count,
+            copies,
+        } => take(alloc, sheet, field, side, count, copies, source),
+        Act::Pass { field, side, count } => {
+            let count = count_of(sheet, field, side, count)?;
+            sheet.pass(count);
+            Ok(())
+        }
+        Act::Give {
+            field,
+            side,
+            count,
+            number,
+        } => {
+            let count = count_of(sheet, field, side, count)?;
+            let bits = spelled(alloc, count, number)?;
+            sheet.set(field, side, bits);
+            Ok(())
+        }
+        Act::Up(field) => go_up(alloc, desk, sheet, field),
+        Act::Down(field) => go_down(alloc, desk, sheet, field),
+        Act::Choose {
+            field,
+            width,
+            copies,
+        } => choose(alloc, sheet, field, width, copies, digits),
+        Act::Ask { field, place } => ask(alloc, desk, sheet, field, place),
+        Act::Follow(step) => follow(alloc, desk, sheet, step),
+        Act::Call { .. } => Err(Stop::Nowhere),
     }
 }
 
-/// Takes the packed bits of a listed field from those at the cursor's place.
+/// Takes the next bits of the source.
 fn take(
     alloc: Global,
     sheet: &mut Sheet<'_>,
     field: usize,
-    cursor: &Cursor<'_>,
+    side: Side,
+    count: Count,
+    copies: bool,
+    source: &Cursor<'_>,
 ) -> Result<(), Stop> {
-    let place = sheet.before(field)?;
-    let count = sheet.length(field, Side::Compressed);
-    let Some(number) = cursor.peek(place, count) else {
+    let count = count_of(sheet, field, side, count)?;
+    let Some(number) = source.peek(sheet.ahead, count) else {
         return Err(Stop::Nowhere);
     };
+    sheet.pass(count);
+    put(alloc, sheet, field, side, count, number, copies)
+}
+
+/// Gives the side of the field the bits that spell the number, and where it `copies` the other side as well.
+fn put(
+    alloc: Global,
+    sheet: &mut Sheet<'_>,
+    field: usize,
+    side: Side,
+    count: usize,
+    number: u64,
+    copies: bool,
+) -> Result<(), Stop> {
     let bits = spelled(alloc, count, number)?;
-    sheet.set(field, Side::Compressed, bits);
+    sheet.set(field, side, bits);
+    if copies {
+        let bits = spelled(alloc, count, number)?;
+        sheet.set(field, other(side), bits);
+    }
     Ok(())
+}
+
+fn other(side: Side) -> Side {
+    match side {
+        Side::Uncompressed => Side::Compressed,
+        Side::Compressed => Side::Uncompressed,
+    }
+}
+
+/// How many bits that is. The error is Nowhere.
+fn count_of(sheet: &Sheet<'_>, field: usize, side: Side, count: Count) -> Result<usize, Stop> {
+    match count {
+        Count::Number(count) => Ok(count),
+        Count::Parameter(index) => match at(sheet.arguments, index) {
+            Some(argument) => match usize::try_from(*argument) {
+                Ok(count) => Ok(count),
+                Err(_) => Err(Stop::Nowhere),
+            },
+            None => Err(Stop::Nowhere),
+        },
+        Count::Noted => Ok(sheet.length(field, side)),
+    }
+}
+
+/// Gives the field the bits of the next digit.
+fn choose(
+    alloc: Global,
+    sheet: &mut Sheet<'_>,
+    field: usize,
+    width: usize,
+    copies: bool,
+    digits: &mut Digits,
+) -> Result<(), Stop> {
+    if width > 63 {
+        return Err(Stop::Nowhere);
+    }
+    let digit = digits.next(1 << width)?;
+    put(
+        alloc,
+        sheet,
+        field,
+        Side::Uncompressed,
+        width,
+        digit,
+        copies,
+    )
+}
+
+/// Gives the field the asked value at that place.
+fn ask(
+    alloc: Global,
+    desk: &Desk<'_>,
+    sheet: &mut Sheet<'_>,
+    field: usize,
+    place: usize,
+) -> Result<(), Stop> {
+    let Some(value) = at(desk.asked, place) else {
+        return Err(Stop::Nowhere);
+    };
+    sheet.set(field, Side::Uncompressed, value.bits.copy(alloc)?);
+    Ok(())
+}
+
+/// Follows a step of a plan that learns from what was drawn. The error is Nowhere or want of memory.
+fn follow(alloc: Global, desk: &Desk<'_>, sheet: &mut Sheet<'_>, step: Step) -> Result<(), Stop> {
+    match step {
+        Step::LibraryUp(field) => go_up(alloc, desk, sheet, field),
+        Step::LibraryDown(field) => go_down(alloc, desk, sheet, field),
+        Step::MethodLength(field, side) => measure(alloc, desk, sheet, field, side),
+        Step::ConstraintLength(field, side, number) => bracket(alloc, sheet, field, side, number),
+        Step::Solve(field, number) => solve(alloc, sheet, field, number),
+        Step::Take(_) | Step::Call(_) | Step::Choose(_) | Step::Ask(_) => Err(Stop::Nowhere),
+    }
 }
 
 /// Notes how many bits the side of the field has.
@@ -96,20 +216,14 @@ fn coded<'a>(sheet: &Sheet<'a>, field: usize) -> Result<(&'a Field, &'a Library)
 }
 
 /// Gives the field the uncompressed side that its library method makes of the packed one.
-fn go_up(
-    alloc: Global,
-    context: &Context,
-    path: &str,
-    sheet: &mut Sheet<'_>,
-    field: usize,
-) -> Result<(), Stop> {
+fn go_up(alloc: Global, desk: &Desk<'_>, sheet: &mut Sheet<'_>, field: usize) -> Result<(), Stop> {
     let (coded, library) = coded(sheet, field)?;
     let bits = match library {
         Library::CompressedValue { .. } | Library::Crc(_) => return Ok(()),
         Library::Irregular { .. } => sheet.bits(field, Side::Compressed)?.copy(alloc)?,
         Library::UncompressedValue { length, value } => constant(alloc, sheet, length, value)?,
         Library::Static | Library::Lsb { .. } => {
-            referred(alloc, context, path, sheet, field, coded, library)?
+            referred(alloc, desk, sheet, field, coded, library)?
         }
     };
     sheet.set(field, Side::Uncompressed, bits);
@@ -120,16 +234,13 @@ fn go_up(
 #[inline(never)]
 fn referred(
     alloc: Global,
-    context: &Context,
-    path: &str,
+    desk: &Desk<'_>,
     sheet: &Sheet<'_>,
     field: usize,
     coded: &Field,
     library: &Library,
 ) -> Result<Bits, Stop> {
-    let Some(reference) = reference_below(alloc, context, path, coded)? else {
-        return Err(Stop::Nowhere);
-    };
+    let reference = reference(alloc, desk, coded)?;
     let Library::Lsb { bits, offset } = library else {
         return Ok(reference.copy(alloc)?);
     };
@@ -143,25 +254,79 @@ fn referred(
     }
 }
 
-/// Gives the field the packed side that its library method makes of the uncompressed one, where that is plain.
-#[inline(never)]
-fn go_down(alloc: Global, sheet: &mut Sheet<'_>, field: usize) -> Result<(), Stop> {
-    let (_, library) = coded(sheet, field)?;
+/// The reference of the field. The error is Nowhere, where there is none, or want of memory.
+fn reference<'a>(alloc: Global, desk: &Desk<'a>, coded: &'a Field) -> Result<&'a Bits, Stop> {
+    match reference_below(alloc, desk.context, desk.path, coded)? {
+        Some(reference) => Ok(reference),
+        None => Err(Stop::Nowhere),
+    }
+}
+
+/// Gives the field the packed side that its library method makes of the uncompressed one.
+fn go_down(
+    alloc: Global,
+    desk: &Desk<'_>,
+    sheet: &mut Sheet<'_>,
+    field: usize,
+) -> Result<(), Stop> {
+    let (coded, library) = coded(sheet, field)?;
     let bits = match library {
         Library::UncompressedValue { .. } | Library::Static => return Ok(()),
         Library::Irregular { .. } => sheet.bits(field, Side::Uncompressed)?.copy(alloc)?,
         Library::CompressedValue { length, value } => constant(alloc, sheet, length, value)?,
-        Library::Lsb { .. } | Library::Crc(_) => return Err(Stop::Nowhere),
+        Library::Lsb { bits, offset } => lowered(alloc, desk, sheet, field, coded, bits, offset)?,
+        Library::Crc(crc) => summed(alloc, sheet, crc)?,
     };
     sheet.set(field, Side::Compressed, bits);
     Ok(())
 }
 
+/// The packed side of a field that sends the last bits near its reference.
+#[inline(never)]
+fn lowered(
+    alloc: Global,
+    desk: &Desk<'_>,
+    sheet: &Sheet<'_>,
+    field: usize,
+    coded: &Field,
+    bits: &Expr,
+    offset: &Expr,
+) -> Result<Bits, Stop> {
+    let reference = reference(alloc, desk, coded)?;
+    let bits = reckoned(alloc, sheet, bits)?;
+    let offset = reckoned(alloc, sheet, offset)?;
+    let whole = sheet.bits(field, Side::Uncompressed)?;
+    match lsb_down(alloc, bits, offset, Some(reference), whole)? {
+        Some(found) => Ok(found),
+        None => Err(Stop::Nowhere),
+    }
+}
+
+/// The packed side of a checksum.
+#[inline(never)]
+fn summed(alloc: Global, sheet: &Sheet<'_>, crc: &CrcArguments) -> Result<Bits, Stop> {
+    let bits = reckoned(alloc, sheet, &crc.bits)?;
+    let polynomial = reckoned(alloc, sheet, &crc.polynomial)?;
+    let initial = reckoned(alloc, sheet, &crc.initial)?;
+    let length = reckoned(alloc, sheet, &crc.length)?;
+    let covered = match crc.subject {
+        Subject::Field(field) => sheet.bits(field, crc.side)?.copy(alloc)?,
+        Subject::This => match whole_of(alloc, sheet, crc.side) {
+            Some(whole) => whole,
+            None => return Err(Stop::Nowhere),
+        },
+    };
+    let none = Bits::new(alloc);
+    match crc_down(alloc, bits, polynomial, initial, &covered, length, &none)? {
+        Some(sum) => Ok(sum),
+        None => Err(Stop::Nowhere),
+    }
+}
+
 /// Notes the length that the field's library method gives a side.
 fn measure(
     alloc: Global,
-    context: &Context,
-    path: &str,
+    desk: &Desk<'_>,
     sheet: &mut Sheet<'_>,
     field: usize,
     side: Side,
@@ -170,13 +335,13 @@ fn measure(
     if let Some(size) = size_of(side, library) {
         return note(alloc, sheet, field, side, size);
     }
-    if let (Library::Static, Side::Uncompressed) = (library, side) {
-        let Some(reference) = reference_below(alloc, context, path, coded)? else {
-            return Err(Stop::Nowhere);
-        };
-        return set_length(alloc, sheet, field, side, reference.len());
+    match (library, side) {
+        (Library::Static | Library::Lsb { .. }, Side::Uncompressed) => {
+            let count = reference(alloc, desk, coded)?.len();
+            set_length(alloc, sheet, field, side, count)
+        }
+        _ => Ok(()),
     }
-    Ok(())
 }
 
 /// Notes the length of a side of the field that the constraint gives, by its number.

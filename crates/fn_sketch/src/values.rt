@@ -69,7 +69,7 @@ fn attribute_value(alloc: Global, sheet: &Sheet<'_>, attribute: Attribute) -> Op
 }
 
 /// The bits of the side of the whole, as far as they were drawn.
-fn whole_of(alloc: Global, sheet: &Sheet<'_>, side: Side) -> Option<Bits> {
+pub(crate) fn whole_of(alloc: Global, sheet: &Sheet<'_>, side: Side) -> Option<Bits> {
     let mut whole = Bits::new(alloc);
     match side {
         Side::Uncompressed => {

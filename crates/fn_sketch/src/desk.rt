@@ -1,0 +1,138 @@
+//! Where a method is drawn, and what it goes by.
+
+use crate::stop::Stop;
+use crate::tree::format_for;
+use fn_bits::Cursor;
+use fn_checker::{Accepted, Act};
+use fn_context::Context;
+use fn_expr::Side;
+use fn_filling::AskedValue;
+use fn_normal::Format;
+use sqlite_items::at;
+
+/// Where a method is drawn: under the values of its arguments, below the path of the field that the filling fills. In writing it has the values of its asked
+/// fields.
+#[derive(Clone, Copy)]
+pub(crate) struct Desk<'a> {
+    pub(crate) accepted: &'a Accepted,
+    pub(crate) context: &'a Context,
+    pub(crate) method: usize,
+    pub(crate) arguments: &'a [i128],
+    pub(crate) path: &'a str,
+    pub(crate) asked: &'a [AskedValue],
+}
+
+/// What a drawing goes by: the packed bits, or the header and the number of a candidate. Their source is the cursor's bits, so many places after its own.
+#[derive(Clone, Copy)]
+pub(crate) enum Goal {
+    Read,
+    Write(u64),
+}
+
+impl Goal {
+    /// The side of the source.
+    pub(crate) fn side(self) -> Side {
+        match self {
+            Goal::Read => Side::Compressed,
+            Goal::Write(_) => Side::Uncompressed,
+        }
+    }
+}
+
+/// A format that is drawn: its index, itself, its acts, and the digits of its candidate, none in reading.
+#[derive(Clone, Copy)]
+pub(crate) struct Start<'a> {
+    pub(crate) index: usize,
+    pub(crate) format: &'a Format,
+    pub(crate) acts: &'a [Act],
+    pub(crate) digits: Digits,
+}
+
+/// What is left of a candidate's number: its place among those that share the digits so far, and how many these are.
+#[derive(Clone, Copy)]
+pub(crate) struct Digits {
+    rest: u64,
+    span: u64,
+}
+
+impl Digits {
+    /// The next digit, which goes on in `radix` ways. The error is Nowhere.
+    pub(crate) fn next(&mut self, radix: u64) -> Result<u64, Stop> {
+        if radix == 0 || self.span < radix {
+            return Err(Stop::Nowhere);
+        }
+        let span = self.span / radix;
+        if span == 0 {
+            return Err(Stop::Nowhere);
+        }
+        self.span = span;
+        let digit = self.rest / span;
+        self.rest %= span;
+        Ok(digit)
+    }
+}
+
+impl<'a> Desk<'a> {
+    /// The format to which the goal leads. The error is Nowhere.
+    pub(crate) fn start(
+        &self,
+        goal: Goal,
+        cursor: &Cursor<'_>,
+        from: usize,
+    ) -> Result<Start<'a>, Stop> {
+        match self.started(goal, cursor, from) {
+            Some(start) => Ok(start),
+            None => Err(Stop::Nowhere),
+        }
+    }
+
+    fn started(&self, goal: Goal, cursor: &Cursor<'_>, from: usize) -> Option<Start<'a>> {
+        let (index, digits) = match goal {
+            Goal::Read => (self.read_index(cursor, from)?, Digits { rest: 0, span: 1 }),
+            Goal::Write(number) => self.numbered(number)?,
+        };
+        let method = self.accepted.profile().methods().get(self.method)?;
+        let plans = at(self.accepted.plan_acts(), self.method)?.get(index)?;
+        let acts = match goal {
+            Goal::Read => plans.read.as_ref()?,
+            Goal::Write(_) => plans.write.as_ref()?,
+        };
+        Some(Start {
+            index,
+            format: method.formats.get(index)?,
+            acts: acts.as_slice(),
+            digits,
+        })
+    }
+
+    /// The format to which the method's tree leads.
+    fn read_index(&self, cursor: &Cursor<'_>, from: usize) -> Option<usize> {
+        let entries = self.accepted.certificate().methods();
+        let entry = at(entries, self.method)?.as_ref()?;
+        let sizes = at(self.accepted.tree_sizes(), self.method)?;
+        let nodes = entry.tree.as_slice();
+        format_for(nodes, sizes.as_slice(), self.arguments, cursor, from)
+    }
+
+    /// The format into which the number falls, and the digits that are left.
+    fn numbered(&self, number: u64) -> Option<(usize, Digits)> {
+        let spans = at(self.accepted.spans(), self.method)?.as_slice();
+        let mut rest = number;
+        for index in 0..spans.len() {
+            let span = spans[index];
+            if rest < span {
+                return Some((index, Digits { rest, span }));
+            }
+            rest -= span;
+        }
+        None
+    }
+
+    /// How many candidates the method has. The error is Nowhere.
+    pub(crate) fn radix(&self, method: usize) -> Result<u64, Stop> {
+        match at(self.accepted.counts(), method) {
+            Some(radix) => Ok(*radix),
+            None => Err(Stop::Nowhere),
+        }
+    }
+}
