@@ -2,13 +2,15 @@
 #![tactic(auto)]
 
 pub use fault::WriteFault;
+pub use refuting::refuted;
 pub use writing::write_method;
 
 mod beginning;
 mod calling;
 mod ending;
 pub mod fault;
-mod refuting;
+mod foreseeing;
+pub mod refuting;
 mod stepping;
 mod taking;
 pub mod writing;

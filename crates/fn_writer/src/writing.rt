@@ -13,6 +13,7 @@ use crate::beginning::start_at;
 use crate::calling::{header_from, is_header_at, own_bits, passed_on, place_of, radix_of};
 use crate::ending::{finish, plans_of};
 use crate::fault::WriteFault;
+use crate::foreseeing::foreseen;
 use crate::refuting::is_refuted;
 use crate::stepping::{choose_step, fault_of, plain_step};
 use fn_best::{Digits, Start};
@@ -51,8 +52,12 @@ pub fn write_method(
     let Some(start) = start_at(place, number) else {
         return Err(WriteFault::Failed(1));
     };
-    if is_refuted(place, start.format, source, from) {
+    let in_vain = is_refuted(alloc, place, start.format, source, from)?;
+    if in_vain {
         return Err(WriteFault::Failed(start.digits.alike()));
+    }
+    if let Some(skipped) = foreseen(alloc, place, start, source, from, number)? {
+        return Err(WriteFault::Failed(skipped));
     }
     write_format(depth, alloc, place, start, source, from, asked, number)
 }

@@ -10,7 +10,7 @@ use Rattle.fn_walk.specs.Standing.{NeverFits, IsAtStart}
 use Rattle.fn_writing.specs.Writing.{header_offset, known_bits, source_for}
 use Rattle.fn_writer.proofs.Called as called
 use Rattle.fn_writer.proofs.Ended.{some_made, none_made}
-use Rattle.fn_writer.proofs.Refuted.{never_begins}
+use Rattle.fn_writer.proofs.Never.{never_begins}
 use Rattle.fn_writer.proofs.Whole as whole
 use Rattle.fn_writer.proofs.Inner as inner
 use Rattle.fn_writer.proofs.Passing.{if_err, blames_common, plain_fails}
@@ -233,13 +233,18 @@ write_inner-returns-clause-fault t c =
     c.args.number (subst (λ z. Blames e c.place_of-place.result own z c.args.number) (c.as_slice-else-is_header_at.ensures ∙ c.new-none.ensures) h))
     c.write_method-else-is_header_at.ensures.fault
 
-pub write_method-returns-then-is_refuted-clause-fault : goal.write_method-returns-then-is_refuted-clause-fault
-write_method-returns-then-is_refuted-clause-fault t c =
+pub write_method-returns-then-in_vain-clause-fault : goal.write_method-returns-then-in_vain-clause-fault
+write_method-returns-then-in_vain-clause-fault t c =
     let place = c.args.place.now in
     let bits = drop c.args.from c.args.source.now.left in
     let b = c.in-Some.ensures.found in
-    whole.never_begins place c.requires.stands c.args.number c.in-Some.start b bits (never_begins place b.sound c.in-Some.start.format bits (c.if-is_refuted.ensures refl)) c.args.asked.now c.alike.result
+    whole.never_begins place c.requires.stands c.args.number c.in-Some.start b bits (never_begins place b.sound c.in-Some.start.format bits (c.in_ok-in_vain.ensures c.if-in_vain.true)) c.args.asked.now c.alike.result
     c.alike.ensures.count c.alike.ensures.share
+
+pub write_method-returns-in-Some-2-clause-fault : goal.write_method-returns-in-Some-2-clause-fault
+write_method-returns-in-Some-2-clause-fault t c =
+    let fails = rw c.in-Some-2.is at c.in_ok-skipped.ensures in
+    fails c.args.asked.now
 
 pub write_format-returns-in_default-clause-fault : goal.write_format-returns-in_default-clause-fault
 write_format-returns-in_default-clause-fault t c =

@@ -1,0 +1,394 @@
+-- Why candidates fail where the filling inside the first call of their plan can't have its digit.
+use Rattle.std.proofs.Common.{◌≡◌, refl, sym, ◌∙◌, ap, subst, ℕ, suc, ◌+◌, ◌*◌, ◌^◌, ◌<◌, ◌≤◌, Bool, true, false, List, [], ◌∷◌, ◌++◌, length, take, drop, arith}
+use Rattle.std.specs.Prelude.{ℤ, pos, nat_eq, Option, Some, None, slice_get, option_map, option_and_then, if◌then◌else◌}
+use Rattle.std.specs.Option.{unwrap_or}
+use Rattle.std.proofs.lemmas.Bool.{eqb-true}
+use Rattle.std.proofs.lemmas.Option.{same_Some}
+use Rattle.std.proofs.Math.Nat.{mul-le-mul_right}
+use Rattle.fn_bits.specs.Number.{num}
+use Rattle.fn_context.specs.Entries.{bits_at}
+use Rattle.fn_expr.specs.declared.expr.Attribute.{Attribute}
+use Rattle.fn_expr.specs.declared.expr.Expr.{Expr}
+use Rattle.fn_expr.specs.declared.expr.Expr.TheVariants as expr
+use Rattle.fn_expr.specs.declared.expr.Expr.TheVariants.{Number, Parameter, Binary'}
+use Rattle.fn_expr.specs.declared.expr.Measure.{Measure}
+use Rattle.fn_expr.specs.declared.expr.Measure.TheVariants as measure
+use Rattle.fn_expr.specs.declared.expr.Side.{Side}
+use Rattle.fn_expr.specs.declared.expr.Side.TheVariants.{Uncompressed, Compressed}
+use Rattle.fn_expr.specs.declared.expr.Subject.{Subject}
+use Rattle.fn_expr.specs.declared.expr.Subject.TheVariants.{This}
+use Rattle.fn_expr.specs.declared.expr.Subject.TheVariants as subject
+use Rattle.fn_expr.specs.Values.{Assignment, both, val, apply}
+use Rattle.fn_lib.specs.Methods as lib
+use Rattle.fn_lib.specs.Methods.{Lib}
+use Rattle.fn_normal.specs.declared.profile.Constraint.TheVariants.{Enforce}
+use Rattle.fn_normal.specs.declared.profile.Declared.{Declared}
+use Rattle.fn_normal.specs.declared.profile.Encoding.{Encoding}
+use Rattle.fn_normal.specs.declared.profile.Encoding.TheVariants as encoding
+use Rattle.fn_normal.specs.declared.profile.Library.TheVariants as library
+use Rattle.fn_normal.specs.declared.profile.Field.{Field}
+use Rattle.fn_normal.specs.declared.profile.Format.{Format}
+use Rattle.fn_normal.specs.declared.profile.FormatSizes.{FormatSizes}
+use Rattle.fn_normal.specs.declared.profile.Method.{Method}
+use Rattle.fn_profile.specs.Resolved.{IsSound}
+use Rattle.fn_filling.specs.declared.filling.AskedValue.{AskedValue}
+use Rattle.fn_filling.specs.declared.filling.Filling.{Filling, out-Filling}
+use Rattle.fn_filling.specs.declared.filling.FilledField.{FilledField}
+use Rattle.fn_filling.specs.Entries.{below}
+use Rattle.fn_filling.specs.Fillings.{sides_of, inner_at, fields_of, level, asked_values, header, header_bits, is_header}
+use Rattle.fn_filling.proofs.Unique.{also_at}
+use Rattle.fn_fits.specs.Bounded.{sizes_at}
+use Rattle.fn_fits.specs.Fits.{Context, Fits, field_side, format_at, assigned, side_of, measured, vals}
+use Rattle.fn_fits.proofs.Bounding.{lie-in-bounds}
+use Rattle.fn_fits.proofs.Inverted.{FitsParts, parts, coded_parts, called_parts, length-fields}
+use Rattle.fn_fits.proofs.Sides.{header_splits}
+use Rattle.fn_fits.proofs.Sized.{one_value, and_then_some, map_some}
+use Rattle.fn_cert.specs.declared.certificate.Plans.{Plans}
+use Rattle.fn_cert.specs.declared.certificate.Step.{Step}
+use Rattle.fn_cert.specs.declared.certificate.Step.TheVariants.{Take, Call, LibraryUp, LibraryDown, MethodLength, ConstraintLength, Solve, Choose, Ask}
+use Rattle.fn_cert.specs.Kept.{Entries}
+use Rattle.fn_rules.specs.Counts.{callee, ways}
+use Rattle.fn_rules.specs.Rules.{choice}
+use Rattle.fn_rules.specs.Views.{view, side_at}
+use Rattle.fn_rules.proofs.Agree.{side_is, inner_is}
+use Rattle.fn_rules.proofs.Inputs.{declared_of, declared_in}
+use Rattle.fn_best.specs.declared.digits.Digits.{Digits}
+use Rattle.fn_best.specs.declared.digits.Start.{Start}
+use Rattle.fn_best.specs.Codes.{number, called_at, write_plan, IsCandidate}
+use Rattle.fn_best.specs.Reading.{Divides, IsNext, CarriesOn, IsReading, ShareDigits, ShareUpTo}
+use Rattle.fn_best.proofs.Fitting.{is_candidate}
+use Rattle.fn_best.proofs.Kept.{reading_passes, reading_parts, ways_of_choice, ways_of_call}
+use Rattle.fn_best.proofs.Reading as digits
+use Rattle.fn_checker.specs.Accepted.{Accepting}
+use Rattle.fn_walk.specs.declared.place.Place.{Place}
+use Rattle.fn_writing.specs.Writing.{Begins as StandsIn}
+use Rattle.fn_writing.proofs.Steps.{parted, stands}
+use Rattle.fn_writer.specs.declared.foreseeing.Chosen.{Chosen}
+use Rattle.fn_writer.specs.Foreseeing.{HasChosen, HasSeen, StandsBefore, SeesOn, digit_of, is_irregular, shows_choice, seen_value, seen_numbers, IsRefutedInside, by_values, by_start, AreRefutedInside}
+use Rattle.fn_writer.specs.Going.{Begins}
+use Rattle.fn_writer.specs.Refuting.{HasFalse, HaveBefore}
+use Rattle.fn_writer.specs.Walking.{site_of, Fails}
+use Rattle.fn_writer.proofs.Called.{is_method}
+use Rattle.fn_writer.proofs.Inner.{moved}
+use Rattle.fn_writer.proofs.Passing.{room_next}
+use Rattle.fn_writer.proofs.Never.{false_is, counted, never_begins}
+
+-- ---- choices
+
+more_chosen : (f : Filling) (xs : List Chosen) (x : Chosen) → HasChosen f xs → num (side_at (view f) x.field Uncompressed) ≡ x.digit → HasChosen f (xs ++ x ∷ [])
+more_chosen f [] x h e = (e, tt)
+more_chosen f (y ∷ ys) x h e = (h.0, more_chosen f ys x h.1 e)
+
+digit_is : (f : Filling) (xs : List Chosen) → HasChosen f xs → (i digit : ℕ) → digit_of xs i ≡ Some digit → num (side_at (view f) i Uncompressed) ≡ digit
+digit_is f [] h i digit e = absurd (cc)
+digit_is f (x ∷ xs) h i digit e = by (nat_eq x.field i) refl (λ e. digit_is f xs h.1 i digit e) e
+  where
+    by : (b : Bool) → nat_eq x.field i ≡ b → (digit_of xs i ≡ Some digit → num (side_at (view f) i Uncompressed) ≡ digit) → (if b then Some x.digit else digit_of xs i) ≡ Some digit →
+        num (side_at (view f) i Uncompressed) ≡ digit
+    by true is later e =
+        let same : x.digit ≡ digit = cc in
+        ap (λ j. num (side_at (view f) j Uncompressed)) (sym (eqb-true x.field i is)) ∙ (h.0 ∙ same)
+    by false is later e = later e
+
+-- ---- steps before a call
+
+one_way : (counts : List ℕ) (format : Format) (one : Step) → ((i : ℕ) → one ≡ Call i → ⊥) → ((i : ℕ) → one ≡ Choose i → ⊥) → ways counts format one ≡ 1
+one_way counts format (Call i) no_call no_choice = absurd (no_call i refl)
+one_way counts format (Choose i) no_call no_choice = absurd (no_choice i refl)
+one_way counts format (Take i) no_call no_choice = refl
+one_way counts format (LibraryUp i) no_call no_choice = refl
+one_way counts format (LibraryDown i) no_call no_choice = refl
+one_way counts format (MethodLength i side) no_call no_choice = refl
+one_way counts format (ConstraintLength i side k) no_call no_choice = refl
+one_way counts format (Solve i k) no_call no_choice = refl
+one_way counts format (Ask i) no_call no_choice = refl
+
+module _ (place : Place) (n : ℕ) (format : Format) (c : ℕ) where
+  abbrev methods : List Method
+  methods = place.accepted.now.profile.methods
+
+  abbrev cert : Entries
+  cert = place.accepted.now.certificate
+
+  abbrev counts : List ℕ
+  counts = place.accepted.now.counts
+
+  goes_by : (one : Step) → ways counts format one ≡ 1 → (old : Digits) (choices : List Chosen) → SeesOn place n format one c old choices old choices
+  goes_by one alone old choices later h =
+      let reads = reading_passes methods cert counts h.checked.are_counts place.method n format one later c old alone h.reading in
+      record { sound = h.sound; checked = h.checked; format_is = h.format_is; reading = reads.after; told = λ f tried within. h.told f tried (reads.inside f within); room = h.room }
+
+  -- a step that is neither a call nor a choice
+  pub passes : (one : Step) → ((i : ℕ) → one ≡ Call i → ⊥) → ((i : ℕ) → one ≡ Choose i → ⊥) → (old : Digits) (choices : List Chosen) → SeesOn place n format one c old choices old choices
+  passes one no_call no_choice = goes_by one (one_way counts format one no_call no_choice)
+
+  -- a choice that has no width
+  pub passes_choice : (i : ℕ) → option_and_then (choice format i) (slice_get format.fields i) ≡ None → (old : Digits) (choices : List Chosen) → SeesOn place n format (Choose i) c old choices old choices
+  passes_choice i none = goes_by (Choose i) (ap (λ o. unwrap_or (option_map (λ (m : ℕ). 2 ^ m) o) 1) none)
+
+  module _ (i width : ℕ) (is : option_and_then (choice format i) (slice_get format.fields i) ≡ Some width) where
+    ways_is : 2 ^ width ≡ ways counts format (Choose i)
+    ways_is = sym (ways_of_choice counts format i width is)
+
+    pub choice_parts : (old : Digits) (choices : List Chosen) → StandsBefore place n format (Choose i) c old choices → Divides (2 ^ width) old.span
+    choice_parts old choices w = reading_parts methods cert counts place.method n format (Choose i) w.later c old w.seen.reading (2 ^ width) ways_is
+
+    pub chooses : (old new : Digits) (digit : ℕ) → IsNext (2 ^ width) old digit new → CarriesOn (2 ^ width) old digit new → (choices : List Chosen) →
+        SeesOn place n format (Choose i) c old choices new (choices ++ record { field = i; digit = digit } ∷ [])
+    chooses old new digit split carries choices later h =
+        let reads = carries methods cert counts h.checked.are_counts place.method n format (Choose i) later c ways_is h.reading in
+        record {
+          sound = h.sound;
+          checked = h.checked;
+          format_is = h.format_is;
+          reading = reads.after;
+          told = λ f tried within.
+              more_chosen f choices (record { field = i; digit = digit }) (h.told f tried (reads.inside f within)) (sym (digits.choice methods cert counts format f i) ∙ reads.theirs f tried within);
+          room = λ m at. room_next (2 ^ width) c m digit old new split (h.room m at);
+        }
+
+-- where a plan begins
+pub sees : (place : Place) (c : ℕ) (start : Start) → Begins place c start → (plans : Plans) → write_plan place.accepted.now.certificate place.method start.format ≡ Some plans →
+    (format : Format) → format_at place.accepted.now.profile.methods place.method start.format ≡ Some format → HasSeen place start.format format plans.write c start.digits []
+sees place c start b plans plans_are format format_is =
+    let Reads : Format → Plans → Type 0 =
+    λ x y. IsReading place.accepted.now.profile.methods place.accepted.now.certificate place.accepted.now.counts place.method start.format x y.write c start.digits in
+    let reading = subst (Reads format) (same_Some b.plans plans (sym b.plans_are ∙ plans_are)) (subst (λ z. Reads z b.plans) (same_Some b.format format (sym b.format_is ∙ format_is)) b.reading) in
+    record { sound = b.sound; checked = b.checked; format_is = format_is; reading = reading; told = λ f tried within. tt; room = b.room }
+
+-- ---- the values that are known
+
+both_more : {A B : Type 0} (f : A → A → Option B) (x y x' y' : Option A) (z : B) → ((v : A) → x ≡ Some v → x' ≡ Some v) → ((v : A) → y ≡ Some v → y' ≡ Some v) → both f x y ≡ Some z → both f x' y' ≡ Some z
+both_more f None y x' y' z h k e = absurd (cc)
+both_more f (Some v) None x' y' z h k e = absurd (cc)
+both_more f (Some v) (Some w) x' y' z h k e = (λ i. both f (h v refl i) (k w refl i)) ∙ e
+
+module _ (a b : Assignment) (attributes : (t : Attribute) (v : ℤ) → a.attribute t ≡ Some v → b.attribute t ≡ Some v) (parameters : (i : ℕ) (v : ℤ) → a.parameter i ≡ Some v → b.parameter i ≡ Some v) where
+  val_more : (e : Expr) (v : ℤ) → val a e ≡ Some v → val b e ≡ Some v
+  val_more (Number s n) v e = e
+  val_more (Parameter s i) v e = parameters i v e
+  val_more (expr.Attribute s t) v e = attributes t v e
+  val_more (Binary' s op p x q y) v e = both_more (apply op) (val a x) (val a y) (val b x) (val b y) v (val_more x) (val_more y) e
+
+  vals_more : (es : List Expr) (vs : List ℤ) → vals a es ≡ Some vs → vals b es ≡ Some vs
+  vals_more [] vs h = h
+  vals_more (e ∷ es) vs h =
+      let t = and_then_some (λ v. option_map (λ ws. v ∷ ws) (vals a es)) (val a e) vs h in
+      let s = map_some (λ ws. t.0 ∷ ws) (vals a es) vs t.2 in
+      let first = val_more e t.0 t.1 in
+      let rest = vals_more es s.0 s.1 in
+      (λ i. option_and_then (λ v. option_map (λ ws. v ∷ ws) (rest i)) (first i)) ∙ ap Some s.2
+
+irregular_is : (e : Encoding) → is_irregular e ≡ true → (len : Expr) × (e ≡ encoding.Library (library.Irregular len))
+irregular_is (encoding.Library (library.Irregular len)) e = (len, refl)
+irregular_is (encoding.Library (library.UncompressedValue len v)) e = absurd (cc)
+irregular_is (encoding.Library (library.CompressedValue len v)) e = absurd (cc)
+irregular_is (encoding.Library library.Static) e = absurd (cc)
+irregular_is (encoding.Library (library.Lsb k offset)) e = absurd (cc)
+irregular_is (encoding.Library (library.Crc crc)) e = absurd (cc)
+irregular_is encoding.Bare e = absurd (cc)
+irregular_is (encoding.Call k es) e = absurd (cc)
+
+-- its sides are equal
+carried : (m : lib.Method) (o : Option ℤ) (ref : Option (List Bool)) (u c : List Bool) → option_map lib.irregular o ≡ Some m → Lib m ref u c → u ≡ c
+carried m o ref u c e h =
+    let t = map_some lib.irregular o m e in
+    (subst (λ z. Lib z ref u c) (sym t.2) h).0
+
+-- ---- the filling inside
+
+-- the filling inside a field that calls a method, under these values
+record Inside (ctx : Context) (methods : List Method) (path : List ℕ) (i : ℕ) (d : Field) (j : ℕ) (args : List ℤ) (f : Filling) : Type 0 where
+  inner : Filling
+  inner_is : inner_at f i ≡ Some inner
+  fits : Fits methods ctx j args (below path d.declared.name) inner
+  header_is : side_at (view f) i Uncompressed ≡ header inner
+
+module _ (methods : List Method) (ctx : Context) (k : ℕ) (args : List ℤ) (path : List ℕ) (format : Format) (choices : List Chosen) (f : Filling) (p : FitsParts methods ctx k args path f) (one : p.format ≡ format) (chosen : HasChosen f choices) where
+  field_p : (i : ℕ) (d : Field) → slice_get format.fields i ≡ Some d → slice_get p.format.fields i ≡ Some d
+  field_p i d at = ap (λ (z : Format). slice_get z.fields i) one ∙ at
+
+  filled : (i : ℕ) (d : Field) → slice_get format.fields i ≡ Some d → (g : FilledField) × (slice_get (fields_of f) i ≡ Some g)
+  filled i d at = also_at p.format.fields (fields_of f) i d (sym (length-fields p.format f p.level_fits.shaped)) (field_p i d at)
+
+  sides_equal : (i : ℕ) (d : Field) → slice_get format.fields i ≡ Some d → is_irregular d.encoding ≡ true → side_at (view f) i Compressed ≡ side_at (view f) i Uncompressed
+  sides_equal i d at is =
+      let g = filled i d at in
+      let x = irregular_is d.encoding is in
+      let coded = coded_parts methods ctx (p.each i d g.0 (field_p i d at) g.1) (library.Irregular x.0) x.1 in
+      let same = carried coded.method _ _ (sides_of g.0).uncompressed (sides_of g.0).compressed coded.is_method coded.holds in
+      side_is f i g.0 Compressed g.1 ∙ (sym same ∙ sym (side_is f i g.0 Uncompressed g.1))
+
+  shown : (i : ℕ) (o : Option Field) → slice_get format.fields i ≡ o → (side : Side) → shows_choice o side ≡ true → side_at (view f) i side ≡ side_at (view f) i Uncompressed
+  shown i o at Uncompressed is = refl
+  shown i None at Compressed is = absurd (cc)
+  shown i (Some d) at Compressed is = sides_equal i d at is
+
+  attribute_at : (s : Subject) (m : Measure) (side : Side) (v : ℤ) → seen_value format choices s m side ≡ Some v → Some (measured m (side_of p.format.listing (level f) s side)) ≡ Some v
+  attribute_at This m side v e = absurd (cc)
+  attribute_at (subject.Field i) measure.Length side v e = absurd (cc)
+  attribute_at (subject.Field i) measure.Value side v e = by (shows_choice (slice_get format.fields i) side) refl e
+    where
+      by : (b : Bool) → shows_choice (slice_get format.fields i) side ≡ b → (if b then option_map pos (digit_of choices i) else None) ≡ Some v → Some (pos (num (side_at (view f) i side))) ≡ Some v
+      by false is e = absurd (cc)
+      by true is e =
+          let t = map_some pos (digit_of choices i) v e in
+          let number_is = ap num (shown i (slice_get format.fields i) refl side is) ∙ digit_is f choices chosen i t.0 t.1 in
+          ap (λ z. Some (pos z)) number_is ∙ ap Some t.2
+
+  values_are : (es : List Expr) (vs : List ℤ) → vals (seen_numbers format args choices) es ≡ Some vs → vals (assigned p.format.listing (level f) args) es ≡ Some vs
+  values_are es vs e =
+      vals_more (seen_numbers format args choices) (assigned p.format.listing (level f) args) (λ t v e. attribute_at t.subject t.measure t.side v e) (λ i v e. e) es vs e
+
+  inside : (i : ℕ) (d : Field) (j : ℕ) (es : List Expr) → slice_get format.fields i ≡ Some d → d.encoding ≡ encoding.Call j es → (vs : List ℤ) → vals (seen_numbers format args choices) es ≡ Some vs → Inside ctx methods path i d j vs f
+  inside i d j es at is vs told =
+      let g = filled i d at in
+      let called = called_parts methods ctx (p.each i d g.0 (field_p i d at) g.1) j es is in
+      let same : called.args ≡ vs = same_Some called.args vs (sym called.is_args ∙ values_are es vs told) in
+      record {
+        inner = called.inner;
+        inner_is = inner_is f i g.0 g.1 ∙ called.is_inner;
+        fits = subst (λ z. Fits methods ctx j z (below path d.declared.name) called.inner) same called.inner_fits;
+        header_is = side_is f i g.0 Uncompressed g.1 ∙ called.header_is;
+      }
+
+passed_by : (front later : List Bool) → drop (length front) (front ++ later) ≡ later
+passed_by [] later = refl
+passed_by (x ∷ front) later = passed_by front later
+
+-- the filling inside isn't of a format that is refuted
+module _ (place : Place) (n : ℕ) (format : Format) (i : ℕ) (d : Field) (j : ℕ) (args : List ℤ) (m : ℕ) (bits : List Bool) (sound : IsSound place.accepted.now.profile)
+    (format_is : format_at place.accepted.now.profile.methods place.method n ≡ Some format) (field_is : slice_get format.fields i ≡ Some d) (asked : List AskedValue) (f : Filling)
+    (b : StandsIn place.accepted.now.profile.methods (bits_at place.context.now) (site_of place bits asked) f) (of_format : (out-Filling f).format ≡ n)
+    (x : Inside (bits_at place.context.now) place.accepted.now.profile.methods place.path.now i d j args f) (of_inner : (out-Filling x.inner).format ≡ m) where
+  abbrev their : List Method
+  their = place.accepted.now.profile.methods
+
+  no_value : (inner : Format) → format_at their j m ≡ Some inner → HasFalse args inner.constraints → ⊥
+  no_value inner at h =
+      let q = parts x.fits in
+      let one : q.format ≡ inner = one_value (format_at their j m) q.format inner (ap (format_at their j) (sym of_inner) ∙ q.is_format) at in
+      let at_q : slice_get q.format.constraints h.index ≡ Some (Enforce h.condition h.place) = ap (λ (z : Format). slice_get z.constraints h.index) one ∙ h.constraint_is in
+      false_is (assigned q.format.listing (level x.inner) args).attribute args h.condition h.is_false (q.level_fits.constraints h.index (Enforce h.condition h.place) at_q)
+
+  -- where the field begins, its header is in front
+  in_front : (sizes : FormatSizes) (offset : ℕ) → is_header d.declared.part ≡ true → sizes_at place.accepted.now.profile.sizes place.method n ≡ Some sizes → HaveBefore format.fields sizes.fields i offset →
+      (rest : List Bool) × (drop offset bits ≡ header x.inner ++ rest)
+  in_front sizes offset at_front sizes_are before =
+      let p = parts b.fits in
+      let one : p.format ≡ format = one_value (format_at their place.method n) p.format format (ap (format_at their place.method) (sym of_format) ∙ p.is_format) format_is in
+      let s = and_then_some (λ z. slice_get z.formats n) (slice_get place.accepted.now.profile.sizes place.method) sizes sizes_are in
+      let lengths = (lie-in-bounds their place.accepted.now.profile.sizes sound.sized (bits_at place.context.now) place.method place.arguments.now place.path.now f b.fits s.0 sizes s.1 (ap (slice_get s.0.formats) of_format ∙ s.2)).0 in
+      let same : declared_of (level f) ≡ declared_in format.fields = p.level_fits.shaped.declared_is ∙ ap (λ (z : Format). declared_in z.fields) one in
+      let front = header_bits (take i (level f)) in
+      let long : length front ≡ offset = counted format.fields sizes.fields (level f) same (λ k y z at_y at_z. let l = lengths.fields k y z at_y at_z in (l.uncompressed_lies.least, l.uncompressed_lies.most)) before in
+      let t = stands (level f) format.fields i d same field_is in
+      let at_header : is_header t.s.declared.part ≡ true = ap (λ (z : Declared). is_header z.part) t.declared ∙ at_front in
+      let later = header_bits (drop (suc i) (level f)) ++ b.rest in
+      let whole : bits ≡ front ++ (t.s.uncompressed ++ later) = header_splits f (take i (level f)) (drop (suc i) (level f)) t.s bits b.rest (parted (level f) i t.s t.at) at_header b.in_front in
+      let own : t.s.uncompressed ≡ header x.inner = sym (ap (λ o. field_side o Uncompressed) t.at) ∙ x.header_is in
+      (later, (λ k. drop (sym long k) (whole k)) ∙ (passed_by front (t.s.uncompressed ++ later) ∙ ap (λ z. z ++ later) own))
+
+  not_inside : IsRefutedInside place n format i d j args m bits → ⊥
+  not_inside (by_values inner at h) = no_value inner at h
+  not_inside (by_start sizes offset there at_front sizes_are before is refuted) =
+      let front = in_front sizes offset at_front sizes_are before in
+      let same = is.accepted_is in
+      let fits = moved (λ methods a ctx site. Fits methods ctx site.method site.args site.path x.inner) their there.accepted.now.profile.methods (ap (λ (z : Accepting). z.profile.methods) (sym same)) place.accepted.now there.accepted.now (sym same)
+      (bits_at place.context.now) (bits_at there.context.now) (ap bits_at (sym is.context_is)) (record { method = j; args = args; path = below place.path.now d.declared.name; source = drop offset bits; asked = asked_values (level x.inner) })
+      (site_of there (drop offset bits) (asked_values (level x.inner))) (λ k. record { method = sym is.method_is k; args = sym is.args_are k; path = sym is.path_is k; source = drop offset bits; asked = asked_values (level x.inner) }) x.fits in
+      never_begins there (subst (λ (z : Accepting). IsSound z.profile) (sym same) sound) m (drop offset bits) refuted (asked_values (level x.inner)) x.inner
+      (record { fits = fits; rest = front.0; in_front = front.1; asked_are = refl }) of_inner
+
+-- those of the called method that share the digits of a number are of the format that it falls into
+module _ (place : Place) (c : ℕ) (start : Start) (inner : Place) (same : inner.accepted.now ≡ place.accepted.now) (b : Begins inner c start) (many : ℕ) (count : many + start.digits.rest ≡ start.digits.span)
+    (share : ShareDigits start.digits many) where
+  abbrev OfFormat : Accepting → Type 0
+  OfFormat a = (g : Filling) → IsCandidate a.profile.methods a.certificate a.counts inner.method g → c ≤ number a.profile.methods a.certificate a.counts g inner.method →
+      number a.profile.methods a.certificate a.counts g inner.method < c + many → (out-Filling g).format ≡ start.format
+
+  of_format : OfFormat inner.accepted.now
+  of_format g tried least most =
+      (share inner.accepted.now.profile.methods inner.accepted.now.certificate inner.accepted.now.counts inner.method start.format b.format b.plans.write c b.reading g tried least most).read.format_is
+
+  pub all_refuted : (n : ℕ) (format : Format) (i : ℕ) (d : Field) (args : List ℤ) (bits : List Bool) → IsRefutedInside place n format i d inner.method args start.format bits →
+      AreRefutedInside place n format i d inner.method args c many bits
+  all_refuted n format i d args bits refuted = record {
+    some = let below = b.reading.below in omega (arith, below, count);
+    within = λ m at. let room = b.room m (subst (λ (a : Accepting). slice_get a.counts inner.method ≡ Some m) (sym same) at) in omega (arith, room, count);
+    their = start.format;
+    of_format = subst OfFormat same of_format;
+    refuted = refuted;
+  }
+
+-- ---- a call
+
+-- where so many digits fit in 64 bits fewer do
+pub fewer_fit : (radix digit many span : ℕ) → digit + many ≤ radix → radix * span < 2 ^ 64 → many * span < 2 ^ 64
+fewer_fit radix digit many span within fits =
+    let most : many * span ≤ radix * span = mul-le-mul_right span (omega (arith, within)) in
+    omega (arith, most, fits)
+
+module _ (place : Place) (n : ℕ) (format : Format) (c i : ℕ) (old : Digits) (choices : List Chosen) (w : StandsBefore place n format (Call i) c old choices) (d : Field) (j : ℕ) (es : List Expr)
+    (field_is : slice_get format.fields i ≡ Some d) (encoding_is : d.encoding ≡ encoding.Call j es) where
+  abbrev all : List Method
+  all = place.accepted.now.profile.methods
+
+  abbrev kept : Entries
+  kept = place.accepted.now.certificate
+
+  abbrev told : List ℕ
+  told = place.accepted.now.counts
+
+  pub within : j < length all
+  within = is_method place.accepted.now.profile w.seen.sound place.method n i j format d es w.seen.format_is field_is encoding_is
+
+  pub has_count : j < length told
+  has_count = subst (λ z. j < z) (sym w.seen.checked.are_counts.each) within
+
+  called_is : called_at format i ≡ Some j
+  called_is = ap (option_and_then (λ (z : Field). callee z.encoding)) field_is ∙ ap callee encoding_is
+
+  module _ (radix : ℕ) (radix_is : slice_get told j ≡ Some radix) where
+    ways_are : radix ≡ ways told format (Call i)
+    ways_are = sym (ways_of_call told format i j radix called_is radix_is)
+
+    pub call_parts : Divides radix old.span
+    call_parts = reading_parts all kept told place.method n format (Call i) w.later c old w.seen.reading radix ways_are
+
+    module _ (next : Digits) (digit : ℕ) (split : IsNext radix old digit next) (carries : CarriesOn radix old digit next) (vs : List ℤ) (many : ℕ) (bits : List Bool)
+        (are : AreRefutedInside place n format i d j vs digit many bits) where
+      room_inside : digit + many ≤ radix
+      room_inside = are.within radix radix_is
+
+      pub call_fails : vals (seen_numbers format place.arguments.now choices) es ≡ Some vs → (skipped : ℕ) → skipped + next.rest ≡ many * next.span → ShareUpTo many next skipped → (asked : List AskedValue) → Fails place bits asked c skipped
+      call_fails values skipped sum up_to asked =
+          let rest = next.rest in
+          let span = next.span in
+          let below = split.below in
+          let some = are.some in
+          let least : 1 * span ≤ many * span = mul-le-mul_right span (omega (arith, some)) in
+          let whole : (digit + many) * span ≤ radix * span = mul-le-mul_right span room_inside in
+          let parts_are : (digit + many) * span ≡ digit * span + many * span = omega arith in
+          let span_is = split.span_is in
+          let rest_is = split.rest_is in
+          record {
+            some = omega (arith, sum, below, least);
+            within = λ m at. let room = w.seen.room m at in omega (arith, room, sum, whole, parts_are, span_is, rest_is);
+            none = none;
+          }
+        where
+          none : (f : Filling) → StandsIn all (bits_at place.context.now) (site_of place bits asked) f → c ≤ number all kept told f place.method → number all kept told f place.method < c + skipped → ⊥
+          none f begins from to =
+              let base = w.seen.checked in
+              let tried = is_candidate all place.accepted.now.profile.sizes place.accepted.now.profile.top kept base.are_sizes base.valid told (bits_at place.context.now) begins.fits in
+              let reads = carries all kept told base.are_counts place.method n format (Call i) w.later c ways_are w.seen.reading in
+              let s = up_to all kept told base.are_counts place.method n format (Call i) w.later c old w.seen.reading digit reads (subst (λ z. digit + many ≤ z) ways_are room_inside) f tried from to in
+              let f_format = s.0.read.format_is in
+              let p = parts begins.fits in
+              let one : p.format ≡ format = one_value (format_at all place.method n) p.format format (ap (format_at all place.method) (sym f_format) ∙ p.is_format) w.seen.format_is in
+              let x = inside all (bits_at place.context.now) place.method place.arguments.now place.path.now format choices f p one (w.seen.told f tried s.0.within) i d j es field_is encoding_is vs values in
+              let numbered = digits.call all kept told format f i j x.inner called_is x.inner_is in
+              let tried_inside = is_candidate all place.accepted.now.profile.sizes place.accepted.now.profile.top kept base.are_sizes base.valid told (bits_at place.context.now) x.fits in
+              let x_format = are.of_format x.inner tried_inside (subst (λ z. digit ≤ z) numbered s.1) (subst (λ z. z < digit + many) numbered s.2) in
+              not_inside place n format i d j vs are.their bits w.seen.sound w.seen.format_is field_is asked f begins f_format x x_format are.refuted
