@@ -8,6 +8,7 @@ use Rattle.fn_best.specs.Codes.{number}
 use Rattle.fn_best.specs.Packing.{NoneAmong}
 use Rattle.fn_writing.specs.Writing.{IsNumbered, top_site}
 use Rattle.fn_checker.specs.Accepted.{Accepting}
+use Rattle.fn_engine.specs.declared.search.Packed.{Packed}
 use Rattle.fn_engine.specs.declared.search.Tried.{Tried}
 use Rattle.fn_engine.specs.declared.search.Tried.TheVariants.{Found, Passed}
 use Rattle.fn_engine.specs.Reading.{Fitting}
@@ -29,6 +30,17 @@ pub record IsPassed (a : Accepting) (ctx : Entries) (it : Item) (c skipped : ℕ
 abbrev pub IsTried : Accepting → Entries → Item → ℕ → Tried → Type 0
 IsTried a ctx it c (Found w) = IsFound a ctx it c w.filling × (w.packed ≡ packed w.filling)
 IsTried a ctx it c (Passed skipped) = IsPassed a ctx it c skipped
+
+-- the filling fits and has the item, and comes with its packed bits
+pub record IsRight (a : Accepting) (ctx : Entries) (it : Item) (f : Filling) (w : Packed) : Type 0 where
+  pub filling_is : w.filling ≡ f
+  pub fits : Fitting a ctx w.filling
+  pub has : item w.filling ≡ it
+  pub packed_is : w.packed ≡ packed w.filling
+
+-- it doesn't fit, or has another item
+abbrev pub IsWrong : Accepting → Entries → Item → Filling → Type 0
+IsWrong a ctx it f = Fitting a ctx f → item f ≡ it → ⊥
 
 -- the number is one of the top's candidates
 abbrev pub IsBelow : Accepting → ℕ → Type 0

@@ -4,15 +4,18 @@ ghost use Rattle.std.specs.Prelude.{◌≡◌, ◌≤◌, ◌↔◌, IsTrue, IfO
 ghost use Rattle.fn_context.specs.Entries.{bits_at};
 ghost use Rattle.fn_filling.specs.Fillings as sides;
 ghost use Rattle.fn_best.specs.Best.{Best};
+ghost use Rattle.fn_best.specs.Codes as codes;
 ghost use Rattle.fn_engine.specs.Searching as spec;
 
 use crate::top::{CALL_DEPTH, fits, top_place};
+use fn_best::{Candidates, number_of};
 use fn_bits::{Bits, Cursor};
 use fn_checker::Accepted;
 use fn_context::Context;
 use fn_filling::{AskedValue, Filling, Item};
 use fn_holds::{WholeSides, is_header};
-use fn_writer::{WriteFault, write_method};
+use fn_sketch::sketch_item;
+use fn_writer::{WriteFault, refuted, write_method};
 use std::alloc::{AllocError, Global};
 
 /// A filling with its packed bits.
@@ -71,11 +74,59 @@ fn candidate(
 {
     let place = top_place(accepted, context);
     let source = Cursor::new(&item.header);
+    if let Some(skipped) = refuted(alloc, &place, &source, 0, number)? {
+        return Ok(Tried::Passed(skipped));
+    }
+    if let Some(found) = sketched(alloc, accepted, context, item, number)? {
+        return Ok(Tried::Found(found));
+    }
     let asked = item.asked.as_slice();
     match write_method(CALL_DEPTH, alloc, &place, &source, 0, asked, number) {
         Ok(filling) => judged(alloc, accepted, context, item, filling),
         Err(WriteFault::Failed(skipped)) => Ok(Tried::Passed(skipped)),
         Err(WriteFault::OutOfMemory) => Err(AllocError),
+    }
+}
+
+/// A filling drawn up for the number, where it is the one that has it: it fits, and has the item and the number.
+fn sketched(
+    alloc: Global,
+    accepted: &Accepted,
+    context: &Context,
+    item: &Item,
+    number: u64,
+) -> Result<Option<Packed>, AllocError>
+    requires { length item.now.header ≤ 4096 }
+    ensures { IfOk result (λ o. IfSome o (λ w. spec.IsTried accepted.now context.now item.now number (Tried.Found w))) }
+{
+    accepted.keeps();
+    accepted.profile().keeps();
+    let Some(filling) = sketch_item(alloc, accepted, context, item, number)? else {
+        return Ok(None);
+    };
+    let has_it = has_number(alloc, accepted, &filling, number);
+    if !has_it {
+        return Ok(None);
+    }
+    packed_if_right(alloc, accepted, context, item, filling)
+}
+
+/// Whether the filling has the number, as far as that is told.
+fn has_number(alloc: Global, accepted: &Accepted, filling: &Filling, number: u64) -> bool
+    ensures { IsTrue result → codes.number accepted.now.profile.methods accepted.now.certificate accepted.now.counts filling.now accepted.now.profile.top ≡ number }
+{
+    accepted.keeps();
+    let profile = accepted.profile();
+    profile.keeps();
+    let candidates = Candidates {
+        methods: profile.methods(),
+        entries: accepted.certificate().methods(),
+        counts: accepted.counts(),
+        spans: accepted.spans(),
+    };
+    match number_of(alloc, filling, &candidates, profile.top()) {
+        Some(own) => own == number,
+        None => false,
     }
 }
 
@@ -90,13 +141,31 @@ fn judged(
     requires { length item.now.header ≤ 4096 }
     ensures { IfOk result (λ t. spec.Tells accepted.now context.now item.now filling t) }
 {
+    match packed_if_right(alloc, accepted, context, item, filling)? {
+        Some(found) => Ok(Tried::Found(found)),
+        None => Ok(Tried::Passed(1)),
+    }
+}
+
+/// The filling with its packed bits, where it fits and has the item.
+fn packed_if_right(
+    alloc: Global,
+    accepted: &Accepted,
+    context: &Context,
+    item: &Item,
+    filling: Filling,
+) -> Result<Option<Packed>, AllocError>
+    requires { length item.now.header ≤ 4096 }
+    ensures found { IfOk result (λ o. IfSome o (λ w. spec.IsRight accepted.now context.now item.now filling w)) }
+    ensures none { IfOk result (λ o. IfNone o (spec.IsWrong accepted.now context.now item.now filling)) }
+{
     let has_it = has_item(alloc, item, &filling)?;
     if !has_it {
-        return Ok(Tried::Passed(1));
+        return Ok(None);
     }
     match fits(alloc, accepted, context, &filling)? {
-        Some(whole) => Ok(Tried::Found(with_packed(filling, whole))),
-        None => Ok(Tried::Passed(1)),
+        Some(whole) => Ok(Some(with_packed(filling, whole))),
+        None => Ok(None),
     }
 }
 
