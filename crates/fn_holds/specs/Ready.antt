@@ -23,7 +23,6 @@ use Rattle.fn_filling.specs.Entries.{Path, below}
 use Rattle.fn_fits.specs.Fits.{Context, Fits, FieldFits, IsShaped, format_at, side_of, vals, method_of, reference_of}
 use Rattle.fn_lib.specs.Methods as lib
 use Rattle.fn_normal.specs.declared.profile.Library.{Library}
-use Rattle.fn_normal.specs.declared.profile.Library.TheVariants as library
 use Rattle.fn_fits.specs.Bounded.{sizes_at, LengthsLie, ArgumentsLie}
 use Rattle.fn_fits.specs.Numbers.{known_level}
 
@@ -80,11 +79,6 @@ pub record HasLevel (p : Resolved) (k : ℕ) (args : List ℤ) (f : Filling) (fo
   pub level : IsLevel p k args f format known sizes
 
 -- ---- one field
-
--- the bits that a crc covers are those of its side
-abbrev pub IsCovered : Filling → Library → List Bool → Type 0
-IsCovered f (library.Crc crc) covered = covered ≡ side_of (listing_of f) (level f) crc.subject crc.side
-IsCovered f _ covered = Unit {0}
 
 -- the field has no filling, and the library method relates its two sides
 pub record IsCoded (ctx : Context) (path : Path) (f : Filling) (a : Assignment) (d : Field) (l : Library) (g : FilledField) : Type 0 where

@@ -2,9 +2,8 @@
 #![tactic(auto)]
 
 pub use holding::{holds, level_fits, sides_if_fits};
-pub use sides::{WholeSides, is_header};
+pub use sides::WholeSides;
 
-pub mod coding;
 mod constraints;
 pub mod holding;
 pub mod level;

@@ -43,7 +43,7 @@ pub(crate) fn packed_of(alloc: Global, filling: &Filling) -> Result<Option<Bits>
 }
 
 /// Whether these bits are the header of the filling. It takes no memory.
-pub fn is_header(bits: &Bits, filling: &Filling) -> bool
+pub(crate) fn is_header(bits: &Bits, filling: &Filling) -> bool
     ensures { IsTrue result ↔ (bits.now ≡ header filling.now) }
 {
     let mut cursor = Cursor::new(bits);

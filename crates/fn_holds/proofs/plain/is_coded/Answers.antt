@@ -1,6 +1,8 @@
-use Rattle.std.proofs.Common.{rules, refl}
+use Rattle.std.proofs.Common.{rules, refl, subst}
 use Rattle.fn_context.specs.Entries.{bits_at}
 use Rattle.fn_expr.specs.Known.{assignment_of}
+use Rattle.fn_bounds.specs.Laws.{library_exprs}
+use Rattle.fn_holds.specs.Level.{AllRanged}
 use Rattle.fn_holds.proofs.Coded.{argument_ranged, spelled_up, spelled_down, carried_is}
 use Rattle.fn_holds.proofs.plain.is_coded.Goals as goal
 
@@ -18,6 +20,15 @@ is_spelled-requires-then-is_empty-2-clause-number c = argument_ranged c.args.lev
 
 pub is_carried-requires : goal.is_carried-requires
 is_carried-requires c = argument_ranged c.args.level.now.known 0 c.requires.ranged c.in-Irregular.is refl
+
+pub is_near-requires-clause-bits : goal.is_near-requires-clause-bits
+is_near-requires-clause-bits c = argument_ranged c.args.level.now.known 0 c.requires.ranged c.in-Lsb.is refl
+
+pub is_near-requires-clause-offset : goal.is_near-requires-clause-offset
+is_near-requires-clause-offset c = argument_ranged c.args.level.now.known 1 c.requires.ranged c.in-Lsb.is refl
+
+pub is_summed-requires-clause-ranged : goal.is_summed-requires-clause-ranged
+is_summed-requires-clause-ranged c = subst (λ l. AllRanged c.args.level.now.known (library_exprs l)) c.in-Crc.is c.requires.ranged
 
 pub returns-then-is_empty : goal.returns-then-is_empty
 returns-then-is_empty c =
