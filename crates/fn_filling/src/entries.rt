@@ -91,7 +91,7 @@ fn add_entries(
         let name = field.declared.name.as_str();
         let part = field.declared.part;
         if let Some(inner) = &field.inner {
-            let here = below(alloc, path, name)?;
+            let here = FieldPath::of(alloc, path, name)?;
             add_own(alloc, found, part, here.as_str(), &field.uncompressed)?;
             add_entries(alloc, found, inner, here.as_str())?;
         } else {
