@@ -15,8 +15,7 @@ ghost use Rattle.fn_checker.specs.Judged as spec;
 ghost use Rattle.fn_checker.specs.Judged.{Serve, AreEntriesRight, AreFormatsRight, IsMethodRight, IsEntryRight, RefusesIn, RefusesEntry, RefusesFormats, RefusesFormat, RefusesPlans};
 
 use crate::accepted::{Accepted, CheckError, Refusal};
-use crate::jumps::tree_sizes;
-use crate::shortening::plan_acts;
+use crate::shortcuts::Shortcuts;
 use fn_best::format_counts;
 use fn_cert::{Certificate, Direction, MethodPlans, Plans};
 use fn_normal::{Format, Method, MethodSizes};
@@ -75,14 +74,11 @@ fn accepted(
 {
     let methods = profile.methods();
     let entries = certificate.methods();
-    let Ok(sizes) = tree_sizes(alloc, entries) else {
-        return Err(forgotten(profile, certificate));
-    };
-    let Ok(acts) = plan_acts(alloc, methods, entries) else {
+    let Ok(shortcuts) = Shortcuts::of(alloc, methods, entries) else {
         return Err(forgotten(profile, certificate));
     };
     match format_counts(alloc, methods, entries, counts.as_slice()) {
-        Ok(spans) => Ok(Accepted::of(profile, certificate, counts, spans, sizes, acts)),
+        Ok(spans) => Ok(Accepted::of(profile, certificate, counts, spans, shortcuts)),
         Err(_) => Err(forgotten(profile, certificate)),
     }
 }

@@ -1,9 +1,8 @@
 //! Where a method is drawn, and what it goes by.
 
 use crate::stop::Stop;
-use crate::tree::format_for;
 use fn_bits::Cursor;
-use fn_checker::{Accepted, Act};
+use fn_checker::{Accepted, ActList, format_for};
 use fn_context::Context;
 use fn_expr::Side;
 use fn_filling::AskedValue;
@@ -44,7 +43,7 @@ impl Goal {
 pub(crate) struct Start<'a> {
     pub(crate) index: usize,
     pub(crate) format: &'a Format,
-    pub(crate) acts: &'a [Act],
+    pub(crate) acts: &'a ActList,
     pub(crate) digits: Digits,
 }
 
@@ -92,7 +91,7 @@ impl<'a> Desk<'a> {
             Goal::Write(number) => self.numbered(number)?,
         };
         let method = self.accepted.profile().methods().get(self.method)?;
-        let plans = at(self.accepted.plan_acts(), self.method)?.get(index)?;
+        let plans = at(self.accepted.shortcuts().plan_acts.as_slice(), self.method)?.get(index)?;
         let acts = match goal {
             Goal::Read => plans.read.as_ref()?,
             Goal::Write(_) => plans.write.as_ref()?,
@@ -100,16 +99,22 @@ impl<'a> Desk<'a> {
         Some(Start {
             index,
             format: method.formats.get(index)?,
-            acts: acts.as_slice(),
+            acts,
             digits,
         })
     }
 
     /// The format to which the method's tree leads.
     fn read_index(&self, cursor: &Cursor<'_>, from: usize) -> Option<usize> {
+        let shortcuts = self.accepted.shortcuts();
+        if let Some(switch) = at(shortcuts.switches.as_slice(), self.method)? {
+            if let Some(number) = cursor.peek(from, switch.bits) {
+                return *at(switch.formats.as_slice(), usize::try_from(number).ok()?)?;
+            }
+        }
         let entries = self.accepted.certificate().methods();
         let entry = at(entries, self.method)?.as_ref()?;
-        let sizes = at(self.accepted.tree_sizes(), self.method)?;
+        let sizes = at(shortcuts.tree_sizes.as_slice(), self.method)?;
         let nodes = entry.tree.as_slice();
         format_for(nodes, sizes.as_slice(), self.arguments, cursor, from)
     }
@@ -126,6 +131,13 @@ impl<'a> Desk<'a> {
             rest -= span;
         }
         None
+    }
+
+    /// Whether the candidate with this number is of a format whose write plan is hopeful.
+    pub(crate) fn is_hopeful(&self, number: u64) -> Option<bool> {
+        let (index, _) = self.numbered(number)?;
+        let plans = at(self.accepted.shortcuts().plan_acts.as_slice(), self.method)?.get(index)?;
+        Some(plans.write.as_ref()?.is_hopeful)
     }
 
     /// How many candidates the method has. The error is Nowhere.

@@ -1,5 +1,6 @@
 //! Fillings by the trees and the plans of an accepted profile.
 
+use crate::beginning::begin_level;
 use crate::desk::{Desk, Digits, Goal};
 use crate::sheet::Sheet;
 use crate::steps::act;
@@ -10,7 +11,7 @@ use fn_checker::{Accepted, Act};
 use fn_context::Context;
 use fn_expr::Side;
 use fn_filling::{AskedValue, Filling, Item, below};
-use fn_normal::{Encoding, Format};
+use fn_normal::Encoding;
 use smallvec::SmallVec;
 use sqlite_items::at;
 use std::alloc::{AllocError, Global};
@@ -44,6 +45,13 @@ pub fn sketch_item(
     let desk = top(accepted, context, item.asked.as_slice());
     let source = Cursor::new(&item.header);
     drawn(alloc, &desk, Goal::Write(number), &source)
+}
+
+/// Whether it is worth drawing the candidate with this number up before it is looked at in another way. Nothing is promised of this either.
+pub fn is_hopeful(accepted: &Accepted, context: &Context, number: u64) -> bool {
+    top(accepted, context, &[])
+        .is_hopeful(number)
+        .unwrap_or(false)
 }
 
 /// Where the top is drawn.
@@ -91,14 +99,20 @@ fn draw(
 ) -> Result<Filling, Stop> {
     let start = desk.start(goal, source, from)?;
     let mut digits = start.digits;
-    let mut sheet = Sheet::blank(alloc, start.format, desk.arguments, from)?;
-    for next in start.acts {
-        match *next {
-            Act::Call { field, takes } => {
-                let goal = inner_goal(desk, &sheet, goal, field, &mut digits)?;
-                call(depth, alloc, desk, &mut sheet, goal, field, takes, source)?;
+    let beginnings = start.acts.beginnings.as_slice();
+    let mut sheet = begin_level(alloc, desk, start.format, beginnings, source, from)?;
+    for next in start.acts.done.as_slice() {
+        match next {
+            Act::Call {
+                passes,
+                field,
+                takes,
+            } => {
+                sheet.pass(*passes);
+                let goal = inner_goal(desk, &sheet, goal, *field, &mut digits)?;
+                call(depth, alloc, desk, &mut sheet, goal, *field, *takes, source)?;
             }
-            other => act(alloc, desk, &mut sheet, other, &mut digits, source)?,
+            _ => act(alloc, desk, &mut sheet, next, &mut digits, source)?,
         }
     }
     Ok(sheet.into_filling(alloc, start.index)?)
@@ -146,18 +160,29 @@ fn call(
     takes: bool,
     source: &Cursor<'_>,
 ) -> Result<(), Stop> {
-    let Some(called) = call_of(alloc, desk, sheet, field)? else {
+    let Some(coded) = sheet.format.fields.get(field) else {
+        return Err(Stop::Nowhere);
+    };
+    let Encoding::Call { method, arguments } = coded.encoding.get() else {
+        return Err(Stop::Nowhere);
+    };
+    let Some(arguments) = values(alloc, sheet, arguments.as_slice())? else {
         return Err(Stop::Nowhere);
     };
     let inside = Inside {
-        method: called.method,
+        method: *method,
         field,
         takes,
     };
-    let arguments = called.arguments.as_slice();
     let (accepted, context) = (desk.accepted, desk.context);
-    let filling = match &called.path {
-        Some(path) => draw_inside(
+    let (arguments, name) = (arguments.as_slice(), coded.declared.name.as_str());
+    let filling = if desk.path.is_empty() {
+        draw_inside(
+            depth, alloc, accepted, context, arguments, name, sheet, goal, inside, source,
+        )?
+    } else {
+        let path = below(alloc, desk.path, name)?;
+        draw_inside(
             depth,
             alloc,
             accepted,
@@ -168,19 +193,7 @@ fn call(
             goal,
             inside,
             source,
-        )?,
-        None => draw_inside(
-            depth,
-            alloc,
-            accepted,
-            context,
-            arguments,
-            name_of(sheet.format, field),
-            sheet,
-            goal,
-            inside,
-            source,
-        )?,
+        )?
     };
     sheet.fill(alloc, field, filling)?;
     if takes {
@@ -197,7 +210,7 @@ struct Inside {
     takes: bool,
 }
 
-/// Draws the filling inside a field: where it doesn't take from the source, from the field's own bits of that side.
+/// Draws the filling inside a field: where it doesn't take from the source, from the field's own bits of that side. The path is that of the field.
 #[cycle(drawing)]
 fn draw_inside<'x>(
     depth: usize,
@@ -227,48 +240,5 @@ fn draw_inside<'x>(
     } else {
         let own = sheet.bits(inside.field, goal.side())?.copy(alloc)?;
         draw(depth - 1, alloc, &desk, goal, &Cursor::new(&own), 0)
-    }
-}
-
-/// What a field calls: the method, the values of its arguments, and the path below which the filling stands: none at the top, where it is the field's name.
-#[derive(Drop)]
-struct Called {
-    method: usize,
-    arguments: SmallVec<i128, 4>,
-    path: Option<String>,
-}
-
-fn call_of(
-    alloc: Global,
-    desk: &Desk<'_>,
-    sheet: &Sheet<'_>,
-    field: usize,
-) -> Result<Option<Called>, AllocError> {
-    let Some(coded) = sheet.format.fields.get(field) else {
-        return Ok(None);
-    };
-    let Encoding::Call { method, arguments } = coded.encoding.get() else {
-        return Ok(None);
-    };
-    let Some(arguments) = values(alloc, sheet, arguments.as_slice())? else {
-        return Ok(None);
-    };
-    let path = if desk.path.is_empty() {
-        None
-    } else {
-        Some(below(alloc, desk.path, coded.declared.name.as_str())?)
-    };
-    Ok(Some(Called {
-        method: *method,
-        arguments,
-        path,
-    }))
-}
-
-/// The name of the field, empty where there is no such field.
-fn name_of(format: &Format, field: usize) -> &str {
-    match format.fields.get(field) {
-        Some(found) => found.declared.name.as_str(),
-        None => "",
     }
 }

@@ -1,12 +1,12 @@
 //! Fillings that are drawn up quickly, for who judges them anyhow.
 #![tactic(auto)]
 
-pub use drawing::{sketch, sketch_item};
+pub use drawing::{is_hopeful, sketch, sketch_item};
 
+mod beginning;
 mod desk;
 mod drawing;
 mod sheet;
 mod steps;
 mod stop;
-mod tree;
 mod values;

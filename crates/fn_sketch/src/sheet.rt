@@ -4,7 +4,7 @@ use crate::stop::Stop;
 use fn_bits::Bits;
 use fn_expr::Side;
 use fn_filling::{FilledField, Filling};
-use fn_normal::{Declared, Format};
+use fn_normal::Format;
 use sqlite_items::{Items, at};
 use std::alloc::{AllocError, Global};
 
@@ -19,30 +19,6 @@ pub(crate) struct Sheet<'a> {
 }
 
 impl<'a> Sheet<'a> {
-    /// A level with no bits, whose source begins so many places after the cursor's. The error is want of memory.
-    pub(crate) fn blank(
-        alloc: Global,
-        format: &'a Format,
-        arguments: &'a [i128],
-        from: usize,
-    ) -> Result<Sheet<'a>, AllocError> {
-        let mut fields = Vec::with_capacity(alloc, format.fields.len())?;
-        for field in format.fields.as_slice() {
-            fields.push(FilledField {
-                declared: copy_of(&field.declared)?,
-                uncompressed: Bits::new(alloc),
-                compressed: Bits::new(alloc),
-                inner: None,
-            })?;
-        }
-        Ok(Sheet {
-            format,
-            arguments,
-            fields,
-            ahead: from,
-        })
-    }
-
     /// The filling that was drawn, of the format by its index. The error is want of memory.
     pub(crate) fn into_filling(self, alloc: Global, index: usize) -> Result<Filling, AllocError> {
         Ok(Filling {
@@ -74,9 +50,10 @@ impl<'a> Sheet<'a> {
     /// Gives the side of the field its bits.
     pub(crate) fn set(&mut self, field: usize, side: Side, bits: Bits) {
         if field < self.fields.len() {
+            let filled = &mut self.fields[field];
             match side {
-                Side::Uncompressed => self.fields[field].uncompressed = bits,
-                Side::Compressed => self.fields[field].compressed = bits,
+                Side::Uncompressed => filled.uncompressed = bits,
+                Side::Compressed => filled.compressed = bits,
             }
         }
     }
@@ -95,13 +72,4 @@ impl<'a> Sheet<'a> {
     pub(crate) fn pass(&mut self, count: usize) {
         self.ahead = self.ahead.saturating_add(count);
     }
-}
-
-/// A copy, whose name shares its text. The error is want of memory.
-fn copy_of(declared: &Declared) -> Result<Declared, AllocError> {
-    Ok(Declared {
-        name: declared.name.share()?,
-        part: declared.part,
-        asked: declared.asked,
-    })
 }

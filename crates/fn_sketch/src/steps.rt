@@ -1,9 +1,10 @@
 //! The steps of a plan, without a test on the way.
 
+use crate::beginning::spelled;
 use crate::desk::{Desk, Digits};
 use crate::sheet::Sheet;
 use crate::stop::Stop;
-use crate::values::{value, whole_of};
+use crate::values::{number_of, whole_of};
 use fn_bits::{Bits, Cursor};
 use fn_cert::Step;
 use fn_checker::{Act, Count};
@@ -21,19 +22,25 @@ pub(crate) fn act(
     alloc: Global,
     desk: &Desk<'_>,
     sheet: &mut Sheet<'_>,
-    act: Act,
+    act: &Act,
     digits: &mut Digits,
     source: &Cursor<'_>,
 ) -> Result<(), Stop> {
     match act {
         Act::Take {
+            passes,
             field,
             side,
             count,
             copies,
-        } => take(alloc, sheet, field, side, count, copies, source),
+        } => {
+            let count = count_of(alloc, desk, sheet, *field, *side, *count)?;
+            sheet.pass(*passes);
+            let number = next_number(sheet, count, source)?;
+            put(alloc, sheet, *field, *side, count, number, *copies)
+        }
         Act::Pass { field, side, count } => {
-            let count = count_of(sheet, field, side, count)?;
+            let count = count_of(alloc, desk, sheet, *field, *side, *count)?;
             sheet.pass(count);
             Ok(())
         }
@@ -43,40 +50,29 @@ pub(crate) fn act(
             count,
             number,
         } => {
-            let count = count_of(sheet, field, side, count)?;
-            let bits = spelled(alloc, count, number)?;
-            sheet.set(field, side, bits);
-            Ok(())
+            let count = count_of(alloc, desk, sheet, *field, *side, *count)?;
+            put(alloc, sheet, *field, *side, count, *number, false)
         }
-        Act::Up(field) => go_up(alloc, desk, sheet, field),
-        Act::Down(field) => go_down(alloc, desk, sheet, field),
+        Act::Up(field) => go_up(alloc, desk, sheet, *field),
+        Act::Down(field) => go_down(alloc, desk, sheet, *field),
         Act::Choose {
             field,
             width,
             copies,
-        } => choose(alloc, sheet, field, width, copies, digits),
-        Act::Ask { field, place } => ask(alloc, desk, sheet, field, place),
-        Act::Follow(step) => follow(alloc, desk, sheet, step),
+        } => choose(alloc, sheet, *field, *width, *copies, digits),
+        Act::Ask { field, place } => ask(alloc, desk, sheet, *field, *place),
+        Act::Follow(step) => follow(alloc, desk, sheet, *step),
         Act::Call { .. } => Err(Stop::Nowhere),
     }
 }
 
-/// Takes the next bits of the source.
-fn take(
-    alloc: Global,
-    sheet: &mut Sheet<'_>,
-    field: usize,
-    side: Side,
-    count: Count,
-    copies: bool,
-    source: &Cursor<'_>,
-) -> Result<(), Stop> {
-    let count = count_of(sheet, field, side, count)?;
+/// The number of the next bits of the source, which are passed. The error is Nowhere.
+fn next_number(sheet: &mut Sheet<'_>, count: usize, source: &Cursor<'_>) -> Result<u64, Stop> {
     let Some(number) = source.peek(sheet.ahead, count) else {
         return Err(Stop::Nowhere);
     };
     sheet.pass(count);
-    put(alloc, sheet, field, side, count, number, copies)
+    Ok(number)
 }
 
 /// Gives the side of the field the bits that spell the number, and where it `copies` the other side as well.
@@ -89,12 +85,12 @@ fn put(
     number: u64,
     copies: bool,
 ) -> Result<(), Stop> {
-    let bits = spelled(alloc, count, number)?;
-    sheet.set(field, side, bits);
     if copies {
         let bits = spelled(alloc, count, number)?;
         sheet.set(field, other(side), bits);
     }
+    let bits = spelled(alloc, count, number)?;
+    sheet.set(field, side, bits);
     Ok(())
 }
 
@@ -105,22 +101,54 @@ fn other(side: Side) -> Side {
     }
 }
 
-/// How many bits that is. The error is Nowhere.
-fn count_of(sheet: &Sheet<'_>, field: usize, side: Side, count: Count) -> Result<usize, Stop> {
+/// How many bits that is. The error is Nowhere or want of memory.
+fn count_of(
+    alloc: Global,
+    desk: &Desk<'_>,
+    sheet: &Sheet<'_>,
+    field: usize,
+    side: Side,
+    count: Count,
+) -> Result<usize, Stop> {
     match count {
         Count::Number(count) => Ok(count),
-        Count::Parameter(index) => match at(sheet.arguments, index) {
-            Some(argument) => match usize::try_from(*argument) {
-                Ok(count) => Ok(count),
-                Err(_) => Err(Stop::Nowhere),
-            },
+        other => looked_up(alloc, desk, sheet, field, side, other),
+    }
+}
+
+#[inline(never)]
+fn looked_up(
+    alloc: Global,
+    desk: &Desk<'_>,
+    sheet: &Sheet<'_>,
+    field: usize,
+    side: Side,
+    count: Count,
+) -> Result<usize, Stop> {
+    match count {
+        Count::Number(count) => Ok(count),
+        Count::Parameter(index) => argument_of(sheet.arguments, index),
+        Count::Referred => match sheet.format.fields.get(field) {
+            Some(coded) => Ok(reference(alloc, desk, coded)?.len()),
             None => Err(Stop::Nowhere),
         },
         Count::Noted => Ok(sheet.length(field, side)),
     }
 }
 
+/// The count that is the value of the parameter. The error is Nowhere.
+pub(crate) fn argument_of(arguments: &[i128], index: usize) -> Result<usize, Stop> {
+    match at(arguments, index) {
+        Some(argument) => match usize::try_from(*argument) {
+            Ok(count) => Ok(count),
+            Err(_) => Err(Stop::Nowhere),
+        },
+        None => Err(Stop::Nowhere),
+    }
+}
+
 /// Gives the field the bits of the next digit.
+#[inline(never)]
 fn choose(
     alloc: Global,
     sheet: &mut Sheet<'_>,
@@ -145,6 +173,7 @@ fn choose(
 }
 
 /// Gives the field the asked value at that place.
+#[inline(never)]
 fn ask(
     alloc: Global,
     desk: &Desk<'_>,
@@ -160,6 +189,7 @@ fn ask(
 }
 
 /// Follows a step of a plan that learns from what was drawn. The error is Nowhere or want of memory.
+#[inline(never)]
 fn follow(alloc: Global, desk: &Desk<'_>, sheet: &mut Sheet<'_>, step: Step) -> Result<(), Stop> {
     match step {
         Step::LibraryUp(field) => go_up(alloc, desk, sheet, field),
@@ -184,20 +214,11 @@ fn set_length(
     Ok(())
 }
 
-/// The bits of that length which spell the number.
-fn spelled(alloc: Global, count: usize, number: u64) -> Result<Bits, Stop> {
-    match Bits::from_value(alloc, count, number)? {
-        Some(bits) => Ok(bits),
-        None => Err(Stop::Nowhere),
-    }
-}
-
 /// The bits of the length that is the value of the one expression, which spell that of the other.
+#[inline(never)]
 fn constant(alloc: Global, sheet: &Sheet<'_>, length: &Expr, number: &Expr) -> Result<Bits, Stop> {
-    let (Some(length), Some(number)) = (value(alloc, sheet, length), value(alloc, sheet, number))
-    else {
-        return Err(Stop::Nowhere);
-    };
+    let length = reckoned(alloc, sheet, length)?;
+    let number = reckoned(alloc, sheet, number)?;
     match (usize::try_from(length), u64::try_from(number)) {
         (Ok(count), Ok(number)) => spelled(alloc, count, number),
         _ => Err(Stop::Nowhere),
@@ -244,9 +265,8 @@ fn referred(
     let Library::Lsb { bits, offset } = library else {
         return Ok(reference.copy(alloc)?);
     };
-    let (Some(bits), Some(offset)) = (value(alloc, sheet, bits), value(alloc, sheet, offset)) else {
-        return Err(Stop::Nowhere);
-    };
+    let bits = reckoned(alloc, sheet, bits)?;
+    let offset = reckoned(alloc, sheet, offset)?;
     let compressed = sheet.bits(field, Side::Compressed)?;
     match lsb_up(alloc, bits, offset, Some(reference), compressed)? {
         Some(found) => Ok(found),
@@ -255,7 +275,11 @@ fn referred(
 }
 
 /// The reference of the field. The error is Nowhere, where there is none, or want of memory.
-fn reference<'a>(alloc: Global, desk: &Desk<'a>, coded: &'a Field) -> Result<&'a Bits, Stop> {
+pub(crate) fn reference<'a>(
+    alloc: Global,
+    desk: &Desk<'a>,
+    coded: &'a Field,
+) -> Result<&'a Bits, Stop> {
     match reference_below(alloc, desk.context, desk.path, coded)? {
         Some(reference) => Ok(reference),
         None => Err(Stop::Nowhere),
@@ -370,20 +394,15 @@ fn note(
     side: Side,
     size: &Expr,
 ) -> Result<(), Stop> {
-    let number = match size {
-        Expr::Number(_, number) => *number,
-        _ => reckoned(alloc, sheet, size)?,
-    };
-    match usize::try_from(number) {
+    match usize::try_from(reckoned(alloc, sheet, size)?) {
         Ok(count) => set_length(alloc, sheet, field, side, count),
         Err(_) => Err(Stop::Nowhere),
     }
 }
 
 /// The value of the expression. The error is Nowhere.
-#[inline(never)]
 fn reckoned(alloc: Global, sheet: &Sheet<'_>, expr: &Expr) -> Result<i128, Stop> {
-    match value(alloc, sheet, expr) {
+    match number_of(alloc, sheet, expr) {
         Some(number) => Ok(number),
         None => Err(Stop::Nowhere),
     }
@@ -398,9 +417,7 @@ fn solve(alloc: Global, sheet: &mut Sheet<'_>, field: usize, number: usize) -> R
     let Some(given) = value_given(field, constraint.get()) else {
         return Err(Stop::Nowhere);
     };
-    let Some(number) = value(alloc, sheet, given) else {
-        return Err(Stop::Nowhere);
-    };
+    let number = reckoned(alloc, sheet, given)?;
     let count = sheet.length(field, Side::Uncompressed);
     let Ok(number) = u64::try_from(number) else {
         return Err(Stop::Nowhere);

@@ -21,6 +21,14 @@ pub(crate) fn value(alloc: Global, sheet: &Sheet<'_>, expr: &Expr) -> Option<i12
     }
 }
 
+/// The same; most are plain numbers.
+pub(crate) fn number_of(alloc: Global, sheet: &Sheet<'_>, expr: &Expr) -> Option<i128> {
+    match expr {
+        Expr::Number(_, number) => Some(*number),
+        _ => value(alloc, sheet, expr),
+    }
+}
+
 /// The values of several expressions, if each has one. The error is want of memory.
 pub(crate) fn values(
     alloc: Global,
@@ -29,7 +37,7 @@ pub(crate) fn values(
 ) -> Result<Option<SmallVec<i128, 4>>, AllocError> {
     let mut found = SmallVec::new(alloc);
     for expr in exprs {
-        match value(alloc, sheet, expr) {
+        match number_of(alloc, sheet, expr) {
             Some(number) => found.push(number)?,
             None => return Ok(None),
         }
@@ -58,14 +66,31 @@ fn attribute_value(alloc: Global, sheet: &Sheet<'_>, attribute: Attribute) -> Op
             Ok(bits) => Some(bits.value()? as i128),
             Err(_) => None,
         },
-        (Subject::This, measure) => {
-            let whole = whole_of(alloc, sheet, attribute.side)?;
-            match measure {
-                Measure::Value => Some(whole.value()? as i128),
-                Measure::Length => Some(whole.len() as i128),
+        (Subject::This, Measure::Value) => {
+            Some(whole_of(alloc, sheet, attribute.side)?.value()? as i128)
+        }
+        (Subject::This, Measure::Length) => Some(length_of(sheet, attribute.side) as i128),
+    }
+}
+
+/// How many bits the side of the whole has, as far as they were drawn.
+fn length_of(sheet: &Sheet<'_>, side: Side) -> usize {
+    let mut count: usize = 0;
+    match side {
+        Side::Uncompressed => {
+            for filled in sheet.fields.as_slice() {
+                if filled.declared.part == Part::Header {
+                    count = count.saturating_add(filled.uncompressed.len());
+                }
+            }
+        }
+        Side::Compressed => {
+            for field in sheet.format.listing.as_slice() {
+                count = count.saturating_add(sheet.length(*field, side));
             }
         }
     }
+    count
 }
 
 /// The bits of the side of the whole, as far as they were drawn.

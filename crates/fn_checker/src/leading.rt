@@ -9,7 +9,7 @@ const WORD: usize = 64;
 
 /// The format to which the tree, its nodes in preorder, leads under these arguments and for the bits so many places after the cursor's. `sizes` has how many
 /// nodes the subtree of each node has, from the last node to the first.
-pub(crate) fn format_for(
+pub fn format_for(
     nodes: &[Node],
     sizes: &[usize],
     arguments: &[i128],

@@ -1,0 +1,218 @@
+//! What a level begins with.
+
+use crate::desk::Desk;
+use crate::sheet::Sheet;
+use crate::steps::{argument_of, reference};
+use crate::stop::Stop;
+use fn_bits::{Bits, Cursor};
+use fn_checker::{Beginning, Count, Spelled};
+use fn_expr::Side;
+use fn_filling::FilledField;
+use fn_lib::{lsb_down, lsb_up};
+use fn_normal::{Declared, Field, Format};
+use std::alloc::{AllocError, Global};
+
+/// A level whose fields have what they begin with, and whose source begins so many places after the cursor's. The error is Nowhere or want of memory.
+pub(crate) fn begin_level<'a>(
+    alloc: Global,
+    desk: &Desk<'a>,
+    format: &'a Format,
+    beginnings: &[Beginning],
+    source: &Cursor<'_>,
+    from: usize,
+) -> Result<Sheet<'a>, Stop> {
+    let mut fields = Vec::with_capacity(alloc, format.fields.len())?;
+    for (field, beginning) in format.fields.as_slice().iter().zip(beginnings) {
+        let sides = sides_of(alloc, desk, field, beginning, source, from)?;
+        add(alloc, &mut fields, &field.declared, sides)?;
+    }
+    Ok(Sheet {
+        format,
+        arguments: desk.arguments,
+        fields,
+        ahead: from,
+    })
+}
+
+/// Both sides of a field.
+#[derive(Clone, Copy)]
+struct Begun {
+    uncompressed: Spelled,
+    compressed: Spelled,
+}
+
+/// The sides with which a field begins. The error is Nowhere or want of memory.
+fn sides_of(
+    alloc: Global,
+    desk: &Desk<'_>,
+    field: &Field,
+    beginning: &Beginning,
+    source: &Cursor<'_>,
+    from: usize,
+) -> Result<Begun, Stop> {
+    match beginning {
+        Beginning::Constants {
+            uncompressed,
+            compressed,
+        } => Ok(Begun {
+            uncompressed: *uncompressed,
+            compressed: *compressed,
+        }),
+        Beginning::Taken {
+            place,
+            count,
+            side,
+            copies,
+        } => {
+            let count = count_of(desk, *count)?;
+            Ok(on_side(taken(source, from, *place, count)?, *side, *copies))
+        }
+        Beginning::Raised { .. } | Beginning::Lowered { .. } => {
+            referred(alloc, desk, field, beginning, source, from)
+        }
+    }
+}
+
+const NOTHING: Spelled = Spelled {
+    count: 0,
+    number: 0,
+};
+
+/// How many bits that is, where a number or a parameter tells it. The error is Nowhere.
+fn count_of(desk: &Desk<'_>, count: Count) -> Result<usize, Stop> {
+    match count {
+        Count::Number(count) => Ok(count),
+        Count::Parameter(index) => argument_of(desk.arguments, index),
+        Count::Referred | Count::Noted => Err(Stop::Nowhere),
+    }
+}
+
+/// The bits of the source. The error is Nowhere.
+fn taken(source: &Cursor<'_>, from: usize, place: usize, count: usize) -> Result<Spelled, Stop> {
+    match source.peek(from.saturating_add(place), count) {
+        Some(number) => Ok(Spelled { count, number }),
+        None => Err(Stop::Nowhere),
+    }
+}
+
+fn on_side(taken: Spelled, side: Side, copies: bool) -> Begun {
+    if copies {
+        return Begun {
+            uncompressed: taken,
+            compressed: taken,
+        };
+    }
+    match side {
+        Side::Uncompressed => Begun {
+            uncompressed: taken,
+            compressed: NOTHING,
+        },
+        Side::Compressed => Begun {
+            uncompressed: NOTHING,
+            compressed: taken,
+        },
+    }
+}
+
+/// Both sides of a field of `lsb`, one of which is of the source. The error is Nowhere or want of memory.
+#[inline(never)]
+fn referred(
+    alloc: Global,
+    desk: &Desk<'_>,
+    field: &Field,
+    beginning: &Beginning,
+    source: &Cursor<'_>,
+    from: usize,
+) -> Result<Begun, Stop> {
+    match beginning {
+        Beginning::Raised {
+            place,
+            count,
+            bits,
+            offset,
+        } => {
+            let compressed = taken(source, from, *place, *count)?;
+            let reference = reference(alloc, desk, field)?;
+            let packed = bits_of(alloc, compressed)?;
+            let found = lsb_up(alloc, *bits, *offset, Some(reference), &packed)?;
+            Ok(Begun {
+                uncompressed: spelling_of(found)?,
+                compressed,
+            })
+        }
+        Beginning::Lowered {
+            place,
+            count,
+            bits,
+            offset,
+        } => {
+            let reference = reference(alloc, desk, field)?;
+            let count = match count {
+                Count::Number(count) => *count,
+                _ => reference.len(),
+            };
+            let uncompressed = taken(source, from, *place, count)?;
+            let whole = bits_of(alloc, uncompressed)?;
+            let found = lsb_down(alloc, *bits, *offset, Some(reference), &whole)?;
+            Ok(Begun {
+                uncompressed,
+                compressed: spelling_of(found)?,
+            })
+        }
+        Beginning::Constants { .. } | Beginning::Taken { .. } => Err(Stop::Nowhere),
+    }
+}
+
+/// What the bits spell. The error is Nowhere, where there are none or more than 64.
+fn spelling_of(bits: Option<Bits>) -> Result<Spelled, Stop> {
+    let Some(bits) = bits else {
+        return Err(Stop::Nowhere);
+    };
+    match bits.value() {
+        Some(number) => Ok(Spelled {
+            count: bits.len(),
+            number,
+        }),
+        None => Err(Stop::Nowhere),
+    }
+}
+
+/// Adds a field with these sides.
+fn add(
+    alloc: Global,
+    fields: &mut Vec<FilledField>,
+    declared: &Declared,
+    begun: Begun,
+) -> Result<(), Stop> {
+    let filled = FilledField {
+        declared: copy_of(declared)?,
+        uncompressed: bits_of(alloc, begun.uncompressed)?,
+        compressed: bits_of(alloc, begun.compressed)?,
+        inner: None,
+    };
+    match fields.push(filled) {
+        Ok(()) => Ok(()),
+        Err(_) => Err(Stop::OutOfMemory),
+    }
+}
+
+fn bits_of(alloc: Global, spelled: Spelled) -> Result<Bits, Stop> {
+    self::spelled(alloc, spelled.count, spelled.number)
+}
+
+/// The bits of that length which spell the number. The error is Nowhere or want of memory.
+pub(crate) fn spelled(alloc: Global, count: usize, number: u64) -> Result<Bits, Stop> {
+    match Bits::from_value(alloc, count, number)? {
+        Some(bits) => Ok(bits),
+        None => Err(Stop::Nowhere),
+    }
+}
+
+/// A copy, whose name shares its text. The error is want of memory.
+fn copy_of(declared: &Declared) -> Result<Declared, AllocError> {
+    Ok(Declared {
+        name: declared.name.share()?,
+        part: declared.part,
+        asked: declared.asked,
+    })
+}
