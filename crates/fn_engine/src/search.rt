@@ -13,8 +13,8 @@ use fn_bits::{Bits, Cursor};
 use fn_checker::Accepted;
 use fn_context::Context;
 use fn_filling::{AskedValue, Filling, Item};
-use fn_holds::{WholeSides, is_header};
-use fn_sketch::sketch_item;
+use fn_holds::WholeSides;
+use fn_sketch::{is_hopeful, sketch_item};
 use fn_writer::{WriteFault, refuted, write_method};
 use std::alloc::{AllocError, Global};
 
@@ -74,8 +74,11 @@ fn candidate(
 {
     let place = top_place(accepted, context);
     let source = Cursor::new(&item.header);
-    if let Some(skipped) = refuted(alloc, &place, &source, 0, number)? {
-        return Ok(Tried::Passed(skipped));
+    // The walk looks at what wasn't looked at here.
+    if !is_drawn_first(accepted, context, number) {
+        if let Some(skipped) = refuted(alloc, &place, &source, 0, number)? {
+            return Ok(Tried::Passed(skipped));
+        }
     }
     if let Some(found) = sketched(alloc, accepted, context, item, number)? {
         return Ok(Tried::Found(found));
@@ -86,6 +89,11 @@ fn candidate(
         Err(WriteFault::Failed(skipped)) => Ok(Tried::Passed(skipped)),
         Err(WriteFault::OutOfMemory) => Err(AllocError),
     }
+}
+
+/// Whether the candidate is drawn up before any other look at it: the first one, where that mostly leads to a filling.
+fn is_drawn_first(accepted: &Accepted, context: &Context, number: u64) -> bool {
+    number == 0 && is_hopeful(accepted, context, number)
 }
 
 /// A filling drawn up for the number, where it is the one that has it: it fits, and has the item and the number.
@@ -159,13 +167,15 @@ fn packed_if_right(
     ensures found { IfOk result (λ o. IfSome o (λ w. spec.IsRight accepted.now context.now item.now filling w)) }
     ensures none { IfOk result (λ o. IfNone o (spec.IsWrong accepted.now context.now item.now filling)) }
 {
-    let has_it = has_item(alloc, item, &filling)?;
-    if !has_it {
+    let judged = fits(alloc, accepted, context, &filling)?;
+    let Some(whole) = judged else {
         return Ok(None);
-    }
-    match fits(alloc, accepted, context, &filling)? {
-        Some(whole) => Ok(Some(with_packed(filling, whole))),
-        None => Ok(None),
+    };
+    let has_it = has_item(alloc, item, &filling, &whole.header)?;
+    if has_it {
+        Ok(Some(with_packed(filling, whole)))
+    } else {
+        Ok(None)
     }
 }
 
@@ -180,16 +190,36 @@ fn with_packed(filling: Filling, whole: WholeSides) -> Packed
     Packed { filling, packed }
 }
 
-/// Whether the filling has the item.
-fn has_item(alloc: Global, item: &Item, filling: &Filling) -> Result<bool, AllocError>
-    requires { length item.now.header ≤ 4096 }
+/// Whether the filling, which has this header, has the item.
+fn has_item(
+    alloc: Global,
+    item: &Item,
+    filling: &Filling,
+    header: &Bits,
+) -> Result<bool, AllocError>
+    requires { header.now ≡ sides.header filling.now }
     ensures { IfOk result (λ b. IsTrue b ↔ (sides.item filling.now ≡ item.now)) }
 {
-    if !is_header(&item.header, filling) {
+    if !has_header(item, filling, header) {
         return Ok(false);
     }
     let own = filling.asked_values(alloc)?;
     Ok(have_same(own.as_slice(), item.asked.as_slice()))
+}
+
+/// Whether the item has the header of the filling, which is this.
+fn has_header(item: &Item, filling: &Filling, header: &Bits) -> bool
+    requires { header.now ≡ sides.header filling.now }
+    ensures { IsTrue result ↔ (item.now.header ≡ sides.header filling.now) }
+{
+    let _ = filling;
+    are_same_bits(&item.header, header)
+}
+
+fn are_same_bits(bits: &Bits, others: &Bits) -> bool
+    ensures { IsTrue result ↔ (bits.now ≡ others.now) }
+{
+    *bits == *others
 }
 
 /// Whether the two lists have the same names with the same bits, in one order.
