@@ -6,13 +6,11 @@ use crate::sheet::Sheet;
 use crate::steps::act;
 use crate::stop::Stop;
 use crate::values::values;
-use fn_bits::{Bits, Cursor};
+use fn_bits::Cursor;
 use fn_checker::{Accepted, Act};
 use fn_context::Context;
-use fn_expr::Side;
 use fn_filling::{AskedValue, Filling, Item, below};
 use fn_normal::Encoding;
-use smallvec::SmallVec;
 use sqlite_items::at;
 use std::alloc::{AllocError, Global};
 
