@@ -1,7 +1,7 @@
 //! How many nodes the subtrees of a decision tree have, so that a way through it need not look at the nodes that it passes; and tables in place of trees that
 //! look at few bits.
 
-use crate::leading::format_for;
+use crate::leading::{Lead, lead_from};
 use fn_bits::{Bits, Cursor};
 use fn_cert::{MethodPlans, Node};
 use sqlite_items::{Items, at};
@@ -35,7 +35,7 @@ fn subtree_sizes(alloc: Global, nodes: &[Node]) -> Result<Items<usize>, AllocErr
     for node in nodes.iter().rev() {
         let size = match node {
             Node::Leaf(_) | Node::Nowhere => 1,
-            Node::Bit(_) | Node::Parameter(..) => {
+            Node::Bit(_) | Node::Parameter(..) | Node::Reference(..) => {
                 let first = size_before(&sizes, 0);
                 let second = size_before(&sizes, first);
                 first.saturating_add(second).saturating_add(1)
@@ -79,12 +79,19 @@ fn switch_of(alloc: Global, nodes: &[Node], sizes: &[usize]) -> Result<Option<Sw
     let mut formats = Items::new(alloc);
     for number in 0..numbers_of(bits) {
         let found = match Bits::from_value(alloc, bits, number)? {
-            Some(first) => format_for(nodes, sizes, &[], &Cursor::new(&first), 0),
-            None => None,
+            Some(first) => lead_from(nodes, sizes, 0, &[], &Cursor::new(&first), 0),
+            None => Lead::Nowhere,
         };
-        formats.push(found)?;
+        formats.push(format_of(found))?;
     }
     Ok(Some(Switch { bits, formats }))
+}
+
+fn format_of(lead: Lead) -> Option<usize> {
+    match lead {
+        Lead::Format(format) => Some(format),
+        Lead::Nowhere | Lead::Reference { .. } => None,
+    }
 }
 
 /// How many of the first bits the tree looks at, if it looks at nothing else and its table is not much larger than the tree.
@@ -94,7 +101,7 @@ fn bits_of(nodes: &[Node]) -> Option<usize> {
         match node {
             Node::Leaf(_) | Node::Nowhere => {}
             Node::Bit(offset) => bits = bits.max(offset.saturating_add(1)),
-            Node::Parameter(..) => return None,
+            Node::Parameter(..) | Node::Reference(..) => return None,
         }
     }
     let numbers = numbers_of(bits);

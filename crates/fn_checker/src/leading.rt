@@ -7,30 +7,70 @@ use sqlite_items::at;
 /// How many bits are looked at as one number.
 const WORD: usize = 64;
 
-/// The format to which the tree, its nodes in preorder, leads under these arguments and for the bits so many places after the cursor's. `sizes` has how many
-/// nodes the subtree of each node has, from the last node to the first.
-pub fn format_for(
+/// Where the way through a tree leads, as far as arguments and bits tell it.
+#[derive(Clone, Copy)]
+pub enum Lead {
+    /// To a format, by its index.
+    Format(usize),
+    Nowhere,
+    /// To a node that tests the reference of a field.
+    Reference {
+        node: usize,
+        field: usize,
+        constant: i128,
+    },
+}
+
+/// Where the tree, its nodes in preorder, leads from the node `first` on, under these arguments and for the bits so many places after the cursor's. `sizes` has
+/// how many nodes the subtree of each node has, from the last node to the first.
+pub fn lead_from(
     nodes: &[Node],
     sizes: &[usize],
+    first: usize,
     arguments: &[i128],
     cursor: &Cursor<'_>,
     from: usize,
-) -> Option<usize> {
+) -> Lead {
+    led(nodes, sizes, first, arguments, cursor, from).unwrap_or(Lead::Nowhere)
+}
+
+fn led(
+    nodes: &[Node],
+    sizes: &[usize],
+    first: usize,
+    arguments: &[i128],
+    cursor: &Cursor<'_>,
+    from: usize,
+) -> Option<Lead> {
     let ahead = Ahead::new(cursor, from)?;
-    let mut place: usize = 0;
+    let mut place = first;
     for _ in 0..nodes.len() {
         let is_second = match at(nodes, place)? {
-            Node::Leaf(format) => return Some(*format),
+            Node::Leaf(format) => return Some(Lead::Format(*format)),
             Node::Nowhere => return None,
+            Node::Reference(field, constant) => {
+                return Some(Lead::Reference {
+                    node: place,
+                    field: *field,
+                    constant: *constant,
+                });
+            }
             Node::Bit(offset) => ahead.at(*offset)?,
             Node::Parameter(parameter, constant) => *at(arguments, *parameter)? != *constant,
         };
-        place = place.saturating_add(1);
-        if is_second {
-            place = place.saturating_add(size_of(sizes, place));
-        }
+        place = subtree(sizes, place, is_second);
     }
     None
+}
+
+/// Where a subtree of the node begins: the first, or the second.
+pub fn subtree(sizes: &[usize], node: usize, is_second: bool) -> usize {
+    let first = node.saturating_add(1);
+    if is_second {
+        first.saturating_add(size_of(sizes, first))
+    } else {
+        first
+    }
 }
 
 /// The bits so many places after the cursor's, the first of them as one number.

@@ -122,7 +122,7 @@ puts_once p flows flow ctx new other act out alike a b = by (puts_parts a) (puts
         let sends : Send m.it ≡ Send n.it = sym m.act_is ∙ n.act_is in
         let its : m.it ≡ n.it = cc in
         let best_n : IsBest p ctx m.it n.filling = subst (λ i. IsBest p ctx i n.filling) (sym its) n.best in
-        let one : m.filling ≡ n.filling = best_is_one p.profile.methods p.certificate p.profile.top (bits_at ctx) m.it m.filling n.filling m.best best_n in
+        let one : m.filling ≡ n.filling = best_is_one p.profile.methods p.certificate.methods p.profile.top (bits_at ctx) m.it m.filling n.filling m.best best_n in
         let held_n : Holds n.octets (packed m.filling) = subst (λ f. Holds n.octets (packed f)) (sym one) n.held in
         let octets : m.octets ≡ n.octets = octets_same m.octets n.octets (packed m.filling) m.held held_n in
         let outs : out ≡ alike = m.out_is ∙ (λ i. record { flow = flow; octets = flow ∷ octets i; filling = Some (one i) }) ∙ sym n.out_is in

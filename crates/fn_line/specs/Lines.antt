@@ -43,7 +43,7 @@ pub record Packet : Type 0 where
 
 -- the filling is the best for the item in the context
 abbrev pub IsBest : Accepting → Entries → Item → Filling → Type 0
-IsBest p ctx it f = Best p.profile.methods p.certificate p.profile.top (bits_at ctx) it f
+IsBest p ctx it f = Best p.profile.methods p.certificate.methods p.profile.top (bits_at ctx) it f
 
 -- What an act of a flow puts on a line of so many flows, and what it leaves in the flow's context.
 pub data Puts (p : Accepting) (flows flow : ℕ) : Entries → Act → Packet → Entries → Type 0 where

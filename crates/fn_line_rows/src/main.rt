@@ -7,6 +7,7 @@ mod runs;
 mod words;
 
 use anyhow::{Context as _, Result, anyhow};
+use fn_cert::Version;
 use fn_checker::{Accepted, check};
 use fn_names::read;
 use fn_prover::prove;
@@ -67,7 +68,7 @@ fn answer(
 fn accept(alloc: Global, rest: &str) -> Result<Accepted> {
     let (top, text) = words::parted(rest, " ")?;
     let profile = read(alloc, text.as_bytes(), top.as_bytes())?;
-    let Ok(certificate) = prove(alloc, &profile) else {
+    let Ok(certificate) = prove(alloc, &profile, Version::One) else {
         return Err(anyhow!("no certificate"));
     };
     match check(alloc, profile, certificate) {

@@ -2,7 +2,7 @@
 
 use crate::words::{count, parted};
 use anyhow::{Context as _, Result, anyhow};
-use fn_cert::{Direction, Step};
+use fn_cert::{Direction, Step, Version};
 use fn_expr::Side;
 use fn_normal::Format;
 use fn_order::{FieldSide, Unordered, order_plan};
@@ -10,7 +10,7 @@ use fn_profile::Profile;
 use std::alloc::Global;
 use std::fmt::Write;
 
-/// `plan DIRECTION METHOD FORMAT`: the steps of the plan with ` / ` between them, or the sides that no plan learns. The method and the format go by their places.
+/// `plan DIRECTION METHOD FORMAT`: the steps of the plan of version one with ` / ` between them, or the sides that no plan learns. The method and the format go by their places.
 pub(crate) fn ordered(
     alloc: Global,
     out: &mut String,
@@ -19,9 +19,14 @@ pub(crate) fn ordered(
 ) -> Result<()> {
     let (direction, rest) = parted(rest, " ")?;
     let (method, format) = parted(rest, " ")?;
-    let method = profile.methods().get(count(method)?).context("no method")?;
-    let format = method.formats.get(count(format)?).context("no format")?;
-    match order_plan(alloc, direction_of(direction)?, profile.sizes(), format) {
+    let (method, format) = (count(method)?, count(format)?);
+    let table = profile.sizes();
+    let bounds = table.get(method).context("no bounds")?;
+    let sizes = bounds.formats.get(format).context("no bounds")?;
+    let method = profile.methods().get(method).context("no method")?;
+    let format = method.formats.get(format).context("no format")?;
+    let direction = direction_of(direction)?;
+    match order_plan(alloc, Version::One, direction, table, sizes, format) {
         Ok(steps) => put_steps(out, format, steps.as_slice()),
         Err(Unordered::Lacking { sides }) => put_lacking(out, format, sides.as_slice()),
         Err(Unordered::TooLong) => Ok(out.push_str("too long")?),

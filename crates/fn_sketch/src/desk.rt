@@ -2,12 +2,13 @@
 
 use crate::stop::Stop;
 use fn_bits::Cursor;
-use fn_checker::{Accepted, ActList, format_for};
+use fn_checker::{Accepted, ActList, Lead, lead_from, refers, subtree};
 use fn_context::Context;
 use fn_expr::Side;
 use fn_filling::AskedValue;
 use fn_normal::Format;
 use sqlite_items::at;
+use std::alloc::{AllocError, Global};
 
 /// Where a method is drawn: under the values of its arguments, below the path of the field that the filling fills. In writing it has the values of its asked
 /// fields.
@@ -72,24 +73,31 @@ impl Digits {
 }
 
 impl<'a> Desk<'a> {
-    /// The format to which the goal leads. The error is Nowhere.
+    /// The format to which the goal leads. The error is Nowhere or want of memory.
     pub(crate) fn start(
         &self,
+        alloc: Global,
         goal: Goal,
         cursor: &Cursor<'_>,
         from: usize,
     ) -> Result<Start<'a>, Stop> {
-        match self.started(goal, cursor, from) {
+        let found = match goal {
+            Goal::Read => {
+                let index = self.read_index(alloc, cursor, from)?;
+                self.started(goal, index, Digits { rest: 0, span: 1 })
+            }
+            Goal::Write(number) => match self.numbered(number) {
+                Some((index, digits)) => self.started(goal, index, digits),
+                None => None,
+            },
+        };
+        match found {
             Some(start) => Ok(start),
             None => Err(Stop::Nowhere),
         }
     }
 
-    fn started(&self, goal: Goal, cursor: &Cursor<'_>, from: usize) -> Option<Start<'a>> {
-        let (index, digits) = match goal {
-            Goal::Read => (self.read_index(cursor, from)?, Digits { rest: 0, span: 1 }),
-            Goal::Write(number) => self.numbered(number)?,
-        };
+    fn started(&self, goal: Goal, index: usize, digits: Digits) -> Option<Start<'a>> {
         let method = self.accepted.profile().methods().get(self.method)?;
         let plans = at(self.accepted.shortcuts().plan_acts.as_slice(), self.method)?.get(index)?;
         let acts = match goal {
@@ -104,19 +112,67 @@ impl<'a> Desk<'a> {
         })
     }
 
-    /// The format to which the method's tree leads.
-    fn read_index(&self, cursor: &Cursor<'_>, from: usize) -> Option<usize> {
-        let shortcuts = self.accepted.shortcuts();
-        if let Some(switch) = at(shortcuts.switches.as_slice(), self.method)? {
-            if let Some(number) = cursor.peek(from, switch.bits) {
-                return *at(switch.formats.as_slice(), usize::try_from(number).ok()?)?;
+    /// The format to which the method's tree leads. The error is Nowhere or want of memory.
+    fn read_index(&self, alloc: Global, cursor: &Cursor<'_>, from: usize) -> Result<usize, Stop> {
+        let found = match self.switched(cursor, from) {
+            Some(format) => format,
+            None => self.led(alloc, cursor, from)?,
+        };
+        match found {
+            Some(format) => Ok(format),
+            None => Err(Stop::Nowhere),
+        }
+    }
+
+    /// What the table of the tree says, if the tree has one and enough bits are left.
+    fn switched(&self, cursor: &Cursor<'_>, from: usize) -> Option<Option<usize>> {
+        let switch = at(self.accepted.shortcuts().switches.as_slice(), self.method)?.as_ref()?;
+        let number = cursor.peek(from, switch.bits)?;
+        Some(*at(switch.formats.as_slice(), usize::try_from(number).ok()?)?)
+    }
+
+    /// Where the tree leads, step by step, from one test of a reference to the next.
+    fn led(
+        &self,
+        alloc: Global,
+        cursor: &Cursor<'_>,
+        from: usize,
+    ) -> Result<Option<usize>, AllocError> {
+        let (Some(Some(entry)), Some(sizes)) = (
+            at(self.accepted.certificate().methods(), self.method),
+            at(self.accepted.shortcuts().tree_sizes.as_slice(), self.method),
+        ) else {
+            return Ok(None);
+        };
+        let (nodes, sizes) = (entry.tree.as_slice(), sizes.as_slice());
+        let mut first = 0;
+        for _ in 0..nodes.len() {
+            match lead_from(nodes, sizes, first, self.arguments, cursor, from) {
+                Lead::Format(format) => return Ok(Some(format)),
+                Lead::Nowhere => return Ok(None),
+                Lead::Reference {
+                    node,
+                    field,
+                    constant,
+                } => first = subtree(sizes, node, !self.refers(alloc, field, constant)?),
             }
         }
-        let entries = self.accepted.certificate().methods();
-        let entry = at(entries, self.method)?.as_ref()?;
-        let sizes = at(shortcuts.tree_sizes.as_slice(), self.method)?;
-        let nodes = entry.tree.as_slice();
-        format_for(nodes, sizes.as_slice(), self.arguments, cursor, from)
+        Ok(None)
+    }
+
+    /// Whether the reference of the field is the constant.
+    fn refers(&self, alloc: Global, field: usize, constant: i128) -> Result<bool, AllocError> {
+        match self.accepted.profile().methods().get(self.method) {
+            Some(method) => refers(
+                alloc,
+                self.context,
+                self.path,
+                method.formats.as_slice(),
+                field,
+                constant,
+            ),
+            None => Ok(false),
+        }
     }
 
     /// The format into which the number falls, and the digits that are left.

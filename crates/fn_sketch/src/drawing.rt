@@ -95,7 +95,7 @@ fn draw(
     source: &Cursor<'_>,
     from: usize,
 ) -> Result<Filling, Stop> {
-    let start = desk.start(goal, source, from)?;
+    let start = desk.start(alloc, goal, source, from)?;
     let mut digits = start.digits;
     let beginnings = start.acts.beginnings.as_slice();
     let mut sheet = begin_level(alloc, desk, start.format, beginnings, source, from)?;

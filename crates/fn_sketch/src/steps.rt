@@ -11,8 +11,8 @@ use fn_checker::{Act, Count};
 use fn_expr::{Expr, Side, Subject};
 use fn_holds::sides::reference_below;
 use fn_lib::{crc_down, lsb_down, lsb_up};
-use fn_normal::{CrcArguments, Encoding, Field, Library};
-use fn_plans::constraints::{length_given, value_given};
+use fn_normal::{Constraint, CrcArguments, Encoding, Field, Library};
+use fn_plans::constraints::{length_given, remainder_form, value_given};
 use fn_plans::library::size_of;
 use sqlite_items::at;
 use std::alloc::Global;
@@ -414,10 +414,11 @@ fn solve(alloc: Global, sheet: &mut Sheet<'_>, field: usize, number: usize) -> R
     let Some(constraint) = sheet.format.constraints.get(number) else {
         return Err(Stop::Nowhere);
     };
-    let Some(given) = value_given(field, constraint.get()) else {
-        return Err(Stop::Nowhere);
+    let constraint = constraint.get();
+    let number = match value_given(field, constraint) {
+        Some(given) => reckoned(alloc, sheet, given)?,
+        None => remaining(alloc, sheet, field, constraint)?,
     };
-    let number = reckoned(alloc, sheet, given)?;
     let count = sheet.length(field, Side::Uncompressed);
     let Ok(number) = u64::try_from(number) else {
         return Err(Stop::Nowhere);
@@ -425,4 +426,22 @@ fn solve(alloc: Global, sheet: &mut Sheet<'_>, field: usize, number: usize) -> R
     let bits = spelled(alloc, count, number)?;
     sheet.set(field, Side::Uncompressed, bits);
     Ok(())
+}
+
+/// The value of the field that the constraint leaves of a remainder. The error is Nowhere.
+fn remaining(
+    alloc: Global,
+    sheet: &Sheet<'_>,
+    field: usize,
+    constraint: &Constraint,
+) -> Result<i128, Stop> {
+    let Some(given) = remainder_form(alloc, field, constraint) else {
+        return Err(Stop::Nowhere);
+    };
+    let left = reckoned(alloc, sheet, given.left)?;
+    let more = reckoned(alloc, sheet, given.more)?;
+    match left.checked_sub(more) {
+        Some(rest) if given.by > 0 => Ok(rest.rem_euclid(given.by)),
+        _ => Err(Stop::Nowhere),
+    }
 }

@@ -66,7 +66,7 @@ use Rattle.fn_writing.proofs.Steps.{parted, stands}
 use Rattle.fn_writer.specs.declared.foreseeing.Chosen.{Chosen}
 use Rattle.fn_writer.specs.Foreseeing.{HasChosen, HasSeen, StandsBefore, SeesOn, digit_of, is_irregular, shows_choice, seen_value, seen_numbers, IsRefutedInside, by_values, by_start, AreRefutedInside}
 use Rattle.fn_writer.specs.Going.{Begins}
-use Rattle.fn_writer.specs.Refuting.{HasFalse, HaveBefore}
+use Rattle.fn_writer.specs.Refuting.{HasFalse, HaveBefore, operand}
 use Rattle.fn_writer.specs.Walking.{site_of, Fails}
 use Rattle.fn_writer.proofs.Called.{is_method}
 use Rattle.fn_writer.proofs.Inner.{moved}
@@ -108,7 +108,7 @@ module _ (place : Place) (n : ℕ) (format : Format) (c : ℕ) where
   methods = place.accepted.now.profile.methods
 
   abbrev cert : Entries
-  cert = place.accepted.now.certificate
+  cert = place.accepted.now.certificate.methods
 
   abbrev counts : List ℕ
   counts = place.accepted.now.counts
@@ -148,11 +148,11 @@ module _ (place : Place) (n : ℕ) (format : Format) (c : ℕ) where
         }
 
 -- where a plan begins
-pub sees : (place : Place) (c : ℕ) (start : Start) → Begins place c start → (plans : Plans) → write_plan place.accepted.now.certificate place.method start.format ≡ Some plans →
+pub sees : (place : Place) (c : ℕ) (start : Start) → Begins place c start → (plans : Plans) → write_plan place.accepted.now.certificate.methods place.method start.format ≡ Some plans →
     (format : Format) → format_at place.accepted.now.profile.methods place.method start.format ≡ Some format → HasSeen place start.format format plans.write c start.digits []
 sees place c start b plans plans_are format format_is =
     let Reads : Format → Plans → Type 0 =
-    λ x y. IsReading place.accepted.now.profile.methods place.accepted.now.certificate place.accepted.now.counts place.method start.format x y.write c start.digits in
+    λ x y. IsReading place.accepted.now.profile.methods place.accepted.now.certificate.methods place.accepted.now.counts place.method start.format x y.write c start.digits in
     let reading = subst (Reads format) (same_Some b.plans plans (sym b.plans_are ∙ plans_are)) (subst (λ z. Reads z b.plans) (same_Some b.format format (sym b.format_is ∙ format_is)) b.reading) in
     record { sound = b.sound; checked = b.checked; format_is = format_is; reading = reading; told = λ f tried within. tt; room = b.room }
 
@@ -264,7 +264,7 @@ module _ (place : Place) (n : ℕ) (format : Format) (i : ℕ) (d : Field) (j : 
   abbrev their : List Method
   their = place.accepted.now.profile.methods
 
-  no_value : (inner : Format) → format_at their j m ≡ Some inner → HasFalse args inner.constraints → ⊥
+  no_value : (inner : Format) → format_at their j m ≡ Some inner → HasFalse (operand args) inner.constraints → ⊥
   no_value inner at h =
       let q = parts x.fits in
       let one : q.format ≡ inner = one_value (format_at their j m) q.format inner (ap (format_at their j) (sym of_inner) ∙ q.is_format) at in
@@ -304,12 +304,12 @@ module _ (place : Place) (n : ℕ) (format : Format) (i : ℕ) (d : Field) (j : 
 module _ (place : Place) (c : ℕ) (start : Start) (inner : Place) (same : inner.accepted.now ≡ place.accepted.now) (b : Begins inner c start) (many : ℕ) (count : many + start.digits.rest ≡ start.digits.span)
     (share : ShareDigits start.digits many) where
   abbrev OfFormat : Accepting → Type 0
-  OfFormat a = (g : Filling) → IsCandidate a.profile.methods a.certificate a.counts inner.method g → c ≤ number a.profile.methods a.certificate a.counts g inner.method →
-      number a.profile.methods a.certificate a.counts g inner.method < c + many → (out-Filling g).format ≡ start.format
+  OfFormat a = (g : Filling) → IsCandidate a.profile.methods a.certificate.methods a.counts inner.method g → c ≤ number a.profile.methods a.certificate.methods a.counts g inner.method →
+      number a.profile.methods a.certificate.methods a.counts g inner.method < c + many → (out-Filling g).format ≡ start.format
 
   of_format : OfFormat inner.accepted.now
   of_format g tried least most =
-      (share inner.accepted.now.profile.methods inner.accepted.now.certificate inner.accepted.now.counts inner.method start.format b.format b.plans.write c b.reading g tried least most).read.format_is
+      (share inner.accepted.now.profile.methods inner.accepted.now.certificate.methods inner.accepted.now.counts inner.method start.format b.format b.plans.write c b.reading g tried least most).read.format_is
 
   pub all_refuted : (n : ℕ) (format : Format) (i : ℕ) (d : Field) (args : List ℤ) (bits : List Bool) → IsRefutedInside place n format i d inner.method args start.format bits →
       AreRefutedInside place n format i d inner.method args c many bits
@@ -335,7 +335,7 @@ module _ (place : Place) (n : ℕ) (format : Format) (c i : ℕ) (old : Digits) 
   all = place.accepted.now.profile.methods
 
   abbrev kept : Entries
-  kept = place.accepted.now.certificate
+  kept = place.accepted.now.certificate.methods
 
   abbrev told : List ℕ
   told = place.accepted.now.counts
@@ -381,7 +381,7 @@ module _ (place : Place) (n : ℕ) (format : Format) (c i : ℕ) (old : Digits) 
           none : (f : Filling) → StandsIn all (bits_at place.context.now) (site_of place bits asked) f → c ≤ number all kept told f place.method → number all kept told f place.method < c + skipped → ⊥
           none f begins from to =
               let base = w.seen.checked in
-              let tried = is_candidate all place.accepted.now.profile.sizes place.accepted.now.profile.top kept base.are_sizes base.valid told (bits_at place.context.now) begins.fits in
+              let tried = is_candidate all place.accepted.now.profile.sizes place.accepted.now.profile.top base.version kept base.are_sizes base.valid told (bits_at place.context.now) begins.fits in
               let reads = carries all kept told base.are_counts place.method n format (Call i) w.later c ways_are w.seen.reading in
               let s = up_to all kept told base.are_counts place.method n format (Call i) w.later c old w.seen.reading digit reads (subst (λ z. digit + many ≤ z) ways_are room_inside) f tried from to in
               let f_format = s.0.read.format_is in
@@ -389,6 +389,6 @@ module _ (place : Place) (n : ℕ) (format : Format) (c i : ℕ) (old : Digits) 
               let one : p.format ≡ format = one_value (format_at all place.method n) p.format format (ap (format_at all place.method) (sym f_format) ∙ p.is_format) w.seen.format_is in
               let x = inside all (bits_at place.context.now) place.method place.arguments.now place.path.now format choices f p one (w.seen.told f tried s.0.within) i d j es field_is encoding_is vs values in
               let numbered = digits.call all kept told format f i j x.inner called_is x.inner_is in
-              let tried_inside = is_candidate all place.accepted.now.profile.sizes place.accepted.now.profile.top kept base.are_sizes base.valid told (bits_at place.context.now) x.fits in
+              let tried_inside = is_candidate all place.accepted.now.profile.sizes place.accepted.now.profile.top base.version kept base.are_sizes base.valid told (bits_at place.context.now) x.fits in
               let x_format = are.of_format x.inner tried_inside (subst (λ z. digit ≤ z) numbered s.1) (subst (λ z. z < digit + many) numbered s.2) in
               not_inside place n format i d j vs are.their bits w.seen.sound w.seen.format_is field_is asked f begins f_format x x_format are.refuted

@@ -31,7 +31,7 @@ use Rattle.fn_best.specs.Reading.{IsReading}
 use Rattle.fn_walk.specs.declared.place.Place.{Place}
 use Rattle.fn_writing.specs.Writing.{IsChecked}
 use Rattle.fn_writer.specs.declared.foreseeing.Chosen.{Chosen}
-use Rattle.fn_writer.specs.Refuting.{HasFalse, HaveBefore, IsRefuted}
+use Rattle.fn_writer.specs.Refuting.{HasFalse, HaveBefore, IsRefuted, operand}
 
 -- ---- choices
 
@@ -43,11 +43,11 @@ HasChosen f (x ∷ xs) = (num (side_at (view f) x.field Uncompressed) ≡ x.digi
 -- Of the number c, of the format n, the digits are read up to these steps; each candidate that has read the same has the choices.
 pub record HasSeen (place : Place) (n : ℕ) (format : Format) (steps : List Step) (c : ℕ) (digits : Digits) (choices : List Chosen) : Type 0 where
   pub sound : IsSound place.accepted.now.profile
-  pub checked : IsChecked place.accepted.now.profile.methods place.accepted.now.profile.sizes place.accepted.now.profile.top place.accepted.now.certificate place.accepted.now.counts
+  pub checked : IsChecked place.accepted.now.profile.methods place.accepted.now.profile.sizes place.accepted.now.profile.top place.accepted.now.certificate.methods place.accepted.now.counts
   pub format_is : format_at place.accepted.now.profile.methods place.method n ≡ Some format
-  pub reading : IsReading place.accepted.now.profile.methods place.accepted.now.certificate place.accepted.now.counts place.method n format steps c digits
-  pub told : (f : Filling) → IsCandidate place.accepted.now.profile.methods place.accepted.now.certificate place.accepted.now.counts place.method f →
-      InSpan place.accepted.now.profile.methods place.accepted.now.certificate place.accepted.now.counts place.method format reading.base steps f → HasChosen f choices
+  pub reading : IsReading place.accepted.now.profile.methods place.accepted.now.certificate.methods place.accepted.now.counts place.method n format steps c digits
+  pub told : (f : Filling) → IsCandidate place.accepted.now.profile.methods place.accepted.now.certificate.methods place.accepted.now.counts place.method f →
+      InSpan place.accepted.now.profile.methods place.accepted.now.certificate.methods place.accepted.now.counts place.method format reading.base steps f → HasChosen f choices
   pub room : (m : ℕ) → slice_get place.accepted.now.counts place.method ≡ Some m → c + digits.span ≤ m + digits.rest
 
 -- they are read up to this step
@@ -102,7 +102,7 @@ pub record IsPlaceInside (place : Place) (d : Field) (j : ℕ) (args : List ℤ)
 
 -- In a filling of the format n that begins the bits, a field that calls the method j with these values has no filling of the format m inside: a constraint of that format is false, or it is refuted where the field begins.
 pub data IsRefutedInside (place : Place) (n : ℕ) (format : Format) (i : ℕ) (d : Field) (j : ℕ) (args : List ℤ) (m : ℕ) (bits : List Bool) : Type 0 where
-  by_values : (inner : Format) → format_at place.accepted.now.profile.methods j m ≡ Some inner → HasFalse args inner.constraints → IsRefutedInside place n format i d j args m bits
+  by_values : (inner : Format) → format_at place.accepted.now.profile.methods j m ≡ Some inner → HasFalse (operand args) inner.constraints → IsRefutedInside place n format i d j args m bits
   by_start : (sizes : FormatSizes) (offset : ℕ) (there : Place) → is_header d.declared.part ≡ true → sizes_at place.accepted.now.profile.sizes place.method n ≡ Some sizes →
       HaveBefore format.fields sizes.fields i offset → IsPlaceInside place d j args there → IsRefuted there m (drop offset bits) → IsRefutedInside place n format i d j args m bits
 
@@ -111,7 +111,7 @@ pub record AreRefutedInside (place : Place) (n : ℕ) (format : Format) (i : ℕ
   pub some : 0 < many
   pub within : (m : ℕ) → slice_get place.accepted.now.counts j ≡ Some m → c + many ≤ m
   pub their : ℕ
-  pub of_format : (g : Filling) → IsCandidate place.accepted.now.profile.methods place.accepted.now.certificate place.accepted.now.counts j g →
-      c ≤ number place.accepted.now.profile.methods place.accepted.now.certificate place.accepted.now.counts g j →
-      number place.accepted.now.profile.methods place.accepted.now.certificate place.accepted.now.counts g j < c + many → (out-Filling g).format ≡ their
+  pub of_format : (g : Filling) → IsCandidate place.accepted.now.profile.methods place.accepted.now.certificate.methods place.accepted.now.counts j g →
+      c ≤ number place.accepted.now.profile.methods place.accepted.now.certificate.methods place.accepted.now.counts g j →
+      number place.accepted.now.profile.methods place.accepted.now.certificate.methods place.accepted.now.counts g j < c + many → (out-Filling g).format ≡ their
   pub refuted : IsRefutedInside place n format i d j args their bits

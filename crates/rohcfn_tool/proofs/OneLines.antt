@@ -277,6 +277,7 @@ verdicts methods (check.ShortFormat k node n) h =
     joined (joined (joined v (node_line methods k node h)) blank) (format methods k n h)
 verdicts methods check.TooMany h = record { no_feed = refl }
 verdicts methods (check.OutOfRange k node) h = let v : IsLine (codes "check: V7 ") = record { no_feed = refl } in joined v (node_line methods k node h)
+verdicts methods (check.BeyondWord k node) h = let v : IsLine (codes "check: V9 ") = record { no_feed = refl } in joined v (node_line methods k node h)
 verdicts methods check.TooLong h = record { no_feed = refl }
 
 at_line : (n : ℕ) (words : List ℕ) → IsLine words → IsLine (line_of_certificate n words)

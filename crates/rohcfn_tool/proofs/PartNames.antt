@@ -133,9 +133,9 @@ missing_is : (direction : Direction) → IsLine (input_name direction)
 missing_is Pack = record { no_feed = refl }
 missing_is Unpack = record { no_feed = refl }
 
-certificate_is : (top octets text : List ℕ) (part : _) → RefusesProfile top octets part text → IsLine text
-certificate_is top octets text part (at_fault is) = profile_faults top octets text is
-certificate_is top octets text part (unaccepted p reads is one) = one
+certificate_is : (top octets text : List ℕ) (origin : _) → RefusesProfile top octets origin text → IsLine text
+certificate_is top octets text origin (at_fault is) = profile_faults top octets text is
+certificate_is top octets text origin (unaccepted p reads is one) = one
 
 pub are_one_line : AreOneLine
 are_one_line = record {

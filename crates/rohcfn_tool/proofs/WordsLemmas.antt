@@ -32,20 +32,22 @@ subcommand_read (Some b) (Some p) name rows =
     ap Some (λ i. (sym n i, sym r i))
 
 -- what a command's name and the values of its flags ask for
-pub asked_by_parts : (met : Option (List ℕ × List Row)) (name : List ℕ) (rows : List Row) (command : Option Command) (receives : Bool) (top : Option (List ℕ)) (context : Bool) → met ≡ Some (name, rows) → command ≡ command_named name receives
-    → receives ≡ is_set (first_of (codes "receive") rows) → top ≡ first_of (codes "top") rows → context ≡ is_set (first_of (codes "context") rows) → asked_by command top context ≡ asked_in met
-asked_by_parts met name rows command receives top context m c r t s = (λ i. asked_by ((c ∙ ap (command_named name) r) i) (t i) (s i)) ∙ sym (ap asked_in m)
+pub asked_by_parts : (met : Option (List ℕ × List Row)) (name : List ℕ) (rows : List Row) (command : Option Command) (receives : Bool) (top : Option (List ℕ)) (context second : Bool) → met ≡ Some (name, rows)
+    → command ≡ command_named name receives
+    → receives ≡ is_set (first_of (codes "receive") rows) → top ≡ first_of (codes "top") rows → context ≡ is_set (first_of (codes "context") rows) → second ≡ is_set (first_of (codes "v2") rows) → asked_by command top context second ≡ asked_in met
+asked_by_parts met name rows command receives top context second m c r t s v = (λ i. asked_by ((c ∙ ap (command_named name) r) i) (t i) (s i) (v i)) ∙ sym (ap asked_in m)
 
 -- without the name of a method nothing is asked for
 pub asked_without_top : (met : Option (List ℕ × List Row)) (name : List ℕ) (rows : List Row) (command : Option Command) (receives : Bool) (top : Option (List ℕ)) → met ≡ Some (name, rows) → command ≡ command_named name receives
     → receives ≡ is_set (first_of (codes "receive") rows) → top ≡ first_of (codes "top") rows → top ≡ None → None ≡ asked_in met
 asked_without_top met name rows command receives top m c r t none =
     let context : Bool = is_set (first_of (codes "context") rows) in
-    no_top command context ∙ (λ i. asked_by command (sym none i) context) ∙ asked_by_parts met name rows command receives top context m c r t refl
+    let second : Bool = is_set (first_of (codes "v2") rows) in
+    no_top command context second ∙ (λ i. asked_by command (sym none i) context second) ∙ asked_by_parts met name rows command receives top context second m c r t refl refl
   where
-    no_top : (command : Option Command) (context : Bool) → None ≡ asked_by command None context
-    no_top None context = refl
-    no_top (Some command) context = refl
+    no_top : (command : Option Command) (context second : Bool) → None ≡ asked_by command None context second
+    no_top None context second = refl
+    no_top (Some command) context second = refl
 
 pub asked_found : (app : App) (words : List (List ℕ)) (met : Option (List ℕ × List Row)) (x : Option Asked) → app ≡ program → (is_simple_and_free app ≡ true → fault_of app words ≡ []) → (is_simple app ≡ true → met ≡ subcommand_of app words) → x ≡ asked_in met → asked_of words ≡ x
 unfolding asked_of

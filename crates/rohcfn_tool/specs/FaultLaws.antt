@@ -1,10 +1,10 @@
 -- A fault is one line, without a line feed.
-use Rattle.std.specs.Prelude.{ℕ, List, Option}
-use Rattle.std.specs.Borrow.{Bor}
+use Rattle.std.specs.Prelude.{ℕ, List}
 use Rattle.fn_line.specs.declared.fault.LineFault.{LineFault}
 use Rattle.rohcfn_tool.specs.declared.bundle.BadPart.{BadPart}
 use Rattle.rohcfn_tool.specs.declared.words.Direction.{Direction}
 use Rattle.rohcfn_tool.specs.declared.words.End.{End}
+use Rattle.rohcfn_tool.specs.declared.accepting.Origin.{Origin}
 use Rattle.rohcfn_tool.specs.Accepting.{RefusesProfile}
 use Rattle.rohcfn_tool.specs.Bundle.{BlamesPart}
 use Rattle.rohcfn_tool.specs.Lined.{IsLineFault, bad_event_text, bad_hex_text, line_part_name}
@@ -17,7 +17,7 @@ use Rattle.rohcfn_tool.specs.Program.{shown_name}
 -- others.
 pub record AreOneLine : Type 0 where
   pub profile : (top octets text : List ℕ) → IsFaultLine top octets text → IsLine text
-  pub certificate : (top octets text : List ℕ) (part : Option (Bor (List ℕ))) → RefusesProfile top octets part text → IsLine text
+  pub certificate : (top octets text : List ℕ) (origin : Origin) → RefusesProfile top octets origin text → IsLine text
   pub context : (n : ℕ) → IsLine (context_line n)
   pub input : (direction : Direction) (n : ℕ) → IsLine (bad_line_text direction n)
   pub missing : (direction : Direction) → IsLine (input_name direction)

@@ -14,13 +14,15 @@ use Rattle.fn_line.specs.declared.fault.LineFault.{LineFault}
 use Rattle.fn_line.specs.declared.fault.LineFault.TheVariants.{FlowOctet, RefusedPacket, Padding, Ended}
 use Rattle.fn_line.specs.declared.fault.LineFault.TheVariants as fault
 use Rattle.fn_line.specs.declared.runs.Event.{Event}
+use Rattle.rohcfn_tool.specs.declared.accepting.Origin.{Origin}
 use Rattle.rohcfn_tool.specs.declared.bundle.Parts.{Parts}
 use Rattle.rohcfn_tool.specs.declared.status.Answer.{Answer}
 use Rattle.rohcfn_tool.specs.declared.status.Status.{Status}
 use Rattle.rohcfn_tool.specs.declared.status.Status.TheVariants as status
 use Rattle.rohcfn_tool.specs.declared.words.End.{End}
 use Rattle.rohcfn_tool.specs.declared.words.End.TheVariants.{Sending, Receiving}
-use Rattle.rohcfn_tool.specs.Accepting.{AcceptsProfile, RefusesProfile}
+use Rattle.rohcfn_tool.specs.declared.words.Order.{Order}
+use Rattle.rohcfn_tool.specs.Accepting.{AcceptsProfile, RefusesProfile, origin_of}
 use Rattle.rohcfn_tool.specs.Events.{AreOctets, IsEvent}
 use Rattle.rohcfn_tool.specs.Inputs.{HasLines, IsBadLine}
 use Rattle.rohcfn_tool.specs.ItemTexts.{IsItemText}
@@ -100,25 +102,25 @@ AnsweredEnd Receiving a input s output = AnsweredHex a input s output
 
 -- ---- by the octets of a profile
 
--- What is answered at an end, by the octets of a profile, of its certificate, if there is one, and of the end's part.
-pub data LinedBy (end : End) (top profile : List ℕ) (certificate : Option (Bor (List ℕ))) (input : List ℕ) : Status → List ℕ → Type 0 where
+-- What is answered at an end, by the octets of a profile, by where its certificate comes from, and by the octets of the end's part.
+pub data LinedBy (end : End) (top profile : List ℕ) (origin : Origin) (input : List ℕ) : Status → List ℕ → Type 0 where
   -- something is wrong with the profile or its certificate
-  not_accepted : (text : List ℕ) → RefusesProfile top profile certificate text → LinedBy end top profile certificate input status.Refused (text ++ 10 ∷ [])
+  not_accepted : (text : List ℕ) → RefusesProfile top profile origin text → LinedBy end top profile origin input status.Refused (text ++ 10 ∷ [])
   -- by the profile that the octets stand for, with a certificate that is valid for it
-  with_profile : {s : Status} {output : List ℕ} (a : Accepting) → AcceptsProfile top profile certificate a → AnsweredEnd end a input s output → LinedBy end top profile certificate input s output
+  with_profile : {s : Status} {output : List ℕ} (a : Accepting) → AcceptsProfile top profile origin a → AnsweredEnd end a input s output → LinedBy end top profile origin input s output
 
 -- What is answered to `line`, by the octets of a profile and the parts.
-pub data Lined (end : End) (top profile : List ℕ) (parts : Parts) : Status → List ℕ → Type 0 where
-  no_part : line_part end parts ≡ None → Lined end top profile parts status.Refused ((codes "bundle: I4 bad part " ++ line_part_name end) ++ 10 ∷ [])
-  by_part : {s : Status} {output : List ℕ} (input : Bor (List ℕ)) → line_part end parts ≡ Some input → LinedBy end top profile parts.certificate input.now s output → Lined end top profile parts s output
+pub data Lined (end : End) (order : Order) (profile : List ℕ) (parts : Parts) : Status → List ℕ → Type 0 where
+  no_part : line_part end parts ≡ None → Lined end order profile parts status.Refused ((codes "bundle: I4 bad part " ++ line_part_name end) ++ 10 ∷ [])
+  by_part : {s : Status} {output : List ℕ} (input : Bor (List ℕ)) → line_part end parts ≡ Some input → LinedBy end order.top.now profile (origin_of order.version parts.certificate) input.now s output → Lined end order profile parts s output
 
 -- ---- the steps
 
-abbrev pub AnswersLine : End → List ℕ → List ℕ → Parts → Answer → Type 0
-AnswersLine end top profile parts answer = Lined end top profile parts answer.status (string_bytes answer.output)
+abbrev pub AnswersLine : End → Order → List ℕ → Parts → Answer → Type 0
+AnswersLine end order profile parts answer = Lined end order profile parts answer.status (string_bytes answer.output)
 
-abbrev pub AnswersLineBy : End → List ℕ → List ℕ → Option (Bor (List ℕ)) → List ℕ → Answer → Type 0
-AnswersLineBy end top profile certificate input answer = LinedBy end top profile certificate input answer.status (string_bytes answer.output)
+abbrev pub AnswersLineBy : End → List ℕ → List ℕ → Origin → List ℕ → Answer → Type 0
+AnswersLineBy end top profile origin input answer = LinedBy end top profile origin input answer.status (string_bytes answer.output)
 
 abbrev pub AnswersEnd : End → Accepting → List ℕ → Answer → Type 0
 AnswersEnd end a input answer = AnsweredEnd end a input answer.status (string_bytes answer.output)

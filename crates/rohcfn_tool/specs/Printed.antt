@@ -21,6 +21,8 @@ use Rattle.fn_engine.specs.declared.reader.UnpackFault.{UnpackFault}
 use Rattle.fn_engine.specs.declared.reader.UnpackFault.TheVariants.{Truncated, Refused, OutOfMemory}
 use Rattle.fn_engine.specs.declared.writer.PackFault.{PackFault}
 use Rattle.fn_engine.specs.declared.writer.PackFault.TheVariants as writer
+use Rattle.fn_cert.specs.declared.certificate.Version.{Version}
+use Rattle.rohcfn_tool.specs.declared.accepting.Origin.{Origin}
 use Rattle.rohcfn_tool.specs.declared.bundle.Parts.{Parts}
 use Rattle.rohcfn_tool.specs.declared.status.Answer.{Answer}
 use Rattle.rohcfn_tool.specs.declared.status.Status.{Status}
@@ -31,7 +33,7 @@ use Rattle.rohcfn_tool.specs.declared.words.Direction.{Direction}
 use Rattle.rohcfn_tool.specs.declared.words.Direction.TheVariants.{Pack, Unpack}
 use Rattle.rohcfn_tool.specs.declared.words.End.{End}
 use Rattle.rohcfn_tool.specs.declared.words.Order.{Order}
-use Rattle.rohcfn_tool.specs.Accepting.{AcceptsProfile, RefusesProfile}
+use Rattle.rohcfn_tool.specs.Accepting.{AcceptsProfile, RefusesProfile, origin_of}
 use Rattle.rohcfn_tool.specs.Inputs.{HasLines, IsBadContext, IsBadLine, IsBits, IsItem, StartsAt}
 use Rattle.rohcfn_tool.specs.OneLine.{IsLine}
 use Rattle.rohcfn_tool.specs.ItemTexts.{IsItemText}
@@ -48,7 +50,7 @@ IsTaken it count text = (front : List ℕ) × IsItemText it front × (text ≡ f
 
 -- for an item: the packed bits of the best filling that fits in the context and has the item
 pub record IsItemLine (a : Accepting) (ctx : Entries) (it : Item) (f : Filling) (text : List ℕ) : Type 0 where
-  pub best : Best a.profile.methods a.certificate a.profile.top (bits_at ctx) it f
+  pub best : Best a.profile.methods a.certificate.methods a.profile.top (bits_at ctx) it f
   pub spelled : IsText text (packed f)
 
 -- for a packet: the item of a filling that fits in the context and whose packed bits are at its front, and how many these are
@@ -160,26 +162,26 @@ pub data ShownBy (top octets : List ℕ) : Status → List ℕ → Type 0 where
   -- the methods, bounds and constraints of the normal form
   listed : (p : Resolved) → Reads octets top p → ShownBy top octets status.Done (listing.shown octets p.methods p.sizes)
 
--- What is answered to `check`, by the octets of a profile and of a certificate, if there is one.
-pub data CheckedOctets (top profile : List ℕ) (certificate : Option (Bor (List ℕ))) : Status → List ℕ → Type 0 where
+-- What is answered to `check`, by the octets of a profile, and by where its certificate comes from.
+pub data CheckedOctets (top profile : List ℕ) (origin : Origin) : Status → List ℕ → Type 0 where
   -- something is wrong with one of them
-  refused : (text : List ℕ) → RefusesProfile top profile certificate text → CheckedOctets top profile certificate status.Refused (text ++ 10 ∷ [])
+  refused : (text : List ℕ) → RefusesProfile top profile origin text → CheckedOctets top profile origin status.Refused (text ++ 10 ∷ [])
   -- the certificate is valid for the profile that the octets stand for
-  accepted : (a : Accepting) → AcceptsProfile top profile certificate a → CheckedOctets top profile certificate status.Done (codes "accepted" ++ 10 ∷ [])
+  accepted : (a : Accepting) → AcceptsProfile top profile origin a → CheckedOctets top profile origin status.Done (codes "accepted" ++ 10 ∷ [])
 
--- What is answered to `prove`.
-pub data ProvedOctets (top octets : List ℕ) : Status → List ℕ → Type 0 where
+-- What is answered to `prove` for that version.
+pub data ProvedOctets (version : Version) (top octets : List ℕ) : Status → List ℕ → Type 0 where
   -- the profile is at fault
-  none_proved : (text : List ℕ) → IsFaultLine top octets text → ProvedOctets top octets status.Refused (text ++ 10 ∷ [])
+  none_proved : (text : List ℕ) → IsFaultLine top octets text → ProvedOctets version top octets status.Refused (text ++ 10 ∷ [])
   -- by the profile that the octets stand for
-  proved_by : {s : Status} {output : List ℕ} (p : Resolved) → Reads octets top p → ProvedBy p s output → ProvedOctets top octets s output
+  proved_by : {s : Status} {output : List ℕ} (p : Resolved) → Reads octets top p → ProvedBy version p s output → ProvedOctets version top octets s output
 
 -- What is answered in a direction, by the octets of a profile, of its certificate and of a context, if there are such, and of items or packets.
 pub data AnsweredBy (direction : Direction) (order : Order) (profile : List ℕ) (parts : Parts) (input : List ℕ) : Status → List ℕ → Type 0 where
   -- something is wrong with the profile or its certificate
-  unaccepted : (text : List ℕ) → RefusesProfile order.top.now profile parts.certificate text → AnsweredBy direction order profile parts input status.Refused (text ++ 10 ∷ [])
+  unaccepted : (text : List ℕ) → RefusesProfile order.top.now profile (origin_of order.version parts.certificate) text → AnsweredBy direction order profile parts input status.Refused (text ++ 10 ∷ [])
   -- by the profile that the octets stand for, with a certificate that is valid for it
-  by_profile : {s : Status} {output : List ℕ} (a : Accepting) → AcceptsProfile order.top.now profile parts.certificate a → AnsweredFor direction order.shows_context a parts.context input s output → AnsweredBy direction order profile parts input s output
+  by_profile : {s : Status} {output : List ℕ} (a : Accepting) → AcceptsProfile order.top.now profile (origin_of order.version parts.certificate) a → AnsweredFor direction order.shows_context a parts.context input s output → AnsweredBy direction order profile parts input s output
 
 -- What is answered in a direction, by the octets of a profile and the parts.
 pub data AnsweredRun (direction : Direction) (order : Order) (profile : List ℕ) (parts : Parts) : Status → List ℕ → Type 0 where
@@ -192,13 +194,13 @@ pub data Answered (order : Order) (parts : Parts) : Status → List ℕ → Type
   shown : {s : Status} {output : List ℕ} (profile : Bor (List ℕ)) → parts.profile ≡ Some profile → order.command ≡ Show
       → ShownBy order.top.now profile.now s output → Answered order parts s output
   checked : {s : Status} {output : List ℕ} (profile : Bor (List ℕ)) → parts.profile ≡ Some profile → order.command ≡ Check
-      → CheckedOctets order.top.now profile.now parts.certificate s output → Answered order parts s output
+      → CheckedOctets order.top.now profile.now (origin_of order.version parts.certificate) s output → Answered order parts s output
   proved : {s : Status} {output : List ℕ} (profile : Bor (List ℕ)) → parts.profile ≡ Some profile → order.command ≡ Prove
-      → ProvedOctets order.top.now profile.now s output → Answered order parts s output
+      → ProvedOctets order.version order.top.now profile.now s output → Answered order parts s output
   ran : {s : Status} {output : List ℕ} (profile : Bor (List ℕ)) (direction : Direction) → parts.profile ≡ Some profile → order.command ≡ Run direction
       → AnsweredRun direction order profile.now parts s output → Answered order parts s output
   lined : {s : Status} {output : List ℕ} (profile : Bor (List ℕ)) (end : End) → parts.profile ≡ Some profile → order.command ≡ command.Line end
-      → Lined end order.top.now profile.now parts s output → Answered order parts s output
+      → Lined end order profile.now parts s output → Answered order parts s output
 
 -- ---- the steps
 
@@ -221,11 +223,11 @@ AnswersFor direction shows a context input = Holds (AnsweredFor direction shows 
 abbrev pub AnswersIn : Direction → Bool → Accepting → Entries → List ℕ → Answer → Type 0
 AnswersIn direction shows a ctx input = Holds (AnsweredIn direction shows a ctx input)
 
-abbrev pub ChecksOctets : List ℕ → List ℕ → Option (Bor (List ℕ)) → Answer → Type 0
-ChecksOctets top profile certificate = Holds (CheckedOctets top profile certificate)
+abbrev pub ChecksOctets : List ℕ → List ℕ → Origin → Answer → Type 0
+ChecksOctets top profile origin = Holds (CheckedOctets top profile origin)
 
-abbrev pub ProvesOctets : List ℕ → List ℕ → Answer → Type 0
-ProvesOctets top octets = Holds (ProvedOctets top octets)
+abbrev pub ProvesOctets : Version → List ℕ → List ℕ → Answer → Type 0
+ProvesOctets version top octets = Holds (ProvedOctets version top octets)
 
 abbrev pub Shows : List ℕ → List ℕ → Answer → Type 0
 Shows top octets = Holds (ShownBy top octets)

@@ -2,7 +2,8 @@
 use Rattle.std.specs.Prelude.{◌≡◌, ℕ, List, [], ◌∷◌, ◌++◌, codes, flat_map, string_bytes}
 use Rattle.fn_normal.specs.declared.profile.Method.{Method}
 use Rattle.fn_cert.specs.declared.certificate.Direction.{Direction}
-use Rattle.fn_cert.specs.Kept.{Entries}
+use Rattle.fn_cert.specs.declared.certificate.Version.{Version}
+use Rattle.fn_cert.specs.Kept.{Certified}
 use Rattle.fn_cert.specs.Text.{certificate_text, side_word}
 use Rattle.fn_profile.specs.Resolved.{Resolved}
 use Rattle.fn_order.specs.declared.fault.FieldSide.{FieldSide}
@@ -34,12 +35,12 @@ IsUnprovedLine methods (NoTree k first second) text = text ≡ tree_line methods
 IsUnprovedLine methods Limit text = text ≡ codes "prove: P3 Limit"
 IsUnprovedLine methods OutOfMemory text = ⊥
 
--- What is answered to `prove`, by the profile.
-pub data ProvedBy (p : Resolved) : Status → List ℕ → Type 0 where
+-- What is answered to `prove` for that version, by the profile.
+pub data ProvedBy (version : Version) (p : Resolved) : Status → List ℕ → Type 0 where
   -- no certificate is made, and one line says why
-  unproved : (why : Unproved) (text : List ℕ) → IsUnproved p why → IsUnprovedLine p.methods why text → IsLine text → ProvedBy p status.Refused (text ++ 10 ∷ [])
+  unproved : (why : Unproved) (text : List ℕ) → IsUnproved version p why → IsUnprovedLine p.methods why text → IsLine text → ProvedBy version p status.Refused (text ++ 10 ∷ [])
   -- the text of the one that is
-  printed : (cert : Entries) → IsProved p cert → ProvedBy p status.Done (certificate_text cert)
+  printed : (cert : Certified) → IsProved version p cert → ProvedBy version p status.Done (certificate_text cert)
 
-abbrev pub Proves : Resolved → Answer → Type 0
-Proves p a = ProvedBy p a.status (string_bytes a.output)
+abbrev pub Proves : Version → Resolved → Answer → Type 0
+Proves version p a = ProvedBy version p a.status (string_bytes a.output)

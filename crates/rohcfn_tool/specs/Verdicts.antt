@@ -9,7 +9,7 @@ use Rattle.fn_cert.specs.declared.reading.CertificateError.{CertificateError}
 use Rattle.fn_cert.specs.declared.reading.CertificateError.TheVariants.{BadWord, UnknownName, AboveLimits, OutOfMemory}
 use Rattle.fn_cert.specs.Text.{name_of, side_word}
 use Rattle.fn_rules.specs.declared.fault.CheckFault.{CheckFault}
-use Rattle.fn_rules.specs.declared.fault.CheckFault.TheVariants.{NoMethod, NoFormat, NotEnabled, NeverLearnt, WrongLeaf, ShortFormat, OutOfRange, TooMany, TooLong}
+use Rattle.fn_rules.specs.declared.fault.CheckFault.TheVariants.{NoMethod, NoFormat, NotEnabled, NeverLearnt, WrongLeaf, ShortFormat, OutOfRange, BeyondWord, TooMany, TooLong}
 
 -- the name of a method, of a format of it, and of a field of that; one that has none is called -
 abbrev pub method_name : List Method → ℕ → List ℕ
@@ -51,6 +51,7 @@ verdict_line methods (ShortFormat k node n) = codes "check: V5 " ++ node_words m
 verdict_line methods TooMany = codes "check: V6 candidates"
 verdict_line methods (OutOfRange k node) = codes "check: V7 " ++ node_words methods k node
 verdict_line methods TooLong = codes "check: V8 length"
+verdict_line methods (BeyondWord k node) = codes "check: V9 " ++ node_words methods k node
 
 -- ---- the text of a certificate
 

@@ -6,6 +6,8 @@ use Rattle.clap.specs.Simple.{on_top}
 use Rattle.clap.specs.declared.builder.action.ArgAction.TheVariants.{SetTrue}
 use Rattle.clap.specs.declared.error.kind.ErrorKind.{ErrorKind}
 use Rattle.clap.specs.declared.error.kind.ErrorKind.TheVariants.{DisplayHelp, OutOfMemory}
+use Rattle.fn_cert.specs.declared.certificate.Version.{Version}
+use Rattle.fn_cert.specs.declared.certificate.Version.TheVariants.{One, Two}
 use Rattle.rohcfn_tool.specs.declared.words.Command.{Command}
 use Rattle.rohcfn_tool.specs.declared.words.Command.TheVariants.{Show, Check, Prove, Run, Line}
 use Rattle.rohcfn_tool.specs.declared.words.Direction.TheVariants.{Pack, Unpack}
@@ -30,22 +32,32 @@ context_flag = record (new_rule (codes "context")) {
   action = Some SetTrue;
 }
 
--- `--receive`, likewise
+-- `--v2` and `--receive`, likewise
+abbrev pub version_flag : Rule
+version_flag = record (new_rule (codes "v2")) {
+  long = Some (codes "v2");
+  action = Some SetTrue;
+}
+
 abbrev pub receive_flag : Rule
 receive_flag = record (new_rule (codes "receive")) {
   long = Some (codes "receive");
   action = Some SetTrue;
 }
 
--- a command of that name with the first flag, and with one more
+-- a command of that name with the first flag
 abbrev pub with_top : List ℕ → App
 with_top name = with_rule (new_app name) top_flag
 
+-- one that may make a certificate, with the second flag too; and with one more
+abbrev pub with_version : List ℕ → App
+with_version name = with_rule (with_top name) version_flag
+
 abbrev pub with_flags : List ℕ → App
-with_flags name = with_rule (with_top name) context_flag
+with_flags name = with_rule (with_version name) context_flag
 
 abbrev pub with_receive : List ℕ → App
-with_receive name = with_rule (with_top name) receive_flag
+with_receive name = with_rule (with_version name) receive_flag
 
 -- the program's own command line: no name before the words, and one of the commands has to be there
 abbrev pub bare_program : App
@@ -55,16 +67,17 @@ bare_program = on_top (λ top. record top { no_binary_name = true; subcommand_re
 -- with its commands
 unfoldable pub program : App
 program = with_subcommand (with_subcommand (with_subcommand (with_subcommand (with_subcommand (with_subcommand bare_program (with_flags (codes "pack")).top)
-    (with_flags (codes "unpack")).top) (with_top (codes "show")).top) (with_top (codes "check")).top) (with_top (codes "prove")).top) (with_receive (codes "line")).top
+    (with_flags (codes "unpack")).top) (with_top (codes "show")).top) (with_version (codes "check")).top) (with_version (codes "prove")).top) (with_receive (codes "line")).top
 
--- a command, the name of a method, and whether the last context is printed
+-- a command, the name of a method, whether the last context is printed, and the version of a certificate that is made
 pub record Asked : Type 0 where
   pub command : Command
   pub top : List ℕ
   pub shows_context : Bool
+  pub version : Version
 
 abbrev pub asked : Order → Asked
-asked order = record { command = order.command; top = order.top.now; shows_context = order.shows_context }
+asked order = record { command = order.command; top = order.top.now; shows_context = order.shows_context; version = order.version }
 
 -- the end of a line: the receiving one, where that is asked for
 abbrev pub end_at : Bool → End
@@ -84,15 +97,19 @@ abbrev pub is_set : Option (List ℕ) → Bool
 is_set None = false
 is_set (Some text) = bytes_eq text (codes "true")
 
-abbrev pub asked_by : Option Command → Option (List ℕ) → Bool → Option Asked
-asked_by None top context = None
-asked_by (Some command) None context = None
-asked_by (Some command) (Some top) context = Some (record { command = command; top = top; shows_context = context })
+-- the version of a certificate that is made: the first, where the second is not asked for
+abbrev pub version_asked : Bool → Version
+version_asked second = if second then Two else One
+
+abbrev pub asked_by : Option Command → Option (List ℕ) → Bool → Bool → Option Asked
+asked_by None top context second = None
+asked_by (Some command) None context second = None
+asked_by (Some command) (Some top) context second = Some (record { command = command; top = top; shows_context = context; version = version_asked second })
 
 -- a command's name, and the values of its flags
 abbrev pub asked_in : Option (List ℕ × List Row) → Option Asked
 asked_in None = None
-asked_in (Some met) = asked_by (command_named met.0 (is_set (first_of (codes "receive") met.1))) (first_of (codes "top") met.1) (is_set (first_of (codes "context") met.1))
+asked_in (Some met) = asked_by (command_named met.0 (is_set (first_of (codes "receive") met.1))) (first_of (codes "top") met.1) (is_set (first_of (codes "context") met.1)) (is_set (first_of (codes "v2") met.1))
 
 -- words with a fault ask for nothing
 abbrev pub asked_unless : Kinds → Option (List ℕ × List Row) → Option Asked
@@ -125,15 +142,19 @@ RefusesError kind error.OutOfMemory = Unit {0}
 
 -- what some words ask for, written out
 pub record ReadsWords : Type 0 where
-  pub pack : asked_of (codes "pack" ∷ codes "--top" ∷ codes "plain" ∷ []) ≡ Some (record { command = Run Pack; top = codes "plain"; shows_context = false })
-  pub unpack : asked_of (codes "unpack" ∷ codes "--top=plain" ∷ []) ≡ Some (record { command = Run Unpack; top = codes "plain"; shows_context = false })
-  pub show : asked_of (codes "show" ∷ codes "--top" ∷ codes "plain" ∷ []) ≡ Some (record { command = Show; top = codes "plain"; shows_context = false })
-  pub check : asked_of (codes "check" ∷ codes "--top" ∷ codes "plain" ∷ []) ≡ Some (record { command = Check; top = codes "plain"; shows_context = false })
-  pub prove : asked_of (codes "prove" ∷ codes "--top" ∷ codes "plain" ∷ []) ≡ Some (record { command = Prove; top = codes "plain"; shows_context = false })
-  pub pack_context : asked_of (codes "pack" ∷ codes "--top" ∷ codes "plain" ∷ codes "--context" ∷ []) ≡ Some (record { command = Run Pack; top = codes "plain"; shows_context = true })
+  pub pack : asked_of (codes "pack" ∷ codes "--top" ∷ codes "plain" ∷ []) ≡ Some (record { command = Run Pack; top = codes "plain"; shows_context = false; version = One })
+  pub unpack : asked_of (codes "unpack" ∷ codes "--top=plain" ∷ []) ≡ Some (record { command = Run Unpack; top = codes "plain"; shows_context = false; version = One })
+  pub show : asked_of (codes "show" ∷ codes "--top" ∷ codes "plain" ∷ []) ≡ Some (record { command = Show; top = codes "plain"; shows_context = false; version = One })
+  pub check : asked_of (codes "check" ∷ codes "--top" ∷ codes "plain" ∷ []) ≡ Some (record { command = Check; top = codes "plain"; shows_context = false; version = One })
+  pub prove : asked_of (codes "prove" ∷ codes "--top" ∷ codes "plain" ∷ []) ≡ Some (record { command = Prove; top = codes "plain"; shows_context = false; version = One })
+  pub pack_context : asked_of (codes "pack" ∷ codes "--top" ∷ codes "plain" ∷ codes "--context" ∷ []) ≡ Some (record { command = Run Pack; top = codes "plain"; shows_context = true; version = One })
+  pub pack_second : asked_of (codes "pack" ∷ codes "--top" ∷ codes "plain" ∷ codes "--v2" ∷ []) ≡ Some (record { command = Run Pack; top = codes "plain"; shows_context = false; version = Two })
+  pub prove_second : asked_of (codes "prove" ∷ codes "--v2" ∷ codes "--top" ∷ codes "plain" ∷ []) ≡ Some (record { command = Prove; top = codes "plain"; shows_context = false; version = Two })
+  pub line_second : asked_of (codes "line" ∷ codes "--top" ∷ codes "plain" ∷ codes "--receive" ∷ codes "--v2" ∷ []) ≡ Some (record { command = Line Receiving; top = codes "plain"; shows_context = false; version = Two })
+  pub show_second : asked_of (codes "show" ∷ codes "--top" ∷ codes "plain" ∷ codes "--v2" ∷ []) ≡ None
   pub show_context : asked_of (codes "show" ∷ codes "--top" ∷ codes "plain" ∷ codes "--context" ∷ []) ≡ None
-  pub line : asked_of (codes "line" ∷ codes "--top" ∷ codes "plain" ∷ []) ≡ Some (record { command = Line Sending; top = codes "plain"; shows_context = false })
-  pub line_receive : asked_of (codes "line" ∷ codes "--top" ∷ codes "plain" ∷ codes "--receive" ∷ []) ≡ Some (record { command = Line Receiving; top = codes "plain"; shows_context = false })
+  pub line : asked_of (codes "line" ∷ codes "--top" ∷ codes "plain" ∷ []) ≡ Some (record { command = Line Sending; top = codes "plain"; shows_context = false; version = One })
+  pub line_receive : asked_of (codes "line" ∷ codes "--top" ∷ codes "plain" ∷ codes "--receive" ∷ []) ≡ Some (record { command = Line Receiving; top = codes "plain"; shows_context = false; version = One })
   pub pack_receive : asked_of (codes "pack" ∷ codes "--top" ∷ codes "plain" ∷ codes "--receive" ∷ []) ≡ None
   pub line_context : asked_of (codes "line" ∷ codes "--top" ∷ codes "plain" ∷ codes "--context" ∷ []) ≡ None
   pub no_top : asked_of (codes "pack" ∷ []) ≡ None

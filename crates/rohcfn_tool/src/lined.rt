@@ -1,17 +1,18 @@
 //! What is answered to `line`.
 
 ghost use Rattle.std.specs.Prelude.{◌≡◌, ◌++◌, IfOk, OnOk, codes, decimal, string_bytes};
+ghost use Rattle.rohcfn_tool.specs.Accepting.{origin_of};
 ghost use Rattle.rohcfn_tool.specs.Lined as spec;
 ghost use Rattle.rohcfn_tool.specs.OneLine.{IsLine};
 
-use crate::accepting::{Judged, accept};
+use crate::accepting::{Judged, Origin, accept};
 use crate::bundle::Parts;
 use crate::events::{read_events, read_octets};
 use crate::inputs::BadLine;
 use crate::printing::{push_item_text, push_line};
 use crate::replies::refusal;
 use crate::status::{Answer, Status};
-use crate::words::End;
+use crate::words::{End, Order};
 use fn_checker::Accepted;
 use fn_engine::PackFault;
 use fn_filling::Item;
@@ -24,19 +25,19 @@ use std::alloc::{AllocError, Global};
 pub(crate) fn answer_line(
     alloc: Global,
     end: End,
-    top: &str,
+    order: &Order<'_>,
     profile: &[u8],
     parts: &Parts<'_>,
 ) -> Result<Answer, AllocError>
-    ensures { IfOk result (spec.AnswersLine end top.now profile.now parts.now) }
+    ensures { IfOk result (spec.AnswersLine end order.now profile.now parts.now) }
 {
     match end {
         End::Sending => match parts.events {
-            Some(events) => line_by(alloc, End::Sending, top, profile, parts, events),
+            Some(events) => line_by(alloc, End::Sending, order, profile, parts, events),
             None => refusal(alloc, "bundle: I4 bad part events"),
         },
         End::Receiving => match parts.octets {
-            Some(octets) => line_by(alloc, End::Receiving, top, profile, parts, octets),
+            Some(octets) => line_by(alloc, End::Receiving, order, profile, parts, octets),
             None => refusal(alloc, "bundle: I4 bad part octets"),
         },
     }
@@ -46,14 +47,14 @@ pub(crate) fn answer_line(
 fn line_by(
     alloc: Global,
     end: End,
-    top: &str,
+    order: &Order<'_>,
     profile: &[u8],
     parts: &Parts<'_>,
     input: &[u8],
 ) -> Result<Answer, AllocError>
-    ensures { IfOk result (spec.AnswersLineBy end top.now profile.now parts.now.certificate input.now) }
+    ensures { IfOk result (spec.AnswersLineBy end order.now.top.now profile.now (origin_of order.now.version parts.now.certificate) input.now) }
 {
-    match accept(alloc, top, profile, parts)? {
+    match accept(alloc, order.top, profile, Origin::of(order.version, parts))? {
         Judged::Accepted(accepted) => answer_end(alloc, end, &accepted, input),
         Judged::Refused(line) => refusal(alloc, line.as_str()),
     }

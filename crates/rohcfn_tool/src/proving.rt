@@ -9,7 +9,7 @@ use crate::replies::refusal;
 use crate::showing::error_line;
 use crate::status::{Answer, Status};
 use crate::verdicts::{direction_word, field_name, format_name, method_name, names, side_word};
-use fn_cert::{Direction, print};
+use fn_cert::{Direction, Version, print};
 use fn_names::read;
 use fn_normal::Method;
 use fn_order::FieldSide;
@@ -17,12 +17,17 @@ use fn_profile::Profile;
 use fn_prover::{Unproved, prove};
 use std::alloc::{AllocError, Global};
 
-/// The answer to `prove`: the text of the certificate that is made, or the line of the profile's fault or of what is missing.
-pub(crate) fn answer_prove(alloc: Global, top: &str, profile: &[u8]) -> Result<Answer, AllocError>
-    ensures { IfOk result (ProvesOctets top.now profile.now) }
+/// The answer to `prove`: the text of the certificate of that version that is made, or the line of the profile's fault or of what is missing.
+pub(crate) fn answer_prove(
+    alloc: Global,
+    version: Version,
+    top: &str,
+    profile: &[u8],
+) -> Result<Answer, AllocError>
+    ensures { IfOk result (ProvesOctets version top.now profile.now) }
 {
     match read(alloc, profile, top.as_bytes()) {
-        Ok(normal) => prove_profile(alloc, &normal),
+        Ok(normal) => prove_profile(alloc, version, &normal),
         Err(error) => {
             let line = error_line(alloc, profile, error)?;
             refusal(alloc, line.as_str())
@@ -31,10 +36,10 @@ pub(crate) fn answer_prove(alloc: Global, top: &str, profile: &[u8]) -> Result<A
 }
 
 /// The answer by a profile.
-fn prove_profile(alloc: Global, profile: &Profile) -> Result<Answer, AllocError>
-    ensures { IfOk result (Proves profile.now) }
+fn prove_profile(alloc: Global, version: Version, profile: &Profile) -> Result<Answer, AllocError>
+    ensures { IfOk result (Proves version profile.now) }
 {
-    match prove(alloc, profile) {
+    match prove(alloc, profile, version) {
         Ok(certificate) => {
             let output = print(alloc, &certificate)?;
             Ok(Answer {

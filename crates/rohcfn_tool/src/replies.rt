@@ -1,10 +1,11 @@
 //! What is printed for an order and the parts of the input.
 
 ghost use Rattle.std.specs.Prelude.{◌≡◌, ◌++◌, IfOk, codes, decimal, string_bytes};
+ghost use Rattle.rohcfn_tool.specs.Accepting.{origin_of};
 ghost use Rattle.rohcfn_tool.specs.FaultLaws.{AreOneLine};
 ghost use Rattle.rohcfn_tool.specs.Printed as spec;
 
-use crate::accepting::{Judged, accept};
+use crate::accepting::{Judged, Origin, accept};
 use crate::bundle::Parts;
 use crate::inputs::{BadLine, read_context, read_items, read_packets};
 use crate::lined::answer_line;
@@ -30,23 +31,23 @@ pub fn answer(alloc: Global, order: &Order<'_>, parts: &Parts<'_>) -> Result<Ans
     };
     match order.command {
         Command::Show => answer_listing(alloc, order.top, profile),
-        Command::Check => answer_check(alloc, order.top, profile, parts),
-        Command::Prove => answer_prove(alloc, order.top, profile),
+        Command::Check => answer_check(alloc, order, profile, parts),
+        Command::Prove => answer_prove(alloc, order.version, order.top, profile),
         Command::Run(direction) => answer_run(alloc, direction, order, profile, parts),
-        Command::Line(end) => answer_line(alloc, end, order.top, profile, parts),
+        Command::Line(end) => answer_line(alloc, end, order, profile, parts),
     }
 }
 
 /// The answer to `check`: `accepted`, or the line of the first fault.
 fn answer_check(
     alloc: Global,
-    top: &str,
+    order: &Order<'_>,
     profile: &[u8],
     parts: &Parts<'_>,
 ) -> Result<Answer, AllocError>
-    ensures { IfOk result (spec.ChecksOctets top.now profile.now parts.now.certificate) }
+    ensures { IfOk result (spec.ChecksOctets order.now.top.now profile.now (origin_of order.now.version parts.now.certificate)) }
 {
-    match accept(alloc, top, profile, parts)? {
+    match accept(alloc, order.top, profile, Origin::of(order.version, parts))? {
         Judged::Accepted(_) => Ok(Answer {
             status: Status::Done,
             output: String::from_str(alloc, "accepted\n")?,
@@ -88,7 +89,7 @@ fn answer_by(
 ) -> Result<Answer, AllocError>
     ensures { IfOk result (spec.AnswersBy direction order.now profile.now parts.now input.now) }
 {
-    match accept(alloc, order.top, profile, parts)? {
+    match accept(alloc, order.top, profile, Origin::of(order.version, parts))? {
         Judged::Accepted(accepted) => {
             let shows = order.shows_context;
             answer_for(alloc, direction, shows, &accepted, parts, input)

@@ -65,6 +65,7 @@ pub(crate) fn verdict_line(
             format,
         } => bit_line(alloc, methods, method, node, format),
         CheckFault::OutOfRange { method, node } => range_line(alloc, methods, method, node),
+        CheckFault::BeyondWord { method, node } => beyond_line(alloc, methods, method, node),
         CheckFault::TooMany => String::from_str(alloc, "check: V6 candidates"),
         CheckFault::TooLong => String::from_str(alloc, "check: V8 length"),
     }
@@ -202,6 +203,24 @@ fn range_words(alloc: Global, name: &str, node: usize) -> Result<String, AllocEr
     ensures { IfOk result (λ text. string_bytes text ≡ codes "check: V7 " ++ name.now ++ codes " node " ++ decimal node) }
 {
     format!(in alloc; "check: V7 {name} node {node}")
+}
+
+/// A reference's constant that no 64 bits spell.
+fn beyond_line(
+    alloc: Global,
+    methods: &[Method],
+    method: usize,
+    node: usize,
+) -> Result<String, AllocError>
+    ensures { IfOk result (λ text. string_bytes text ≡ spec.verdict_line methods.now (CheckFault.BeyondWord method node)) }
+{
+    beyond_words(alloc, method_name(methods, method), node)
+}
+
+fn beyond_words(alloc: Global, name: &str, node: usize) -> Result<String, AllocError>
+    ensures { IfOk result (λ text. string_bytes text ≡ codes "check: V9 " ++ name.now ++ codes " node " ++ decimal node) }
+{
+    format!(in alloc; "check: V9 {name} node {node}")
 }
 
 /// The names of a method and of a format of it.

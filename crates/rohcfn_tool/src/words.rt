@@ -2,10 +2,11 @@
 ghost use Rattle.std.specs.Prelude.{◌≡◌, ◌↔◌, None, Some, false, map, IfOk, IfErr, option_map};
 ghost use Rattle.clap.specs.Words.{app_of, kind_of, subcommand_rows_of};
 ghost use Rattle.clap.specs.declared.builder.command.Command.TheViews.{out-Command as fields_of};
-ghost use Rattle.rohcfn_tool.specs.Words.{ReadsWords, RefusesError, RefusesWords, asked, asked_in, asked_of, command_named, end_at, is_set, program, with_flags, with_receive, with_top};
+ghost use Rattle.rohcfn_tool.specs.Words.{ReadsWords, RefusesError, RefusesWords, asked, asked_in, asked_of, command_named, end_at, is_set, program, version_asked, with_flags, with_receive, with_top, with_version};
 
 use clap::error::ErrorKind;
 use clap::{Arg, ArgAction, ArgMatches};
+use fn_cert::Version;
 use std::alloc::{AllocError, AllocFailed, Global};
 use thiserror::Error;
 
@@ -42,12 +43,13 @@ pub enum Direction {
     Unpack,
 }
 
-/// A call: the command, the name of the method at which it starts, and whether the last context is printed.
+/// A call: the command, the name of the method at which it starts, whether the last context is printed, and the version of a certificate that is made.
 #[derive(Clone, Copy)]
 pub struct Order<'a> {
     pub command: Command,
     pub top: &'a str,
     pub shows_context: bool,
+    pub version: Version,
 }
 
 /// Why words are no order. The text is clap's, for the person who called.
@@ -72,7 +74,8 @@ impl From<AllocError> for WordsError {
 }
 
 /// Reads the words that follow the program's name: a command, `pack`, `unpack`, `show`, `check`, `prove` or `line`, and
-/// its flags: `--top NAME`, for `pack` and `unpack` also `--context`, and for `line` also `--receive`.
+/// its flags: `--top NAME`, for all commands but `show` also `--v2`, for `pack` and `unpack` also `--context`, and for `line`
+/// also `--receive`.
 ///
 /// The clauses say it by clap's own account of a command line (`asked_of`), on which clap's parse is
 /// proved exact. Words that ask for help alone are no usage fault. The clauses say nothing of the text, and not
@@ -111,40 +114,42 @@ A bundle is read from standard input: parts, each after a line `=== PART`. For e
   rohcfn line --top plain <BUNDLE            profile, events > octets in hex, then `FLOW ITEM` lines
   rohcfn line --top plain --receive <BUNDLE  profile, octets > `FLOW ITEM` lines
 
-The parts certificate and context may be there as well. Without words the program takes those of
-the part words. Each format, and the lines of faults: docs/FORMATS.md.
+The parts certificate and context may be there as well. Where no certificate is there one is made,
+with --v2 of version 2. Without words the program takes those of the part words. Each format, and
+the lines of faults: docs/FORMATS.md.
 ";
 
 // The program's command line.
 fn program<'a>(alloc: Global) -> Result<clap::Command<'a>, AllocError>
     ensures { IfOk result (λ command. app_of command ≡ program) }
 {
+    // (each command is made just before it is added: what is held across a `?` costs the proof minutes)
+    let bare = clap::Command::new(alloc, "rohcfn")
+        .about("Packs and unpacks headers by a profile in the ROHC formal notation")
+        .after_help(INPUT)
+        .bin_name("rohcfn")?
+        .no_binary_name(true)
+        .subcommand_required(true);
     let pack = with_flags(alloc, "pack", "Packs the part items")?;
+    let one = bare.subcommand(pack)?;
     let unpack = with_flags(alloc, "unpack", "Unpacks the part packets")?;
+    let two = one.subcommand(unpack)?;
     let show = with_top(
         alloc,
         "show",
         "Shows the methods, bounds and constraints of the part profile",
     )?;
-    let check = with_top(
+    let three = two.subcommand(show)?;
+    let check = with_version(
         alloc,
         "check",
         "Checks the part certificate against the part profile",
     )?;
-    let prove = with_top(alloc, "prove", "Makes a certificate for the part profile")?;
+    let four = three.subcommand(check)?;
+    let prove = with_version(alloc, "prove", "Makes a certificate for the part profile")?;
+    let five = four.subcommand(prove)?;
     let line = with_receive(alloc, "line", "Sends the part events on a line of flows")?;
-    clap::Command::new(alloc, "rohcfn")
-        .about("Packs and unpacks headers by a profile in the ROHC formal notation")
-        .after_help(INPUT)
-        .bin_name("rohcfn")?
-        .no_binary_name(true)
-        .subcommand_required(true)
-        .subcommand(pack)?
-        .subcommand(unpack)?
-        .subcommand(show)?
-        .subcommand(check)?
-        .subcommand(prove)?
-        .subcommand(line)
+    five.subcommand(line)
 }
 
 // A command with the flag `--top`.
@@ -167,7 +172,23 @@ fn with_top<'a>(
         .arg(top)
 }
 
-// A command with both flags.
+// A command that may make a certificate, with the flags `--top` and `--v2`.
+fn with_version<'a>(
+    alloc: Global,
+    name: &'a str,
+    about: &'a str,
+) -> Result<clap::Command<'a>, AllocError>
+    ensures app { IfOk result (λ command. app_of command ≡ with_version name.entry.now) }
+    ensures local { IfOk result (λ command. (fields_of command).has_globals ≡ false) }
+{
+    let second = Arg::new(alloc, "v2")
+        .long("v2")
+        .help("Makes a certificate of version 2, where none is given")
+        .action(ArgAction::SetTrue);
+    with_top(alloc, name, about)?.arg(second)
+}
+
+// A command with the flags `--top`, `--v2` and `--context`.
 fn with_flags<'a>(
     alloc: Global,
     name: &'a str,
@@ -180,10 +201,10 @@ fn with_flags<'a>(
         .long("context")
         .help("Prints the last context after the lines")
         .action(ArgAction::SetTrue);
-    with_top(alloc, name, about)?.arg(context)
+    with_version(alloc, name, about)?.arg(context)
 }
 
-// A command with the flags `--top` and `--receive`.
+// A command with the flags `--top`, `--v2` and `--receive`.
 fn with_receive<'a>(
     alloc: Global,
     name: &'a str,
@@ -196,7 +217,7 @@ fn with_receive<'a>(
         .long("receive")
         .help("Receives the part octets instead")
         .action(ArgAction::SetTrue);
-    with_top(alloc, name, about)?.arg(receive)
+    with_version(alloc, name, about)?.arg(receive)
 }
 
 // The order in what clap read.
@@ -208,11 +229,20 @@ fn order_in<'a>(matches: &ArgMatches<'a>) -> Option<Order<'a>>
     let command = command_of(name, receives)?;
     let top = flags.get_str("top")?;
     let shows_context = is_set(flags.get_str("context"));
+    let version = version_asked(is_set(flags.get_str("v2")));
     Some(Order {
         command,
         top,
         shows_context,
+        version,
     })
+}
+
+// The version of a certificate that is made, by whether the second is asked for.
+fn version_asked(second: bool) -> Version
+    ensures { result ≡ version_asked second }
+{
+    if second { Version::Two } else { Version::One }
 }
 
 // Whether the text of a flag says that it was given.

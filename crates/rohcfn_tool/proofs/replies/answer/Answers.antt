@@ -1,4 +1,5 @@
 use Rattle.std.proofs.Common.{refl}
+use Rattle.rohcfn_tool.specs.Accepting.{origin_of}
 use Rattle.rohcfn_tool.specs.Lined.{Lined}
 use Rattle.rohcfn_tool.specs.Printed.{Answered, AnsweredRun, CheckedOctets, ProvedOctets, ShownBy, no_profile, shown, checked, proved, ran, lined}
 use Rattle.rohcfn_tool.proofs.Replying.{passed_on, refusal_is}
@@ -13,11 +14,11 @@ returns-in-Show c =
 
 pub returns-in-Check : goal.returns-in-Check
 returns-in-Check c =
-    passed_on (CheckedOctets c.args.order.now.top.now c.in-Some.profile.now c.args.parts.now.certificate) (Answered c.args.order.now c.args.parts.now) c.answer_check.result (λ s out h. checked c.in-Some.profile c.in-Some.is c.in-Check.is h) c.answer_check.ensures
+    passed_on (CheckedOctets c.args.order.now.top.now c.in-Some.profile.now (origin_of c.args.order.now.version c.args.parts.now.certificate)) (Answered c.args.order.now c.args.parts.now) c.answer_check.result (λ s out h. checked c.in-Some.profile c.in-Some.is c.in-Check.is h) c.answer_check.ensures
 
 pub returns-in-Prove : goal.returns-in-Prove
 returns-in-Prove c =
-    passed_on (ProvedOctets c.args.order.now.top.now c.in-Some.profile.now) (Answered c.args.order.now c.args.parts.now) c.answer_prove.result (λ s out h. proved c.in-Some.profile c.in-Some.is c.in-Prove.is h) c.answer_prove.ensures
+    passed_on (ProvedOctets c.args.order.now.version c.args.order.now.top.now c.in-Some.profile.now) (Answered c.args.order.now c.args.parts.now) c.answer_prove.result (λ s out h. proved c.in-Some.profile c.in-Some.is c.in-Prove.is h) c.answer_prove.ensures
 
 pub returns-in-Run : goal.returns-in-Run
 returns-in-Run c =
@@ -25,4 +26,4 @@ returns-in-Run c =
 
 pub returns-in-Line : goal.returns-in-Line
 returns-in-Line c =
-    passed_on (Lined c.in-Line.end c.args.order.now.top.now c.in-Some.profile.now c.args.parts.now) (Answered c.args.order.now c.args.parts.now) c.answer_line.result (λ s out h. lined c.in-Some.profile c.in-Line.end c.in-Some.is c.in-Line.is h) c.answer_line.ensures
+    passed_on (Lined c.in-Line.end c.args.order.now c.in-Some.profile.now c.args.parts.now) (Answered c.args.order.now c.args.parts.now) c.answer_line.result (λ s out h. lined c.in-Some.profile c.in-Line.end c.in-Some.is c.in-Line.is h) c.answer_line.ensures
