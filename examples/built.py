@@ -128,6 +128,9 @@ def certificates():
         yield "%d steps" % count, plan + "library d up\n" * count + "write\nend\n", answer
     for depth, answer in [(128, "check: V5 tick node 8 short"), (129, "certificate:131: K3 above limits")]:
         yield "depth %d" % depth, head + "bit 0\n" + "".join("bit %d\n" % i for i in range(1, depth - 1)) + "none\n" * depth + "end\n", answer
+    second = head.replace("1", "2")
+    for depth, answer in [(128, "check: V4 tick node 127 short"), (129, "certificate:131: K3 above limits")]:
+        yield "references of depth %d" % depth, second + "ref sn 0\n" * (depth - 1) + "none\n" * depth + "end\n", answer
     for count, answer in [(4095, "check: V4 tick node 11 short"), (4097, "certificate:4099: K3 above limits")]:
         yield "%d nodes" % count, head + whole_tree(12) * (count == 4095) + whole_tree(13) * (count == 4097) + "end\n", answer
     for count, answer in [(1 << 20, "certificate:1: K1 bad word"), ((1 << 20) + 1, "certificate:1: K3 above limits")]:

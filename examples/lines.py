@@ -1,20 +1,19 @@
 #!/usr/bin/env python3
-"""Through the built program: 2,000 sends and resets of 16 flows, drawn at random, on one line. The octets and items must be those of the best fillings that a slow search over all fillings finds (searching.py), each flow
+"""Through the built program: 2,000 sends and resets of 16 flows, drawn at random, on one line, and fewer of other profiles. The octets and items must be those of the best fillings that a slow search over all fillings finds (searching.py), each flow
 in a context of its own; they must be those of 16 lines of one flow each; and from the octets `line --receive` must give the same items."""
 import pathlib
 import random
 import subprocess
 import sys
 
-import samples
-from roundtrip import INITIAL, best, items, line_of
+from roundtrip import items, line_of, sample
 
 PROGRAM = pathlib.Path(__file__).parent.parent / "bin" / "rohcfn"
 FLOWS = 16
 
 
-def run(name, words, part, text):
-    data = "=== words\nline --top %s%s\n=== profile\n%s=== %s\n%s" % (name, words, samples.TEXTS[name], part, text)
+def run(subject, words, part, text):
+    data = "=== words\n%s%s\n=== profile\n%s=== %s\n%s" % (subject.words("line"), words, subject.profile, part, text)
     done = subprocess.run([PROGRAM], input=data.encode(), stdout=subprocess.PIPE, check=False)
     return done.stdout.decode(), done.returncode
 
@@ -26,9 +25,9 @@ def octets(bits):
 class Events:
     """Events with the octets and the item's line that are due for each; a send that has no filling is left out."""
 
-    def __init__(self, name, count, draw):
-        self.name, self.events, self.contexts = name, [], [{} for _ in range(FLOWS)]
-        headers, found = items(name, draw), {}
+    def __init__(self, subject, count, draw):
+        self.subject, self.events, self.contexts = subject, [], [{} for _ in range(FLOWS)]
+        headers, found = items(subject, draw), {}
         while len(self.events) < count:
             flow = draw.randrange(FLOWS)
             if draw.randrange(20) == 0:
@@ -40,11 +39,11 @@ class Events:
                 header = format((int(self.contexts[flow]["sn"], 2) + draw.randrange(20)) % 256, "08b")
             key = (header, str(asked), str(sorted(self.contexts[flow].items())))
             if key not in found:
-                found[key] = best(name, self.contexts[flow], header, asked)
-            if found[key] is not None:
-                self.contexts[flow].update(found[key].entries)
+                found[key] = subject.fillings(self.contexts[flow], header, asked)[:1]
+            for best in found[key]:
+                self.contexts[flow].update(best.entries)
                 line = line_of(header, asked)
-                self.events.append((flow, "send %d %s\n" % (flow, line), "%02x%s" % (flow, octets(found[key].packed)), "%d %s\n" % (flow, line)))
+                self.events.append((flow, "send %d %s\n" % (flow, line), "%02x%s" % (flow, octets(best.packed)), "%d %s\n" % (flow, line)))
 
     def trials(self):
         """What is run, and what is due."""
@@ -52,17 +51,17 @@ class Events:
         for flow in range(FLOWS):
             yield self.sent([it for it in self.events if it[0] == flow])
         heard = "".join(it[3] for it in self.events)
-        yield run(self.name, " --receive", "octets", "".join(it[2] for it in self.events) + "\n"), (heard, 0)
+        yield run(self.subject, " --receive", "octets", "".join(it[2] for it in self.events) + "\n"), (heard, 0)
 
     def sent(self, events):
         due = "".join(it[2] for it in events) + "\n" + "".join(it[3] for it in events)
-        return run(self.name, "", "events", "".join(it[1] for it in events)), (due, 0)
+        return run(self.subject, "", "events", "".join(it[1] for it in events)), (due, 0)
 
 
 def main():
     draw, passed, failed = random.Random(5795), 0, 0
-    for name, count in [("tick", 2000), ("opt", 400), ("seq", 400), ("wrap", 400)]:
-        for place, (found, due) in enumerate(Events(name, count, draw).trials()):
+    for name, count in [("tick", 2000), ("opt", 400), ("seq", 400), ("wrap", 400), ("nest", 400)]:
+        for place, (found, due) in enumerate(Events(sample(name), count, draw).trials()):
             if found == due:
                 passed += 1
             else:

@@ -1,7 +1,7 @@
 """A second prover: the certificate of the order of docs/FORMATS.md for a profile's normal form, or the line that says what is missing, slowly and apart from the program.
 
 It goes by the rules of steps and the known bits of reading.py."""
-from reading import LIMIT, compared, known_bits, rule
+from reading import LIMIT, bounds, known_bits, parted, rule
 
 READ = ("take", "up", "solve", "length C", "length U", "down")
 WRITE = ("take", "ask", "down", "up", "solve", "length U", "length C", "choose")
@@ -35,10 +35,10 @@ def unlearnt(f, direction, known):
                 yield "%s %s" % (d.name, side)
 
 
-def plan(methods, m, f, direction):
+def plan(methods, m, f, direction, version=1):
     """While something is wanted, the first step of the order that is enabled and gives something new."""
     order = [it for kind in (READ if direction == "read" else WRITE) for d in f.fields for it in steps_of(f, kind, d.name)]
-    possible = [(step, found) for step in order for found in [rule(methods, f, direction, step)] if found]
+    possible = [(step, found) for step in order for found in [rule(methods, f, direction, step, version)] if found]
     known, steps = {(it.name, slot) for it in f.fields if it.name not in f.listing for slot in ("CL", "CV")}, []
     while list(unlearnt(f, direction, known)):
         for step, (needs, gives, is_once) in possible:
@@ -51,17 +51,19 @@ def plan(methods, m, f, direction):
     return steps
 
 
-def equation(m, constraint):
-    """The parameter and the number of `p == c`, either way round."""
-    if constraint[0] != "enforce" or constraint[1][0] != "==":
-        return None
-    for x, y in (constraint[1][1:], constraint[1][:0:-1]):
-        if isinstance(x, tuple) and x[0] == "parameter" and isinstance(y, int):
-            return x[1], y
-    return None
+def equations(f, head):
+    """The tests that the equations of a format with a number give, either way round: of a parameter, or of the reference of a field that is static there."""
+    for it in f.constraints:
+        if it[0] == "enforce" and it[1][0] == "==":
+            for x, y in (it[1][1:], it[1][:0:-1]):
+                if isinstance(x, tuple) and isinstance(y, int):
+                    if head == "param" and x[0] == "parameter":
+                        yield head, x[1], y
+                    if head == "ref" and x[1] == "UVALUE" and x[0] in f.by_name and f.by_name[x[0]].library() == "static":
+                        yield head, x[0], y
 
 
-def parting(m, here):
+def parting(m, here, version):
     """The test of the rule for a set of formats, and the sets that go on."""
     bits = {n: known_bits(m.formats[n]) for n in here}
     least = min(m.formats[n].least() for n in here)
@@ -71,17 +73,16 @@ def parting(m, here):
             if offset >= LIMIT["offset"]:
                 raise Missing("prove: P3 Limit")
             return ("bit", offset), zeros, ones
-    for n in here:
-        for found in filter(None, (equation(m, it) for it in m.formats[n].constraints)):
-            name, number = found
-            least, most = m.parameters[name]
-            is_lost = {k: any(it != number for it in compared(m.formats[k], name, "==")) or number in compared(m.formats[k], name, "!=") for k in here}
-            if least <= number <= most and any(is_lost.values()):
-                return ("param", name, number), [k for k in here if not is_lost[k]], [k for k in here if number not in compared(m.formats[k], name, "==")]
+    for head in ("param", "ref")[:version]:
+        for test in [it for n in here for it in equations(m.formats[n], head)]:
+            equal, other = parted(m, here, test)
+            least, most = bounds(m, test)
+            if least <= test[2] <= most and len(equal) < len(here):
+                return test, equal, other
     raise Missing("prove: P2 NoTree %s %s %s" % (m.name, m.formats[here[0]].shown(), m.formats[here[1]].shown()))
 
 
-def tree(m):
+def tree(m, version):
     """The nodes in preorder, from a stack of sets that are still to be parted."""
     nodes, sets = [], [list(range(len(m.formats)))]
     while sets:
@@ -91,29 +92,30 @@ def tree(m):
         if len(here) < 2:
             nodes.append(("leaf", m.formats[here[0]].shown()) if here else ("none",))
         else:
-            test, first, second = parting(m, here)
+            test, first, second = parting(m, here, version)
             nodes.append(test)
             sets += [second, first]
     return nodes
 
 
-def certificate(methods):
+def certificate(methods, version):
     """The text of the certificate."""
-    lines = [("rohcfn-certificate", 1)]
+    lines = [("rohcfn-certificate", version)]
     for m in methods:
         if m.formats:
-            lines += [("method", m.name)] + tree(m)
+            lines += [("method", m.name)] + tree(m, version)
             for f in m.formats:
-                lines += [("format", f.shown()), ("read",)] + plan(methods, m, f, "read") + [("write",)] + plan(methods, m, f, "write")
+                read, write = [plan(methods, m, f, it, version) for it in ("read", "write")]
+                lines += [("format", f.shown()), ("read",), *read, ("write",), *write]
     text = "".join(" ".join(map(str, it)) + "\n" for it in lines + [("end",)])
     if len(text) > LIMIT["text"]:
         raise Missing("prove: P3 Limit")
     return text
 
 
-def answer(methods):
+def answer(methods, version=1):
     """What `prove` prints, and its status."""
     try:
-        return certificate(methods), 0
+        return certificate(methods, version), 0
     except Missing as line:
         return "%s\n" % line, 1

@@ -3,7 +3,7 @@
 A profile is given as its normal form, written out by hand for the sample profiles in samples.py. Expressions are a number, `("parameter", name)`,
 `(subject, attribute)` with `THIS` or a field's name, and `(operator, left, right)`."""
 
-LIMIT = {"nodes": 4096, "depth": 128, "offset": 8192, "steps": 2048, "text": 1 << 20, "candidates": 4096, "packed": 8192, "choice": 12}
+LIMIT = {"word": (1 << 64) - 1, "nodes": 4096, "depth": 128, "offset": 8192, "steps": 2048, "text": 1 << 20, "candidates": 4096, "packed": 8192, "choice": 12}
 
 
 class Field:
@@ -68,21 +68,21 @@ def named(things, name, of):
     raise Fault("K2 unknown name")
 
 
-NODES = {"bit": 1, "param": 2, "leaf": 1, "none": 0}
+NODES = {"bit": 1, "param": 2, "ref": 2, "leaf": 1, "none": 0}
 STEPS = {"take": 1, "call": 1, "library": 2, "length": 3, "solve": 2, "choose": 1, "ask": 1}
 
 
 class Reader:
-    """Reads line by line; `entries` has, for each method that is named, its tree and its formats' plans, by their indices."""
+    """Reads line by line; `entries` has, for each method that is named, its tree and its formats' plans, by their indices. The version is that of the first line."""
 
     def __init__(self, methods):
-        self.methods, self.entries, self.stage, self.method, self.format, self.open = methods, {}, "version", -1, -1, []
+        self.version, self.methods, self.entries, self.stage, self.method, self.format, self.open = 1, methods, {}, "version", -1, -1, []
 
     def line(self, words):
         head, rest = words[0], words[1:]
         if self.stage == "version":
-            self.want(words == ["rohcfn-certificate", "1"])
-            self.stage = "between"
+            self.want(words in (["rohcfn-certificate", "1"], ["rohcfn-certificate", "2"]))
+            self.version, self.stage = int(words[1]), "between"
         elif head == "method" and len(rest) == 1:
             self.begin_method(rest[0])
         elif head == "format" and len(rest) == 1:
@@ -96,7 +96,7 @@ class Reader:
         elif words == ["end"]:
             self.want(self.stage in ("between", "formats", "write"))
             self.stage = "end"
-        elif NODES.get(head) == len(rest):
+        elif NODES.get(head) == len(rest) and (head != "ref" or self.version == 2):
             self.node(head, rest)
         elif STEPS.get(head) == len(rest):
             self.step(head, rest)
@@ -126,13 +126,15 @@ class Reader:
         self.want(bool(name))
 
     def node(self, head, rest):
-        values = [number(rest[0])] if head == "bit" else [rest[0], constant(rest[1])] if head == "param" else list(rest)
+        values = [number(rest[0])] if head == "bit" else [rest[0], constant(rest[1])] if head in ("param", "ref") else list(rest)
         if head == "bit" and values[0] >= LIMIT["offset"]:
             raise Fault("K3 above limits")
         self.want(self.method >= 0)
         m = self.methods[self.method]
         if head == "param":
-            values[0] = named(list(m.parameters), values[0], lambda it: it)
+            named(list(m.parameters), values[0], lambda it: it)
+        if head == "ref":
+            named([it for it in m.formats[0].fields if it.part != "local"], values[0], lambda it: it.name)
         if head == "leaf":
             values[0] = named(m.formats, values[0], Format.shown)
         self.want(self.stage == "tree")
@@ -140,7 +142,7 @@ class Reader:
         if len(tree) == LIMIT["nodes"] or depth > LIMIT["depth"]:
             raise Fault("K3 above limits")
         tree.append((head, *values))
-        if head in ("bit", "param"):
+        if head in ("bit", "param", "ref"):
             self.open += [depth + 1, depth + 1]
         if not self.open:
             self.stage = "formats"
@@ -166,7 +168,7 @@ class Reader:
 
 
 def read(methods, text):
-    """The entries of a text, or the line of its first fault."""
+    """The version and the entries of a text, or the line of its first fault."""
     if len(text.encode()) > LIMIT["text"]:
         raise Fault("certificate:1: K3 above limits")
     reader, lines = Reader(methods), text.split("\n")
@@ -182,7 +184,7 @@ def read(methods, text):
             raise Fault("certificate:%d: %s" % (i + 1, fault)) from None
     if reader.stage != "end":
         raise Fault("certificate:%d: K1 bad word" % (len(lines) + 1))
-    return reader.entries
+    return reader.version, reader.entries
 
 
 # ---- plans
@@ -216,6 +218,20 @@ def equated(constraint, left):
     return b if a == left else a if b == left else None
 
 
+def remainder(constraint, d):
+    """The e and the d of a condition `(f.UVALUE + e) % c == d`, either way round and the sum in either order, where c is above all values that the field may have.
+    Of a condition that is so both ways round the left side counts."""
+    if constraint[0] != "enforce" or constraint[1][0] != "==":
+        return None
+    for x, y in (constraint[1][1:], constraint[1][:0:-1]):
+        if isinstance(x, tuple) and x[0] == "%" and isinstance(x[1], tuple) and x[1][0] == "+" and isinstance(x[2], int):
+            _, (_, a, b), c = x
+            for value, more in ((a, b), (b, a)):
+                if value == (d.name, "UVALUE"):
+                    return (more, y) if 1 << d.u[1] <= c else None
+    return None
+
+
 def length_needs(f, d, side):
     method, args = d.encoding[0], d.encoding[1:]
     by_first = {"U": ("irregular", "uncompressed_value"), "C": ("irregular", "compressed_value", "lsb", "crc")}
@@ -247,7 +263,7 @@ def before(names, name):
     return names[: names.index(name)] if name in names else []
 
 
-def rule(methods, f, direction, step):
+def rule(methods, f, direction, step, version):
     """What a step needs and gives, and whether it is once for its field; None where it is never enabled. `done` is the fact that a field was taken or called."""
     head, d = step[0], f.by_name[step[1]]
     headers = [it.name for it in f.fields if it.part == "header"]
@@ -279,16 +295,17 @@ def rule(methods, f, direction, step):
         return None if e is None else (inputs(f, e), {(d.name, step[2] + "L")}, False)
     if head == "solve":
         e = equated(f.constraints[step[2]], (d.name, "UVALUE"))
-        return None if e is None else ({(d.name, "UL")} | inputs(f, e), {(d.name, "UV")}, False)
+        es = remainder(f.constraints[step[2]], d) if e is None and version == 2 else None if e is None else [e]
+        return None if es is None else ({(d.name, "UL")} | all_inputs(f, es), {(d.name, "UV")}, False)
     if direction == "write" and head == "choose" and choice(f, d) is not None or direction == "write" and head == "ask" and d.asked:
         return set(), {(d.name, "UL"), (d.name, "UV")}, False
     return None
 
 
-def plan_fault(methods, f, direction, plan):
+def plan_fault(methods, f, direction, plan, version):
     known = {(it.name, slot) for it in f.fields if it.name not in f.listing for slot in ("CL", "CV")}
     for i, step in enumerate(plan):
-        found = rule(methods, f, direction, step)
+        found = rule(methods, f, direction, step, version)
         if found is None or not found[0] <= known or found[2] and (step[1], "done") in known:
             return "V2", "step %d" % i
         known |= found[1]
@@ -318,26 +335,40 @@ def known_bits(f):
     return bits
 
 
-def compared(f, name, operator):
+def compared(f, left, operator):
+    """The numbers that an expression is compared with, either way round."""
     found = []
     for it in f.constraints:
         if it[0] == "enforce" and it[1][0] == operator:
             _, a, b = it[1]
-            found += [y for x, y in ((a, b), (b, a)) if x == ("parameter", name) and isinstance(y, int)][:1]
+            found += [y for x, y in ((a, b), (b, a)) if x == left and isinstance(y, int)][:1]
     return found
+
+
+def bounds(m, node):
+    """The numbers that a test may name: those of a parameter's range, or those of a value of up to 64 bits."""
+    return m.parameters[node[1]] if node[0] == "param" else (0, LIMIT["word"])
+
+
+def parted(m, here, node):
+    """The formats that go on where a parameter, or the reference of a field, has the test's number, and where it hasn't. A reference tells only of formats in which the field is static."""
+    head, name, c = node
+    left = ("parameter", name) if head == "param" else (name, "UVALUE")
+    told = [n for n in here if head == "param" or m.formats[n].by_name[name].library() == "static"]
+    never = [n for n in told if any(it != c for it in compared(m.formats[n], left, "==")) or c in compared(m.formats[n], left, "!=")]
+    only = [n for n in told if c in compared(m.formats[n], left, "==")]
+    return [n for n in here if n not in never], [n for n in here if n not in only]
 
 
 def tree_fault(m, tree):
     reach = [set(range(len(m.formats)))]
     for i, node in enumerate(tree):
         here = sorted(reach.pop())
-        if node[0] == "param":
-            name, (least, most) = list(m.parameters.items())[node[1]]
+        if node[0] in ("param", "ref"):
+            least, most = bounds(m, node)
             if not least <= node[2] <= most:
-                return "V7 %s node %d" % (m.name, i)
-            other = {n for n in here if node[2] not in compared(m.formats[n], name, "==")}
-            equal = {n for n in here if all(it == node[2] for it in compared(m.formats[n], name, "==")) and node[2] not in compared(m.formats[n], name, "!=")}
-            reach += [other, equal]
+                return "%s %s node %d" % ("V7" if node[0] == "param" else "V9", m.name, i)
+            reach += reversed(parted(m, here, node))
         elif node[0] == "bit":
             for n in here:
                 if m.formats[n].least() <= node[1]:
@@ -361,7 +392,7 @@ def count(methods, entries, k):
     return total
 
 
-def fault(methods, top, entries):
+def fault(methods, top, version, entries):
     """The line of the first fault, or None where the certificate is valid."""
     for k, m in enumerate(methods):
         if not m.formats:
@@ -376,7 +407,7 @@ def fault(methods, top, entries):
             if n not in plans:
                 return "check: V1 %s %s" % (m.name, f.shown())
             for direction, plan in zip(("read", "write"), plans[n]):
-                found = plan_fault(methods, f, direction, plan)
+                found = plan_fault(methods, f, direction, plan, version)
                 if found:
                     return "check: %s %s %s %s %s" % (found[0], m.name, f.shown(), direction, found[1])
     if count(methods, entries, top) > LIMIT["candidates"]:
@@ -389,7 +420,7 @@ def fault(methods, top, entries):
 def answer(methods, top, text):
     """What `check` prints, and its status."""
     try:
-        found = fault(methods, top, read(methods, text))
+        found = fault(methods, top, *read(methods, text))
     except Fault as line:
         found = str(line)
     return (found, 1) if found else ("accepted", 0)

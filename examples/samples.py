@@ -1,6 +1,7 @@
 """Sample profiles: their text, their normal form written out by hand (docs/NOTATION.md) and certificates.
 
-The certificates of tick and opt are those that docs/FORMATS.md's order of steps gives; seq's and the others' were written by that order by hand."""
+The certificates of tick and opt are those that docs/FORMATS.md's order of steps gives; seq's and the others' were written by that order by hand. Those of mode, turn
+and nest are of version 2; without it mode and nest have no tree, and turn has no plan."""
 from reading import Field, Format, Method
 
 TICK = """tick
@@ -66,6 +67,35 @@ VAST = """vast { UNCOMPRESSED { x [24]; }
 """
 
 
+MODE = """mode { UNCOMPRESSED { x [8]; } CONTROL { m =:= static [1]; }
+  INITIAL { m =:= uncompressed_value(1, 0); }
+  COMPRESSED a { ENFORCE(m.UVALUE == 0); x =:= irregular(8) [8]; }
+  COMPRESSED b { ENFORCE(m.UVALUE == 1); x =:= lsb(4, 0) [4]; } }
+"""
+
+TURN = """turn { UNCOMPRESSED { x [4]; }
+  CONTROL { s [4]; ENFORCE((x.UVALUE + 5) % 16 == s.UVALUE); }
+  COMPRESSED { s =:= irregular(4) [4]; } }
+"""
+
+NEST = """part(k) { UNCOMPRESSED { v [3]; }
+  CONTROL { m [1]; s [3]; ENFORCE(s.UVALUE == (k + v.UVALUE) % 8); }
+  INITIAL { m =:= uncompressed_value(1, 1); }
+  COMPRESSED near { d =:= '0' [1]; ENFORCE(m.UVALUE == 0); m =:= static [0]; s =:= lsb(1, 0) [1]; }
+  COMPRESSED far { d =:= '0' [1]; ENFORCE(m.UVALUE != 0); m =:= static [0]; s =:= lsb(2, 0) [2]; }
+  COMPRESSED full { d =:= '1' [1]; m =:= uncompressed_value(1, k) [0]; s =:= irregular(3) [3]; } }
+nest { UNCOMPRESSED { g [1]; f [3]; }
+  COMPRESSED { g =:= irregular(1) [1]; f =:= part(g.UVALUE) [2, 3, 4]; } }
+"""
+
+BOTH = """inner(k) { UNCOMPRESSED { v [4]; } CONTROL { m =:= static [1]; }
+  COMPRESSED a { ENFORCE(m.UVALUE == 0); ENFORCE(k == 0); v =:= irregular(4) [4]; }
+  COMPRESSED b { ENFORCE(m.UVALUE == 1); ENFORCE(1 == k); v =:= irregular(4) [4]; } }
+both { UNCOMPRESSED { g [1]; f [4]; }
+  COMPRESSED { g =:= irregular(1) [1]; f =:= inner(g.UVALUE) [4]; } }
+"""
+
+
 def bracket(field, side, *lengths):
     return ("bracket", field, side, list(lengths))
 
@@ -78,7 +108,15 @@ def literal(name, bits):
     return Field(name, "local", ("compressed_value", len(bits), int(bits, 2)), (0, 0), (len(bits), len(bits)))
 
 
-FLAG, WIDTH = ("parameter", "flag"), ("parameter", "width")
+FLAG, WIDTH, K = ("parameter", "flag"), ("parameter", "width"), ("parameter", "k")
+M_VALUE, S_VALUE, V_VALUE, X_VALUE = [(it, "UVALUE") for it in "msvx"]
+PART = [bracket("v", "U", 3), bracket("m", "U", 1), bracket("s", "U", 3), enforce("==", S_VALUE, ("%", ("+", K, V_VALUE), 8))]
+
+
+def part(m, s, size, bit):
+    """The fields of a format of `part`."""
+    return [Field("v", "header", None, (3, 3)), Field("m", "control", m, (1, 1)), Field("s", "control", s, (3, 3), (size, size)), literal("d", bit)]
+
 
 NORMAL = {
     "tick": [Method("tick", {}, [
@@ -118,12 +156,48 @@ NORMAL = {
         Format("", [Field("x", "header", ("uncompressed_value", 24, ("+", ("*", ("a", "UVALUE"), 4096), ("b", "UVALUE"))), (24, 24), (0, 0)), Field("a", "local", ("irregular", 12), (12, 12), (12, 12)),
                     Field("b", "local", ("irregular", 12), (12, 12), (12, 12))], ["a", "b", "x"], [bracket("x", "U", 24), bracket("a", "C", 12), bracket("b", "C", 12)]),
     ])],
+    "mode": [Method("mode", {}, [
+        Format("a", [Field("x", "header", ("irregular", 8), (8, 8), (8, 8)), Field("m", "control", ("static",), (1, 1))], ["x"],
+               [bracket("x", "U", 8), bracket("m", "U", 1), enforce("==", M_VALUE, 0), bracket("x", "C", 8)]),
+        Format("b", [Field("x", "header", ("lsb", 4, 0), (8, 8), (4, 4)), Field("m", "control", ("static",), (1, 1))], ["x"],
+               [bracket("x", "U", 8), bracket("m", "U", 1), enforce("==", M_VALUE, 1), bracket("x", "C", 4)]),
+    ])],
+    "turn": [Method("turn", {}, [
+        Format("", [Field("x", "header", None, (4, 4)), Field("s", "control", ("irregular", 4), (4, 4), (4, 4))], ["s"],
+               [bracket("x", "U", 4), bracket("s", "U", 4), enforce("==", ("%", ("+", X_VALUE, 5), 16), S_VALUE), bracket("s", "C", 4)]),
+    ])],
+    "nest": [
+        Method("part", {"k": (0, 1)}, [
+            Format("near", part(("static",), ("lsb", 1, 0), 1, "0"), ["d", "m", "s"], PART + [bracket("d", "C", 1), enforce("==", M_VALUE, 0), bracket("m", "C", 0), bracket("s", "C", 1)]),
+            Format("far", part(("static",), ("lsb", 2, 0), 2, "0"), ["d", "m", "s"], PART + [bracket("d", "C", 1), enforce("!=", M_VALUE, 0), bracket("m", "C", 0), bracket("s", "C", 2)]),
+            Format("full", part(("uncompressed_value", 1, K), ("irregular", 3), 3, "1"), ["d", "m", "s"], PART + [bracket("d", "C", 1), bracket("m", "C", 0), bracket("s", "C", 3)]),
+        ]),
+        Method("nest", {}, [
+            Format("", [Field("g", "header", ("irregular", 1), (1, 1), (1, 1)), Field("f", "header", ("call", 0, [("g", "UVALUE")]), (3, 3), (2, 4))], ["g", "f"],
+                   [bracket("g", "U", 1), bracket("f", "U", 3), bracket("g", "C", 1), bracket("f", "C", 2, 3, 4)]),
+        ]),
+    ],
+    "both": [
+        Method("inner", {"k": (0, 1)}, [
+            Format(name, [Field("v", "header", ("irregular", 4), (4, 4), (4, 4)), Field("m", "control", ("static",), (1, 1))], ["v"],
+                   [bracket("v", "U", 4), bracket("m", "U", 1), enforce("==", M_VALUE, i), told, bracket("v", "C", 4)])
+            for i, name, told in ((0, "a", enforce("==", K, 0)), (1, "b", enforce("==", 1, K)))
+        ]),
+        Method("both", {}, [
+            Format("", [Field("g", "header", ("irregular", 1), (1, 1), (1, 1)), Field("f", "header", ("call", 0, [("g", "UVALUE")]), (4, 4), (4, 4))], ["g", "f"],
+                   [bracket("g", "U", 1), bracket("f", "U", 4), bracket("g", "C", 1), bracket("f", "C", 4)]),
+        ]),
+    ],
 }
 
 
 def lines(text):
     return "".join(it.strip() + "\n" for it in text.split(";"))
 
+
+# those of each format of `part`
+PART_PLANS = """read;library m up;library d up;length m C method;length s C method;length d C method;take d;take m;take s;library s up;length v U 0;solve v 3
+    ;write;library m down;library d down;library m up;library d up;length v U 0;take v;length s U method;solve s 3;library s down"""
 
 CERTIFICATES = {
     "tick": lines("""rohcfn-certificate 1;method tick;bit 0;leaf short;leaf full
@@ -148,6 +222,13 @@ CERTIFICATES = {
     "vast": lines("""rohcfn-certificate 1;method vast;leaf -;format -
         ;read;length x C method;length a C method;length b C method;take a;take b;take x;library a up;library b up;library x up
         ;write;library x down;length x U method;take x;length a U method;length b U method;length a C method;length b C method;choose a;choose b;library a down;library b down;end"""),
+    "mode": lines("""rohcfn-certificate 2;method mode;ref m 0;leaf a;leaf b
+        ;format a;read;library m up;length x C method;take x;library x up;write;library m up;length x U method;take x;library x down
+        ;format b;read;library m up;length x C method;take x;library x up;write;library m up;length x U method;take x;library x down;end"""),
+    "turn": lines("""rohcfn-certificate 2;method turn;leaf -;format -
+        ;read;length s C method;take s;library s up;length x U 0;solve x 2;write;length x U 0;take x;length s U method;solve s 2;library s down;end"""),
+    "nest": lines("rohcfn-certificate 2;method part;bit 0;ref m 0;leaf near;leaf far;leaf full;" + "".join("format %s;%s;" % (it, PART_PLANS) for it in ("near", "far", "full")) + """method nest;leaf -
+        ;format -;read;length g C method;take g;library g up;call f;write;length g U method;take g;call f;library g down;end"""),
 }
-TEXTS = {"tick": TICK, "opt": OPT, "seq": SEQ, "wrap": WRAP, "twin": TWIN, "vast": VAST}
+TEXTS = {"tick": TICK, "opt": OPT, "seq": SEQ, "wrap": WRAP, "twin": TWIN, "vast": VAST, "mode": MODE, "turn": TURN, "nest": NEST, "both": BOTH}
 TOPS = {name: len(NORMAL[name]) - 1 for name in NORMAL}

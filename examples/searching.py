@@ -41,6 +41,8 @@ class Level:
             bits = self.bits(e[0], e[1][0])
             return number(bits) if e[1].endswith("VALUE") else len(bits)
         left, right = self.value(e[1]), self.value(e[2])
+        if e[0] == "%":
+            return left % right
         return {"+": left + right, "-": left - right, "*": left * right}[e[0]]
 
     def holds(self, constraint):
@@ -178,8 +180,11 @@ class Search:
                 for it in self.inside(field.encoding[1], arguments, path, upper[field.name]):
                     yield it.packed, (it, list(arguments))
         else:
+            # where the encoding's words are numbers, whether the sides fit hangs on no other field
+            is_alone = all(isinstance(it, int) for it in field.encoding[1:])
             for bits in texts(*field.c):
-                yield bits, None
+                if not is_alone or Level(form, {field.name: (upper[field.name], bits)}, values).fits(field, self.reference(field, path)):
+                    yield bits, None
 
     def agrees(self, form, level, called, inner_path):
         for field in form.fields:
