@@ -8,7 +8,7 @@ import sys
 from measure import PROGRAM
 from packing import PROFILES, bundled, stream
 
-NAMES = ["plain", "tick", "opt", "six"]
+NAMES = ["plain", "tick", "opt", "six", "mode", "turn"]
 FEW, MANY = 500, 2000
 
 

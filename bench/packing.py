@@ -1,8 +1,8 @@
 #!/usr/bin/env python3
 """Growth of `pack` and `unpack` over lines, over the fields of a header and over how deep calls go, on the built program.
 
-The lines are of five profiles: `plain` (two fields), `tick` (a reference, a checksum, two formats), `opt` (a call whose method goes by a flag), `six` (64 formats) and `wide` (64 bits). What is due is worked out here, from the
-notation's rules."""
+The lines are of seven profiles: `plain` (two fields), `tick` (a reference, a checksum, two formats), `opt` (a call whose method goes by a flag), `six` (64 formats), `wide` (64 bits), and by certificates of version 2 `mode` (a tree that
+tests a reference) and `turn` (a remainder). What is due is worked out here, from the notation's rules."""
 import pathlib
 import random
 import sys
@@ -16,7 +16,18 @@ from samples import OPT, TICK
 SIZES = [2000, 15000, 30000, 60000]
 SIX = "six { UNCOMPRESSED { x [6]; }\n%s}\n" % "".join("  COMPRESSED f%d { d =:= '%s' [6]; x =:= uncompressed_value(6, %d); }\n" % (i, format(i, "06b"), i) for i in range(64))
 WIDE = "wide { UNCOMPRESSED { x [64]; } COMPRESSED { x =:= irregular(64) [64]; } }\n"
-PROFILES = {"plain": PLAIN, "tick": TICK, "opt": OPT, "six": SIX, "wide": WIDE}
+MODE = """mode { UNCOMPRESSED { x [8]; } CONTROL { m =:= static [1]; }
+  INITIAL { m =:= uncompressed_value(1, 0); }
+  COMPRESSED a { ENFORCE(m.UVALUE == 0); x =:= irregular(8) [8]; }
+  COMPRESSED b { ENFORCE(m.UVALUE == 1); x =:= lsb(4, 0) [4]; } }
+"""
+TURN = """turn { UNCOMPRESSED { x [4]; }
+  CONTROL { s [4]; ENFORCE((x.UVALUE + 5) % 16 == s.UVALUE); }
+  COMPRESSED { s =:= irregular(4) [4]; } }
+"""
+PROFILES = {"plain": PLAIN, "tick": TICK, "opt": OPT, "six": SIX, "wide": WIDE, "mode": MODE, "turn": TURN}
+FLAGS = {"mode": " --v2", "turn": " --v2"}
+CONTEXTS = {"mode": "=== context\nm 1:80\nx 8:00\n"}
 
 FIELDS = [8, 16, 64]
 DEPTHS = [4, 8, 16]
@@ -58,6 +69,12 @@ def stream(name, count):
         elif name == "wide":
             header = format(chance.randrange(1 << 64), "064b")
             yield header, header
+        elif name == "mode":
+            last = ((last or 0) + chance.randrange(16)) % 256
+            yield format(last, "08b"), format(last % 16, "04b")
+        elif name == "turn":
+            value = chance.randrange(16)
+            yield format(value, "04b"), format((value + 5) % 16, "04b")
         else:
             value = chance.randrange(256) if last is None or chance.random() < 0.3 else (last + (name == "tick")) % 256
             header = format(value, "08b")
@@ -71,7 +88,8 @@ def bundled(command, top, profile, pairs):
     packets = [line_of(packet) for _, packet in pairs]
     lines = headers if command == "pack" else packets
     part = "items" if command == "pack" else "packets"
-    data = "=== words\n%s --top %s\n=== profile\n%s=== %s\n%s" % (command, top, profile, part, "".join(it + "\n" for it in lines))
+    words = "%s --top %s%s" % (command, top, FLAGS.get(top, ""))
+    data = "=== words\n%s\n=== profile\n%s%s=== %s\n%s" % (words, profile, CONTEXTS.get(top, ""), part, "".join(it + "\n" for it in lines))
     took = ["%s took %d\n" % (header, len(packet)) for header, (_, packet) in zip(headers, pairs)]
     out = [it + "\n" for it in packets] if command == "pack" else took
     return data.encode(), "".join(out).encode()
