@@ -1,8 +1,14 @@
 #!/usr/bin/env bash
 # Runs each example and each step of the tutorial through the built program and compares what it prints; then what the pages show, headers of an operating system and
-# back, the cases of cases/ and of built.py, certificates with a slip against a second reading, and round trips and lines of flows against a slow search.
+# back, the cases of cases/ and of built.py, certificates with a slip against a second reading, round trips and lines of flows against a slow search, and what
+# bin/rohcfn and bin/prove do where no program stands.
 set -u
 cd "$(dirname "$0")"
+program=../crates/rohcfn/out/rohcfn
+if [ ! -x "$program" ]; then
+  echo "examples: no proved program stands here; bin/prove or .ci/run makes one"
+  exit 1
+fi
 passed=0
 failed=0
 for bundle in *.bundle tutorial/*.bundle; do
@@ -21,4 +27,5 @@ echo "examples: $passed passed, $failed failed"
 ./certificates.py || failed=1
 ./roundtrip.py || failed=1
 ./lines.py || failed=1
+./first_call.py "$program" || failed=1
 [ "$failed" -eq 0 ]
