@@ -2,13 +2,13 @@
 
 use crate::stop::Stop;
 use fn_bits::Cursor;
-use fn_checker::{Accepted, ActList, Lead, lead_from, refers, subtree};
+use fn_checker::{Accepted, ActList, Picked};
 use fn_context::Context;
 use fn_expr::Side;
 use fn_filling::AskedValue;
 use fn_normal::Format;
 use sqlite_items::at;
-use std::alloc::{AllocError, Global};
+use std::alloc::Global;
 
 /// Where a method is drawn: under the values of its arguments, below the path of the field that the filling fills. In writing it has the values of its asked
 /// fields.
@@ -114,64 +114,17 @@ impl<'a> Desk<'a> {
 
     /// The format to which the method's tree leads. The error is Nowhere or want of memory.
     fn read_index(&self, alloc: Global, cursor: &Cursor<'_>, from: usize) -> Result<usize, Stop> {
-        let found = match self.switched(cursor, from) {
-            Some(format) => format,
-            None => self.led(alloc, cursor, from)?,
-        };
-        match found {
-            Some(format) => Ok(format),
-            None => Err(Stop::Nowhere),
-        }
-    }
-
-    /// What the table of the tree says, if the tree has one and enough bits are left.
-    fn switched(&self, cursor: &Cursor<'_>, from: usize) -> Option<Option<usize>> {
-        let switch = at(self.accepted.shortcuts().switches.as_slice(), self.method)?.as_ref()?;
-        let number = cursor.peek(from, switch.bits)?;
-        Some(*at(switch.formats.as_slice(), usize::try_from(number).ok()?)?)
-    }
-
-    /// Where the tree leads, step by step, from one test of a reference to the next.
-    fn led(
-        &self,
-        alloc: Global,
-        cursor: &Cursor<'_>,
-        from: usize,
-    ) -> Result<Option<usize>, AllocError> {
-        let (Some(Some(entry)), Some(sizes)) = (
-            at(self.accepted.certificate().methods(), self.method),
-            at(self.accepted.shortcuts().tree_sizes.as_slice(), self.method),
-        ) else {
-            return Ok(None);
-        };
-        let (nodes, sizes) = (entry.tree.as_slice(), sizes.as_slice());
-        let mut first = 0;
-        for _ in 0..nodes.len() {
-            match lead_from(nodes, sizes, first, self.arguments, cursor, from) {
-                Lead::Format(format) => return Ok(Some(format)),
-                Lead::Nowhere => return Ok(None),
-                Lead::Reference {
-                    node,
-                    field,
-                    constant,
-                } => first = subtree(sizes, node, !self.refers(alloc, field, constant)?),
-            }
-        }
-        Ok(None)
-    }
-
-    /// Whether the reference of the field is the constant.
-    fn refers(&self, alloc: Global, field: usize, constant: i128) -> Result<bool, AllocError> {
-        match self.accepted.profile().methods().get(self.method) {
-            Some(method) => refers(
-                alloc,
-                self.context,
-                self.path,
-                method.formats.as_slice(),
-                field,
-                constant,
-            ),
-            None => Ok(false),
+        match self.accepted.pick_ahead(
+            alloc,
+            self.method,
+            self.context,
+            self.path,
+            self.arguments,
+            cursor,
+            from,
+        )? {
+            Picked::Format(index) => Ok(index),
+            Picked::Nothing | Picked::Short => Err(Stop::Nowhere),
         }
     }
 

@@ -12,7 +12,7 @@ use std::alloc::{AllocError, Global};
 
 /// Whether the field, by its place in the first of a method's formats, has a reference of at most 64 bits in the context and below the path, whose number is
 /// the constant. No path is made for a field of the top. The error is want of memory.
-pub fn refers(
+pub(crate) fn refers(
     alloc: Global,
     context: &Context,
     path: &str,
