@@ -1,9 +1,10 @@
-//! Answers rows on lines of flows: line N of the output answers line N of the input, and is empty where that is empty or a comment (`#`). In a row `%0a` stands
+//! Answers rows on lines of flows and on decision trees: line N of the output answers line N of the input, and is empty where that is empty or a comment (`#`). In a row `%0a` stands
 //! for the octet 0a. Octets are written as bits, eight each.
 #![tactic(auto)]
 
 mod flows;
 mod runs;
+mod trees;
 mod words;
 
 use anyhow::{Context as _, Result, anyhow};
@@ -60,6 +61,8 @@ fn answer(
         "pieces" => runs::pieces(alloc, out, accepted.as_ref().context("no profile")?, rest),
         "cuttings" => runs::cuttings(alloc, out, accepted.as_ref().context("no profile")?, rest),
         "alone" => flows::alone(alloc, out, accepted.as_ref().context("no profile")?, rest),
+        "count" => trees::count(out, accepted.as_ref().context("no profile")?, rest),
+        "picks" => trees::picks(alloc, out, accepted.as_ref().context("no profile")?, rest),
         _ => Err(anyhow!("no such row")),
     }
 }
