@@ -176,7 +176,16 @@ def crowded():
     yield "a tree above the limit", bundle(b"prove --top many", profile.encode()), 1, b"prove: P3 Limit\n"
 
 
+def tabled():
+    """Sixty-four formats that six bits tell apart, one number each; a packet of five bits ends before the last test."""
+    formats = "".join("  COMPRESSED f%d { d =:= '%s' [6]; x =:= uncompressed_value(6, %d); }\n" % (number, format(number, "06b"), number) for number in range(64))
+    profile = ("six {\n  UNCOMPRESSED { x [6]; }\n%s}\n" % formats).encode()
+    yield "a header for each format", bundle(b"pack --top six", profile, b"=== items\n6:94\n"), 0, b"6:94\n"
+    for line, status, answer in [(b"6:94", 0, b"6:94 took 6\n"), (b"5:90", 1, b"packet 1: U1 Truncated\n")]:
+        yield "a packet of %s bits for 64 formats" % line[:1].decode(), bundle(b"unpack --top six", profile, b"=== packets\n%s\n" % line), status, answer
+
+
 def cases():
     """Name, bundle, status and output of each."""
-    for part in (counts, nestings, in_order, packed, long_inputs, fronts, checked, lines, crowded):
+    for part in (counts, nestings, in_order, packed, long_inputs, fronts, checked, lines, crowded, tabled):
         yield from part()
