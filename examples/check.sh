@@ -1,7 +1,7 @@
 #!/usr/bin/env bash
 # Runs each example and each step of the tutorial through the built program and compares what it prints; then what the pages show, headers of an operating system and
-# back, the cases of cases/ and of built.py, certificates with a slip against a second reading, round trips and lines of flows against a slow search, and what
-# bin/rohcfn and bin/prove do where no program stands.
+# back, the cases of cases/ and of built.py, certificates with a slip and with drawn trees against a second reading, round trips and lines of flows against a slow
+# search, and what bin/rohcfn and bin/prove do where no program stands.
 set -u
 cd "$(dirname "$0")"
 program=../crates/rohcfn/out/rohcfn
@@ -25,6 +25,7 @@ echo "examples: $passed passed, $failed failed"
 ./flows.py line || failed=1
 ./cases.py || failed=1
 ./certificates.py || failed=1
+./trees.py || failed=1
 ./roundtrip.py || failed=1
 ./lines.py || failed=1
 ./first_call.py "$program" || failed=1

@@ -191,6 +191,28 @@ NORMAL = {
 }
 
 
+# of each format of `way` the bits before and behind its header of four bits, and what it asks of the reference of m or of the parameter k
+WAYS = {"a": ("0", "0", "m ==", 0), "b": ("0", "0", "m !=", 0), "c": ("0", "1", "", 0), "d": ("10", "1", "k ==", 0), "e": ("10", "1", "k ==", 1), "f": ("11", "0110" * 9, "", 0), "g": ("11", "1010" * 9, "", 0)}
+
+
+def fork():
+    """The text and the normal form of a profile whose formats are told apart by bits up to 42 places from the first, by a reference and by a parameter."""
+    text, way = "way(k) { UNCOMPRESSED { x [4]; } CONTROL { m =:= static [1]; } INITIAL { m =:= uncompressed_value(1, 0); }\n", Method("way", {"k": (0, 1)}, [])
+    for name, (front, back, asked, value) in WAYS.items():
+        told = "ENFORCE(%s %d); " % (asked.replace("m", "m.UVALUE"), value) if asked else ""
+        text += "  COMPRESSED %s { %sd =:= '%s' [%d]; x =:= irregular(4) [4]; t =:= '%s' [%d]; }\n" % (name, told, front, len(front), back, len(back))
+        fields = [Field("x", "header", ("irregular", 4), (4, 4), (4, 4)), Field("m", "control", ("static",), (1, 1)), literal("d", front), literal("t", back)]
+        conditions = [enforce(asked[2:], M_VALUE if asked[0] == "m" else K, value)] if asked else []
+        listed = [bracket("d", "C", len(front)), bracket("x", "C", 4), bracket("t", "C", len(back))]
+        way.formats.append(Format(name, fields, ["d", "x", "t"], [bracket("x", "U", 4), bracket("m", "U", 1)] + conditions + listed))
+    text += "}\nfork { UNCOMPRESSED { y [1]; f [4]; } COMPRESSED { y =:= irregular(1) [1]; f =:= way(y.UVALUE) [6, 7, 42]; } }\n"
+    fields = [Field("y", "header", ("irregular", 1), (1, 1), (1, 1)), Field("f", "header", ("call", 0, [("y", "UVALUE")]), (4, 4), (6, 42))]
+    return text, [way, Method("fork", {}, [Format("", fields, ["y", "f"], [bracket("y", "U", 1), bracket("f", "U", 4), bracket("y", "C", 1), bracket("f", "C", 6, 7, 42)])])]
+
+
+FORK, NORMAL["fork"] = fork()
+
+
 def lines(text):
     return "".join(it.strip() + "\n" for it in text.split(";"))
 
@@ -230,5 +252,5 @@ CERTIFICATES = {
     "nest": lines("rohcfn-certificate 2;method part;bit 0;ref m 0;leaf near;leaf far;leaf full;" + "".join("format %s;%s;" % (it, PART_PLANS) for it in ("near", "far", "full")) + """method nest;leaf -
         ;format -;read;length g C method;take g;library g up;call f;write;length g U method;take g;call f;library g down;end"""),
 }
-TEXTS = {"tick": TICK, "opt": OPT, "seq": SEQ, "wrap": WRAP, "twin": TWIN, "vast": VAST, "mode": MODE, "turn": TURN, "nest": NEST, "both": BOTH}
+TEXTS = {"tick": TICK, "opt": OPT, "seq": SEQ, "wrap": WRAP, "twin": TWIN, "vast": VAST, "mode": MODE, "turn": TURN, "nest": NEST, "both": BOTH, "fork": FORK}
 TOPS = {name: len(NORMAL[name]) - 1 for name in NORMAL}
