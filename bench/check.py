@@ -66,4 +66,5 @@ def main():
     report("check", all([grows(name, [whole(*it) for it in sizes[name]], 256) for name in sizes]))
 
 
-main()
+if __name__ == "__main__":
+    main()

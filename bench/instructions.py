@@ -12,15 +12,18 @@ NAMES = ["plain", "tick", "opt", "six", "mode", "turn"]
 FEW, MANY = 500, 2000
 
 
-def counted(program, command, name, count):
+def of_run(program, data, due):
     """The instructions of a run, whose first lines are tested."""
-    data, due = bundled(command, name, PROFILES[name], list(stream(name, count)))
-    data = data.replace(b" --top", b" --context --top", 1)
     words = ["valgrind", "--tool=callgrind", "--callgrind-out-file=/dev/null", program]
     done = subprocess.run(words, input=data, stdout=subprocess.PIPE, stderr=subprocess.PIPE)
     if done.returncode or not done.stdout.startswith(due):
-        sys.exit("wrong output or status of %s %s" % (command, name))
+        sys.exit("wrong output or status of %s" % data.split(b"\n", 2)[1].decode())
     return int(re.search(rb"Collected : (\d+)", done.stderr)[1])
+
+
+def counted(program, command, name, count):
+    data, due = bundled(command, name, PROFILES[name], list(stream(name, count)))
+    return of_run(program, data.replace(b" --top", b" --context --top", 1), due)
 
 
 def main():
