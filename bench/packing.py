@@ -11,20 +11,11 @@ sys.path.append(str(pathlib.Path(__file__).parent.parent / "examples"))
 
 from growth import PROFILE as PLAIN
 from measure import best_of, grows, report
-from samples import OPT, TICK
+from samples import MODE, OPT, TICK, TURN
 
 SIZES = [2000, 15000, 30000, 60000]
 SIX = "six { UNCOMPRESSED { x [6]; }\n%s}\n" % "".join("  COMPRESSED f%d { d =:= '%s' [6]; x =:= uncompressed_value(6, %d); }\n" % (i, format(i, "06b"), i) for i in range(64))
 WIDE = "wide { UNCOMPRESSED { x [64]; } COMPRESSED { x =:= irregular(64) [64]; } }\n"
-MODE = """mode { UNCOMPRESSED { x [8]; } CONTROL { m =:= static [1]; }
-  INITIAL { m =:= uncompressed_value(1, 0); }
-  COMPRESSED a { ENFORCE(m.UVALUE == 0); x =:= irregular(8) [8]; }
-  COMPRESSED b { ENFORCE(m.UVALUE == 1); x =:= lsb(4, 0) [4]; } }
-"""
-TURN = """turn { UNCOMPRESSED { x [4]; }
-  CONTROL { s [4]; ENFORCE((x.UVALUE + 5) % 16 == s.UVALUE); }
-  COMPRESSED { s =:= irregular(4) [4]; } }
-"""
 PROFILES = {"plain": PLAIN, "tick": TICK, "opt": OPT, "six": SIX, "wide": WIDE, "mode": MODE, "turn": TURN}
 FLAGS = {"mode": " --v2", "turn": " --v2"}
 CONTEXTS = {"mode": "=== context\nm 1:80\nx 8:00\n"}
