@@ -23,18 +23,18 @@ pub(crate) fn path(alloc: Global, out: &mut String, rest: &str) -> Result<()> {
     Ok(out.push_str(below(alloc, path, name)?.as_str())?)
 }
 
-/// `profile TOP TEXT`: the profile of the rows that follow.
-pub(crate) fn read_profile(alloc: Global, rest: &str) -> Result<Profile> {
-    let (top, text) = parted(rest, " ")?;
+/// The profile of `TOP TEXT`.
+pub(crate) fn read_profile(alloc: Global, profile: &str) -> Result<Profile> {
+    let (top, text) = parted(profile, " ")?;
     Ok(read(alloc, text.as_bytes(), top.as_bytes())?)
 }
 
 /// `holds CONTEXT | FILLING`: whether the filling fits the top in the context.
-pub(crate) fn judged(alloc: Global, out: &mut String, profile: &Profile, rest: &str) -> Result<()> {
+pub(crate) fn judged(alloc: Global, out: &mut String, profile: &str, rest: &str) -> Result<()> {
     let (context, text) = parted(rest, "| ")?;
     let context = Context::read_text(alloc, context.trim_end())?;
     let filling = read_filling(alloc, text)?;
-    let fits = fits_top(alloc, profile, &context, &filling)?;
+    let fits = fitting(alloc, profile, &context, &filling, 1)? == 1;
     Ok(write!(out, "{fits}")?)
 }
 
@@ -42,20 +42,33 @@ pub(crate) fn judged(alloc: Global, out: &mut String, profile: &Profile, rest: &
 pub(crate) fn judged_often(
     alloc: Global,
     out: &mut String,
-    profile: &Profile,
+    profile: &str,
     rest: &str,
 ) -> Result<()> {
     let (times, rest) = parted(rest, " ")?;
     let (context, text) = parted(rest, "| ")?;
     let context = Context::read_text(alloc, context.trim_end())?;
     let filling = read_filling(alloc, text)?;
+    let fitting = fitting(alloc, profile, &context, &filling, count(times)?)?;
+    Ok(write!(out, "{fitting}")?)
+}
+
+/// How often of so many times the filling fits.
+fn fitting(
+    alloc: Global,
+    profile: &str,
+    context: &Context,
+    filling: &Filling,
+    times: usize,
+) -> Result<usize> {
+    let profile = read_profile(alloc, profile)?;
     let mut fitting = 0_usize;
-    for _ in 0..count(times)? {
-        if fits_top(alloc, profile, &context, &filling)? {
+    for _ in 0..times {
+        if fits_top(alloc, &profile, context, filling)? {
             fitting = fitting.saturating_add(1);
         }
     }
-    Ok(write!(out, "{fitting}")?)
+    Ok(fitting)
 }
 
 fn fits_top(

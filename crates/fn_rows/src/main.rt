@@ -1,4 +1,4 @@
-//! Answers rows on bits, texts, expressions, library methods, contexts, fillings and plans: line N of the output answers line N of the input, and is empty where
+//! Answers rows on bits, texts, expressions, library methods, contexts, fillings, plans, trees and lines of flows: line N of the output answers line N of the input, and is empty where
 //! that is empty or a comment (`#`). In a row `%0a` stands for the octet 0a and so on, and so it does in an answer for what isn't visible ASCII.
 #![tactic(auto)]
 
@@ -7,20 +7,21 @@ mod contexts;
 mod expressions;
 mod fillings;
 mod library;
+mod lines;
 mod lists;
 mod octets;
 mod plans;
 mod sources;
+mod trees;
 mod words;
 
-use anyhow::{Context, Result};
-use fn_profile::Profile;
+use anyhow::Result;
 use percent_encoding::{CONTROLS, percent_decode, utf8_percent_encode};
 use std::alloc::Global;
 
 fn main(rt: HostRuntime) -> Result<()> {
     let alloc = rt.alloc();
-    let mut profile = None;
+    let mut profile = String::new(alloc);
     for line in rt.lines(alloc) {
         let shown = shown(alloc, &mut profile, line?.as_str())?;
         println!(rt; "{shown}")?;
@@ -29,7 +30,7 @@ fn main(rt: HostRuntime) -> Result<()> {
 }
 
 /// The line that answers a line.
-fn shown(alloc: Global, profile: &mut Option<Profile>, line: &str) -> Result<String> {
+fn shown(alloc: Global, profile: &mut String, line: &str) -> Result<String> {
     let mut shown = String::new(alloc);
     if line.is_empty() || line.starts_with('#') {
         return Ok(shown);
@@ -40,7 +41,7 @@ fn shown(alloc: Global, profile: &mut Option<Profile>, line: &str) -> Result<Str
 }
 
 /// The answer to a row. The profile is that of the last row that gave one.
-fn answered(alloc: Global, profile: &mut Option<Profile>, row: &str) -> Result<String> {
+fn answered(alloc: Global, profile: &mut String, row: &str) -> Result<String> {
     let mut octets = Vec::new(alloc);
     percent_decode(row.as_bytes()).append_to(&mut octets)?;
     let mut out = String::new(alloc);
@@ -51,7 +52,7 @@ fn answered(alloc: Global, profile: &mut Option<Profile>, row: &str) -> Result<S
 fn answer(
     alloc: Global,
     out: &mut String,
-    profile: &mut Option<Profile>,
+    profile: &mut String,
     row: &[u8],
 ) -> Result<()> {
     if row.starts_with(b"lines") {
@@ -60,15 +61,14 @@ fn answer(
     let row = str::from_utf8(row)?;
     let (verb, rest) = row.split_once(' ').unwrap_or((row, ""));
     match verb {
-        "profile" => {
-            *profile = Some(fillings::read_profile(alloc, rest)?);
-            Ok(())
-        }
-        "holds" => fillings::judged(alloc, out, profile.as_ref().context("no profile")?, rest),
-        "judged" => {
-            fillings::judged_often(alloc, out, profile.as_ref().context("no profile")?, rest)
-        }
-        "plan" => plans::ordered(alloc, out, profile.as_ref().context("no profile")?, rest),
+        "profile" => keep(profile, rest),
+        "holds" => fillings::judged(alloc, out, profile.as_str(), rest),
+        "judged" => fillings::judged_often(alloc, out, profile.as_str(), rest),
+        "plan" => planned(alloc, out, profile.as_str(), rest),
+        "tables" => trees::tables(alloc, out, profile.as_str(), rest),
+        "flow" => lines::flow(out, rest),
+        "pieces" => lines::pieces(alloc, out, profile.as_str(), rest),
+        "cuttings" => lines::cuttings(alloc, out, profile.as_str(), rest),
         "sides" => fillings::sides(alloc, out, rest),
         "below" => fillings::path(alloc, out, rest),
         "path" => contexts::knows_path(out, rest),
@@ -91,4 +91,14 @@ fn answer(
         "register" => library::register(alloc, out, rest),
         _ => library::answer(alloc, out, verb, rest),
     }
+}
+
+/// `profile TOP TEXT`: the profile of the rows that follow, which read it anew.
+fn keep(profile: &mut String, rest: &str) -> Result<()> {
+    profile.clear();
+    Ok(profile.push_str(rest)?)
+}
+
+fn planned(alloc: Global, out: &mut String, profile: &str, rest: &str) -> Result<()> {
+    plans::ordered(alloc, out, &fillings::read_profile(alloc, profile)?, rest)
 }

@@ -1,24 +1,39 @@
 //! Rows on decision trees: where they lead, and the tables in their place.
 
-use anyhow::{Context as _, Result, anyhow, ensure};
+use crate::fillings::read_profile;
+use crate::words::count;
+use anyhow::{Context as _, Result, anyhow};
 use fn_bits::{Bits, Cursor};
-use fn_cert::Node;
-use fn_checker::{Accepted, Picked};
+use fn_cert::{Node, Version};
+use fn_checker::{Accepted, Picked, check};
 use fn_context::Context;
+use fn_prover::prove;
 use sqlite_items::at;
 use std::alloc::Global;
 use std::fmt::Write;
 
-/// `count entries`: how many entries the tables of all trees have together.
-pub fn count(out: &mut String, accepted: &Accepted, rest: &str) -> Result<()> {
-    ensure!(rest == "entries", "no such count");
-    Ok(write!(out, "{}", accepted.table_entries())?)
+/// The profile of a row `profile`, accepted with the certificate that `prove` makes.
+pub(crate) fn accept(alloc: Global, profile: &str) -> Result<Accepted> {
+    let profile = read_profile(alloc, profile)?;
+    let Ok(certificate) = prove(alloc, &profile, Version::One) else {
+        return Err(anyhow!("no certificate"));
+    };
+    match check(alloc, profile, certificate) {
+        Ok(accepted) => Ok(accepted),
+        Err(_) => Err(anyhow!("not accepted")),
+    }
 }
 
-/// `picks METHOD`, the method by its number: how many lists of up to eight bits there are, for how many of them `pick` leads where the walk from node to node
-/// leads, also behind three more bits, and for how many they run out. The context is empty, and there are no arguments.
-pub fn picks(alloc: Global, out: &mut String, accepted: &Accepted, rest: &str) -> Result<()> {
-    let method = rest.parse::<usize>()?;
+/// `tables METHOD`, the method by its number: how many entries the tables of all trees have together; how many lists of up to eight bits there are, for how many
+/// of them `pick` leads where the walk from node to node leads, also behind three more bits, and for how many they run out. The context is empty, and there are
+/// no arguments.
+pub(crate) fn tables(alloc: Global, out: &mut String, profile: &str, rest: &str) -> Result<()> {
+    let accepted = accept(alloc, profile)?;
+    write!(out, "{} entries, ", accepted.table_entries())?;
+    picks(alloc, out, &accepted, count(rest)?)
+}
+
+fn picks(alloc: Global, out: &mut String, accepted: &Accepted, method: usize) -> Result<()> {
     let nodes = tree_of(accepted, method)?;
     let mut lists = 0_u32;
     let mut alike = 0_u32;
