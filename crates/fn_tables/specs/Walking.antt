@@ -16,6 +16,10 @@ pub record IsOn (refs : ℕ → Option ℤ) (bits : List Bool) (args : List ℤ)
   pub further : place < after
   pub same : way refs bits args 0 (drop after nodes) ≡ way refs bits args 0 (drop place nodes)
 
+-- from both places the way leads to the same, whatever the references and the arguments
+abbrev pub IsSame : List Bool → List Node → ℕ → ℕ → Type 0
+IsSame bits nodes place after = (refs : ℕ → Option ℤ) (args : List ℤ) → way refs bits args 0 (drop after nodes) ≡ way refs bits args 0 (drop place nodes)
+
 -- what a step from a place says of the way
 abbrev pub Steps : Next → (ℕ → Option ℤ) → List Bool → List ℤ → List Node → ℕ → Type 0
 Steps (next.Node after) refs bits args nodes place = IsOn refs bits args nodes place after

@@ -3,11 +3,11 @@
 ghost use Rattle.std.specs.Prelude.{◌≡◌, ℕ, ◌+◌, ◌^◌, ◌<◌, ◌≤◌, ◌∷◌, true, false, ℤ, List, drop, slice_get, slice_range, Option, Some, IfOk, IfSome, length};
 ghost use Rattle.fn_bits.specs.Number.{enc, num};
 ghost use Rattle.fn_context.specs.Entries as contexts;
-ghost use Rattle.fn_cert.specs.declared.certificate.Node.TheVariants.{Bit};
+ghost use Rattle.fn_cert.specs.declared.certificate.Node.TheVariants.{Bit, Leaf};
 ghost use Rattle.fn_rules.specs.Trees.{is_number, references, way};
 ghost use Rattle.fn_tables.specs.Kept.{past, AreSizesFrom, AreStarts, Serves};
 ghost use Rattle.fn_tables.specs.Picked as spec;
-ghost use Rattle.fn_tables.specs.Walking.{Shows, IsOn, Steps};
+ghost use Rattle.fn_tables.specs.Walking.{Shows, IsOn, IsSame, Steps};
 
 use crate::referring::refers;
 use crate::sizes::second;
@@ -41,12 +41,14 @@ pub(crate) enum Next {
 }
 
 /// Where the tree of a method with these formats, its nodes in preorder, leads in a context and below a path, under these arguments and for the bits so many
-/// places after the cursor's. The error is want of memory.
+/// places after the cursor's. It begins at a node to which the bits lead from the first. The error is want of memory.
+#[inline(never)]
 pub(crate) fn follow(
     alloc: Global,
     entries: &[u16],
     tables: &TreeTables,
     nodes: &[Node],
+    begin: usize,
     context: &Context,
     path: &str,
     formats: &[Format],
@@ -54,27 +56,28 @@ pub(crate) fn follow(
     cursor: &Cursor<'_>,
     from: usize,
 ) -> Result<Picked, AllocError>
-    requires { Serves entries.now nodes.now tables.now }
+    requires serves { Serves entries.now nodes.now tables.now }
+    requires begins { IsSame (drop from cursor.now.left) nodes.now 0 begin }
     ensures { IfOk result (λ picked. picked ≡ spec.picked_of (way (references (contexts.bits_at context.now) path.now formats.now) (drop from cursor.now.left) arguments.now 0 nodes.now)) }
 {
     let sizes = tables.sizes.as_slice();
-    let mut place = 0;
+    let mut place = begin;
     while place < nodes.len() {
-        match step(entries, tables, nodes, place, arguments, cursor, from) {
-            Next::Node(next) => place = next,
+        let next = match step(tables, nodes, place, arguments, cursor, from) {
+            Next::Node(next) => next,
             Next::Reference(field, constant) => {
                 let is_other = !refers(alloc, context, path, formats, field, constant)?;
-                place = subtree(nodes, sizes, place, is_other);
+                subtree(nodes, sizes, place, is_other)
             }
             Next::End(picked) => return Ok(picked),
-        }
+        };
+        place = looked_up(entries, tables, nodes, next, cursor, from);
     }
     Ok(Picked::Nothing)
 }
 
-/// One step from the node at the place, whatever the references: by its table, if it has one and the bits are there, else by the node alone.
+/// One step from the node at the place by the node alone, whatever the references.
 fn step(
-    entries: &[u16],
     tables: &TreeTables,
     nodes: &[Node],
     place: usize,
@@ -82,7 +85,7 @@ fn step(
     cursor: &Cursor<'_>,
     from: usize,
 ) -> Next
-    requires serves { Serves entries.now nodes.now tables.now }
+    requires sized { AreSizesFrom 0 nodes.now tables.now.sizes }
     requires within { place < length nodes.now }
     ensures { (refs : ℕ → Option ℤ) → Steps result refs (drop from cursor.now.left) arguments.now nodes.now place }
 {
@@ -95,36 +98,73 @@ fn step(
             Next::Node(subtree(nodes, sizes, place, is_other))
         }
         Node::Reference(field, constant) => Next::Reference(field, constant),
-        Node::Bit(offset) => {
-            let starts = tables.starts.as_slice();
-            if let Some(next) = looked_up(entries, starts, nodes, place, offset, cursor, from) {
-                return Next::Node(next);
-            }
-            match bit_at(cursor, from, offset) {
-                Some(bit) => Next::Node(subtree(nodes, sizes, place, bit)),
-                None => Next::End(Picked::Short),
-            }
-        }
+        Node::Bit(offset) => match bit_at(cursor, from, offset) {
+            Some(bit) => Next::Node(subtree(nodes, sizes, place, bit)),
+            None => Next::End(Picked::Short),
+        },
     }
 }
 
-/// The node to which the table of the test at the place leads, where it has one and all its bits are there.
-fn looked_up(
+/// The node to which the tables lead from the place, one after the other: the place itself, where none begins there or where not all its bits are there.
+#[inline(never)]
+pub(crate) fn looked_up(
+    entries: &[u16],
+    tables: &TreeTables,
+    nodes: &[Node],
+    place: usize,
+    cursor: &Cursor<'_>,
+    from: usize,
+) -> usize
+    requires started { AreStarts entries.now nodes.now tables.now.starts }
+    ensures same { IsSame (drop from cursor.now.left) nodes.now place result }
+    ensures further { place ≤ result }
+{
+    let starts = tables.starts.as_slice();
+    let mut here = place;
+    while let Some(next) = entry_after(entries, starts, nodes, here, cursor, from) {
+        here = next;
+    }
+    here
+}
+
+/// The node to which the table of the node at the place leads, where it has one and all its bits are there.
+#[inline(always)]
+fn entry_after(
     entries: &[u16],
     starts: &[Option<Start>],
     nodes: &[Node],
     place: usize,
-    offset: usize,
     cursor: &Cursor<'_>,
     from: usize,
 ) -> Option<usize>
     requires started { AreStarts entries.now nodes.now starts.now }
-    requires test { drop place nodes.now ≡ Bit offset ∷ drop (place + 1) nodes.now }
-    ensures { IfSome result (λ next. (refs : ℕ → Option ℤ) (args : List ℤ) → IsOn refs (drop from cursor.now.left) args nodes.now place next) }
+    ensures on { IfSome result (λ next. (refs : ℕ → Option ℤ) (args : List ℤ) → IsOn refs (drop from cursor.now.left) args nodes.now place next) }
+    ensures within { IfSome result (λ next. place < length nodes.now) }
 {
+    let offset = tested(nodes, place)?;
     let start = start_at(starts, place)?;
     let number = window(cursor, from, offset, start.width)?;
     entry_of(entries, start.first as usize + number)
+}
+
+/// The offset of the bit that the node at the place tests, if it tests one.
+fn tested(nodes: &[Node], place: usize) -> Option<usize>
+    ensures { IfSome result (λ offset. slice_get nodes.now place ≡ Some (Bit offset)) }
+{
+    match nodes.get(place)? {
+        Node::Bit(offset) => Some(*offset),
+        _ => None,
+    }
+}
+
+/// The format of the leaf at the place, if a leaf stands there.
+pub(crate) fn leaf_of(nodes: &[Node], place: usize) -> Option<usize>
+    ensures { IfSome result (λ format. slice_get nodes.now place ≡ Some (Leaf format)) }
+{
+    match nodes.get(place)? {
+        Node::Leaf(format) => Some(*format),
+        _ => None,
+    }
 }
 
 /// The entry at a place.

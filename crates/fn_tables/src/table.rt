@@ -10,7 +10,7 @@ ghost use Rattle.fn_tables.specs.Picked.{picks};
 ghost use Rattle.fn_tables.specs.Tables.{entries_of};
 
 use crate::making::{Making, entry_tables};
-use crate::picking::{Picked, follow};
+use crate::picking::{Picked, follow, leaf_of, looked_up};
 use fn_bits::Cursor;
 use fn_cert::{Certificate, MethodPlans};
 use fn_context::Context;
@@ -80,11 +80,17 @@ impl Tables {
         let Some(tables) = at(self.trees.as_slice(), method) else {
             return Ok(Picked::Nothing);
         };
+        let (entries, nodes) = (self.entries.as_slice(), entry.tree.as_slice());
+        let begin = looked_up(entries, tables, nodes, 0, cursor, from);
+        if let Some(format) = leaf_of(nodes, begin) {
+            return Ok(Picked::Format(format));
+        }
         follow(
             alloc,
-            self.entries.as_slice(),
+            entries,
             tables,
-            entry.tree.as_slice(),
+            nodes,
+            begin,
             context,
             path,
             formats,
