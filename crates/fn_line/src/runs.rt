@@ -1,10 +1,8 @@
 //! Whole runs of a line: what is sent is heard.
 
-ghost use Rattle.std.specs.Prelude.{◌≡◌, ◌<◌, ◌++◌, ℕ, List, map, length, IfOk, IfErr, OnOk};
-ghost use Rattle.std.specs.List.{flat_map};
-ghost use Rattle.fn_line.specs.Hearing.{Found};
+ghost use Rattle.std.specs.Prelude.{◌≡◌, ◌++◌, ℕ, List, map, IfOk, IfErr, OnOk};
 ghost use Rattle.fn_line.specs.Lines.{no_entries};
-ghost use Rattle.fn_line.specs.States.{IsPut, Hears};
+ghost use Rattle.fn_line.specs.States.{IsPut};
 ghost use Rattle.fn_line.specs.Runs.{event_of, ArePut, IsRun, IsReceived, BlamesRun, BlamesEvent, run_fault};
 
 use crate::fault::LineFault;
@@ -71,7 +69,7 @@ fn put(sender: &mut Sender<'_>, event: &Event, out: &mut Vec<u8>) -> Result<(), 
 }
 
 /// Puts events on the line, up to the first that is refused.
-pub fn put_all(sender: &mut Sender<'_>, events: &[Event], out: &mut Vec<u8>) -> Result<(), RunFault>
+fn put_all(sender: &mut Sender<'_>, events: &[Event], out: &mut Vec<u8>) -> Result<(), RunFault>
     ensures ok { OnOk result (ArePut sender.old sender.new (map event_of events.now) out.old.items out.new.items) }
     ensures fault { IfErr result (λ e. BlamesRun e sender.old.accepted sender.old.contexts (map event_of events.now)) }
 {
@@ -92,20 +90,6 @@ fn refused_at(index: usize, fault: PackFault) -> RunFault
         PackFault::OutOfMemory => RunFault::OutOfMemory,
         _ => RunFault::Refused(index, fault),
     }
-}
-
-/// Gives a receiver the pieces of a line, one after the other. It hears what it would hear of them all at once.
-pub fn feed_all(
-    receiver: &mut Receiver<'_>,
-    pieces: &[Vec<u8>],
-    out: &mut Vec<(Flow, Item)>,
-) -> Result<(), LineFault>
-    ensures ok { OnOk result (0 < length pieces.now → (found : Found) × (out.new.items ≡ out.old.items ++ found) × Hears receiver.old receiver.new (flat_map (λ p. p.items) pieces.now) found) }
-{
-    for piece in pieces {
-        receiver.feed(piece, out)?;
-    }
-    Ok(())
 }
 
 /// The octets of all events on a new line, and the items that a new receiver hears of them. The octets are a line of the events,
