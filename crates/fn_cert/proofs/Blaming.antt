@@ -12,17 +12,17 @@ use Rattle.fn_cert.specs.declared.draft.Stage.TheVariants as stage
 use Rattle.fn_cert.specs.declared.faults.Fault.TheVariants.{BadWord, UnknownName, AboveLimits}
 use Rattle.fn_cert.specs.Drafts.{when, open_method, open_format, node_of, step_of, with_node, with_node_at, with_read, with_write, inner_at, next, read_lines, start}
 use Rattle.fn_cert.specs.Kept.{node_limit, depth_limit, step_limit}
-use Rattle.fn_cert.specs.Shapes.{standing, lacks_node, lacks_step, is_unknown, is_node, is_step, goes_on, line_fault, shaped_fault, words_fault, fault_told}
+use Rattle.fn_cert.specs.Shapes.{stands_at, lacks_node, lacks_step, is_unknown, is_node, is_step, goes_on, line_fault, shaped_fault, words_fault, fault_told}
 use Rattle.fn_cert.specs.Table.{Row, first_row, method_row, bit_row, param_row, ref_row, leaf_row, none_row, format_row, read_row, write_row, take_row, call_row, library_row, length_row, length_by_row, solve_row, choose_row, ask_row, end_row, kinds, LooksLike, IsNodeRow, IsStepRow, HasShape}
 use Rattle.fn_cert.specs.Tells.{method_within, format_within, method_at, format_at, GoesOn, IsDeep, IsFull, IsRanged, IsNamed, Tells, shapeless, out_of_range, unknown, misplaced, one_too_many}
 use Rattle.fn_cert.proofs.Following.{good_start}
 use Rattle.fn_cert.proofs.Known.{NamesFound, names_found}
-use Rattle.fn_cert.proofs.Shaped.{Judged, fits, Sight, sight}
+use Rattle.fn_cert.proofs.Shaped.{Judged, fits, LooksRight, looks_right}
 use Rattle.fn_cert.proofs.Telling.{GoodAt, Good, InTree, InRead, InWrite}
 
 -- ---- the first words of lines
 
-abbrev first_word : Row → List ℕ
+abbrev pub first_word : Row → List ℕ
 first_word first_row = codes "rohcfn-certificate"
 first_word method_row = codes "method"
 first_word bit_row = codes "bit"
@@ -43,7 +43,7 @@ first_word choose_row = codes "choose"
 first_word ask_row = codes "ask"
 first_word end_row = codes "end"
 
-words_begin : (row : Row) (ws : List (List ℕ)) → AllZip LooksLike (kinds row) ws → (more : List (List ℕ)) × (ws ≡ first_word row ∷ more)
+pub words_begin : (row : Row) (ws : List (List ℕ)) → AllZip LooksLike (kinds row) ws → (more : List (List ℕ)) × (ws ≡ first_word row ∷ more)
 words_begin first_row [] h = absurd h
 words_begin first_row (word ∷ more) h = (more, ap (λ w. w ∷ more) h.0)
 words_begin method_row [] h = absurd h
@@ -208,7 +208,7 @@ inner_step methods d ask_row (a ∷ []) h = refl
 inner_step methods d ask_row (a ∷ b ∷ more) h = refl
 inner_step methods d end_row more h = absurd h
 
-unknown_node : (methods : List Method) (d : Draft) (row : Row) (more : List (List ℕ)) → IsNodeRow row → is_unknown (standing d) methods (first_word row) more ≡ lacks_node d.version (method_at methods d) (first_word row) more
+unknown_node : (methods : List Method) (d : Draft) (row : Row) (more : List (List ℕ)) → IsNodeRow row → is_unknown (stands_at d) methods (first_word row) more ≡ lacks_node d.version (method_at methods d) (first_word row) more
 unknown_node methods d first_row more h = absurd h
 unknown_node methods d method_row more h = absurd h
 unknown_node methods d bit_row more h = refl
@@ -229,7 +229,7 @@ unknown_node methods d choose_row more h = absurd h
 unknown_node methods d ask_row more h = absurd h
 unknown_node methods d end_row more h = absurd h
 
-unknown_step : (methods : List Method) (d : Draft) (row : Row) (more : List (List ℕ)) → IsStepRow row → is_unknown (standing d) methods (first_word row) more ≡ lacks_step (format_at methods d) (first_word row) more
+unknown_step : (methods : List Method) (d : Draft) (row : Row) (more : List (List ℕ)) → IsStepRow row → is_unknown (stands_at d) methods (first_word row) more ≡ lacks_step (format_at methods d) (first_word row) more
 unknown_step methods d first_row more h = absurd h
 unknown_step methods d method_row more h = absurd h
 unknown_step methods d bit_row more h = absurd h
@@ -299,7 +299,7 @@ write_full methods ls d word more e g stops known =
     sym (ap (λ s. inner_at s methods d word more) e ∙ ap (option_and_then (λ f. option_and_then (with_write d) (step_of f word more))) opened ∙ ap (option_and_then (with_write d)) is) ∙ stops in
     ltb-false (length d.write) step_limit (when_not _ _ none)
 
-full : (methods : List Method) (ls : List (List ℕ)) (d : Draft) (row : Row) (more : List (List ℕ)) → Good methods ls d → next methods d (first_word row ∷ more) ≡ None → is_unknown (standing d) methods (first_word row) more ≡ false → GoesOn d.stage row → IsFull d.stage d
+full : (methods : List Method) (ls : List (List ℕ)) (d : Draft) (row : Row) (more : List (List ℕ)) → Good methods ls d → next methods d (first_word row ∷ more) ≡ None → is_unknown (stands_at d) methods (first_word row) more ≡ false → GoesOn d.stage row → IsFull d.stage d
 full methods ls d row more good stops known goes_on_there = by d.stage refl good goes_on_there
   where
     by : (s : Stage) → d.stage ≡ s → GoodAt s methods ls d → GoesOn s row → IsFull s d
@@ -315,17 +315,17 @@ full methods ls d row more good stops known goes_on_there = by d.stage refl good
 -- ---- the code
 
 named_line : (methods : List Method) → AreNamed methods → (ls : List (List ℕ)) (d : Draft) (row : Row) (more : List (List ℕ)) → Good methods ls d → next methods d (first_word row ∷ more) ≡ None → IsRanged d row (first_word row ∷ more) → line_fault d.version (first_word row ∷ more) ≡ None
-    → Tells methods d (first_word row ∷ more) (fault_told (standing d) methods (first_word row ∷ more))
+    → Tells methods d (first_word row ∷ more) (fault_told (stands_at d) methods (first_word row ∷ more))
 named_line methods named ls d row more good stops ranged none = by (names_found methods named d row (first_word row ∷ more) ranged)
   where
-    shaped : fault_told (standing d) methods (first_word row ∷ more) ≡ shaped_fault (standing d) methods (first_word row) more
-    shaped = ap (λ o. unwrap_or o (shaped_fault (standing d) methods (first_word row) more)) none
+    shaped : fault_told (stands_at d) methods (first_word row ∷ more) ≡ shaped_fault (stands_at d) methods (first_word row) more
+    shaped = ap (λ o. unwrap_or o (shaped_fault (stands_at d) methods (first_word row) more)) none
 
-    placed : is_unknown (standing d) methods (first_word row) more ≡ false → IsNamed methods d row (first_word row ∷ more) → Held (goes_on d.stage (first_word row)) (GoesOn d.stage row) → Tells methods d (first_word row ∷ more) (fault_told (standing d) methods (first_word row ∷ more))
+    placed : is_unknown (stands_at d) methods (first_word row) more ≡ false → IsNamed methods d row (first_word row ∷ more) → Held (goes_on d.stage (first_word row)) (GoesOn d.stage row) → Tells methods d (first_word row ∷ more) (fault_told (stands_at d) methods (first_word row ∷ more))
     placed known all (inl h) = one_too_many (shaped ∙ (λ i. cond (known i) UnknownName (cond (h.0 i) AboveLimits BadWord))) row all h.1 (full methods ls d row more good stops known h.1)
     placed known all (inr h) = misplaced (shaped ∙ (λ i. cond (known i) UnknownName (cond (h.0 i) AboveLimits BadWord))) row all h.1
 
-    by : NamesFound methods d row (first_word row ∷ more) → Tells methods d (first_word row ∷ more) (fault_told (standing d) methods (first_word row ∷ more))
+    by : NamesFound methods d row (first_word row ∷ more) → Tells methods d (first_word row ∷ more) (fault_told (stands_at d) methods (first_word row ∷ more))
     by (inl h) = unknown (shaped ∙ ap (λ b. cond b UnknownName (cond (goes_on d.stage (first_word row)) AboveLimits BadWord)) h.0) row ranged h.1
     by (inr h) = placed h.0 (record { ranged = ranged; known = h.1 }) (goes_held d.stage row)
 
@@ -336,16 +336,16 @@ no_shape d ws bad row h = by (fits d.version row ws h)
     by (inl e) = let wrong : Some BadWord ≡ None = sym bad ∙ e.0 in absurd cc
     by (inr e) = let wrong : Some BadWord ≡ Some AboveLimits = sym bad ∙ e.0 in absurd cc
 
-pub code_is : (methods : List Method) → AreNamed methods → (ls : List (List ℕ)) (d : Draft) (ws : List (List ℕ)) → read_lines methods start ls ≡ Some d → next methods d ws ≡ None → Tells methods d ws (fault_told (standing d) methods ws)
-code_is methods named ls d ws so_far stops = by (sight d.version ws)
+pub code_is : (methods : List Method) → AreNamed methods → (ls : List (List ℕ)) (d : Draft) (ws : List (List ℕ)) → read_lines methods start ls ≡ Some d → next methods d ws ≡ None → Tells methods d ws (fault_told (stands_at d) methods ws)
+code_is methods named ls d ws so_far stops = by (looks_right d.version ws)
   where
-    by_range : (row : Row) → HasShape d.version row ws → Judged d.version row ws → Tells methods d ws (fault_told (standing d) methods ws)
-    by_range row h (inr e) = out_of_range (ap (λ o. unwrap_or o (words_fault (standing d) methods ws)) e.0) row h e.1
+    by_range : (row : Row) → HasShape d.version row ws → Judged d.version row ws → Tells methods d ws (fault_told (stands_at d) methods ws)
+    by_range row h (inr e) = out_of_range (ap (λ o. unwrap_or o (words_fault (stands_at d) methods ws)) e.0) row h e.1
     by_range row h (inl e) =
         let (more, is) = words_begin row ws h.alike in
-        subst (λ x. Tells methods d x (fault_told (standing d) methods x)) (sym is)
+        subst (λ x. Tells methods d x (fault_told (stands_at d) methods x)) (sym is)
         (named_line methods named ls d row more (good_start methods ls d so_far) (ap (next methods d) (sym is) ∙ stops) (subst (IsRanged d row) is (record { shape = h; ranged = e.1 })) (ap (line_fault d.version) (sym is) ∙ e.0))
 
-    by : Sight d.version ws → Tells methods d ws (fault_told (standing d) methods ws)
-    by (inl bad) = shapeless (ap (λ o. unwrap_or o (words_fault (standing d) methods ws)) bad) (no_shape d ws bad)
+    by : LooksRight d.version ws → Tells methods d ws (fault_told (stands_at d) methods ws)
+    by (inl bad) = shapeless (ap (λ o. unwrap_or o (words_fault (stands_at d) methods ws)) bad) (no_shape d ws bad)
     by (inr seen) = by_range seen.0 seen.1 (fits d.version seen.0 ws seen.1)

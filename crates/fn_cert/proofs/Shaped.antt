@@ -180,20 +180,20 @@ fits v end_row ws h = let (a, is, p) = of_one LooksLike (exactly (codes "end")) 
 
 -- ---- words that look like a line, or are bad
 
-abbrev pub Sight : Version → List (List ℕ) → Type 0
-Sight v ws = (line_fault v ws ≡ Some BadWord) ⊎ ((row : Row) × HasShape v row ws)
+abbrev pub LooksRight : Version → List (List ℕ) → Type 0
+LooksRight v ws = (line_fault v ws ≡ Some BadWord) ⊎ ((row : Row) × HasShape v row ws)
 
-seen : (v : Version) (row : Row) (ws : List (List ℕ)) → HasShape v row ws → Sight v ws
-seen v row ws h = inr (row, h)
+right_as : (v : Version) (row : Row) (ws : List (List ℕ)) → HasShape v row ws → LooksRight v ws
+right_as v row ws h = inr (row, h)
 
-sight_one : (v : Version) (w : List ℕ) → Sight v (w ∷ [])
-sight_one v w = by (decide w (codes "none")) (decide w (codes "read")) (decide w (codes "write")) (decide w (codes "end"))
+looks_one : (v : Version) (w : List ℕ) → LooksRight v (w ∷ [])
+looks_one v w = by (decide w (codes "none")) (decide w (codes "read")) (decide w (codes "write")) (decide w (codes "end"))
   where
-    by : (w ≡ codes "none") ⊎ (bytes_eq w (codes "none") ≡ false) → (w ≡ codes "read") ⊎ (bytes_eq w (codes "read") ≡ false) → (w ≡ codes "write") ⊎ (bytes_eq w (codes "write") ≡ false) → (w ≡ codes "end") ⊎ (bytes_eq w (codes "end") ≡ false) → Sight v (w ∷ [])
-    by (inl e) p q r = seen v none_row (w ∷ []) (record { in_version = tt; alike = (e, tt) })
-    by (inr a) (inl e) q r = seen v read_row (w ∷ []) (record { in_version = tt; alike = (e, tt) })
-    by (inr a) (inr b) (inl e) r = seen v write_row (w ∷ []) (record { in_version = tt; alike = (e, tt) })
-    by (inr a) (inr b) (inr c) (inl e) = seen v end_row (w ∷ []) (record { in_version = tt; alike = (e, tt) })
+    by : (w ≡ codes "none") ⊎ (bytes_eq w (codes "none") ≡ false) → (w ≡ codes "read") ⊎ (bytes_eq w (codes "read") ≡ false) → (w ≡ codes "write") ⊎ (bytes_eq w (codes "write") ≡ false) → (w ≡ codes "end") ⊎ (bytes_eq w (codes "end") ≡ false) → LooksRight v (w ∷ [])
+    by (inl e) p q r = right_as v none_row (w ∷ []) (record { in_version = tt; alike = (e, tt) })
+    by (inr a) (inl e) q r = right_as v read_row (w ∷ []) (record { in_version = tt; alike = (e, tt) })
+    by (inr a) (inr b) (inl e) r = right_as v write_row (w ∷ []) (record { in_version = tt; alike = (e, tt) })
+    by (inr a) (inr b) (inr c) (inl e) = right_as v end_row (w ∷ []) (record { in_version = tt; alike = (e, tt) })
     by (inr a) (inr b) (inr c) (inr d) = inl (λ i. cond (a i || (b i || (c i || d i))) None (Some BadWord))
 
 -- a first line
@@ -228,27 +228,27 @@ heads_or_not v w a h = by (decide w (codes "method")) (decide w (codes "format")
     by (inr n1) (inr n2) (inr n3) (inr n4) (inr n5) (inr n6) (inl e) = inl (ask_row, record { in_version = tt; alike = (e, (h, tt)) })
     by (inr n1) (inr n2) (inr n3) (inr n4) (inr n5) (inr n6) (inr n7) = inr (λ i. n1 i || (n2 i || (n3 i || (n4 i || (n5 i || (n6 i || n7 i))))))
 
-sight_two : (v : Version) (w a : List ℕ) → Sight v (w ∷ a ∷ [])
-sight_two v w a = by (decide w (codes "bit")) (begins_or_not w a) (either_way (length a == 0))
+looks_two : (v : Version) (w a : List ℕ) → LooksRight v (w ∷ a ∷ [])
+looks_two v w a = by (decide w (codes "bit")) (begins_or_not w a) (either_way (length a == 0))
   where
-    bit : w ≡ codes "bit" → (is_number a ≡ true) ⊎ (is_number a ≡ false) → Sight v (w ∷ a ∷ [])
-    bit e (inl num) = seen v bit_row (w ∷ a ∷ []) (record { in_version = tt; alike = (e, (num, tt)) })
+    bit : w ≡ codes "bit" → (is_number a ≡ true) ⊎ (is_number a ≡ false) → LooksRight v (w ∷ a ∷ [])
+    bit e (inl num) = right_as v bit_row (w ∷ a ∷ []) (record { in_version = tt; alike = (e, (num, tt)) })
     bit e (inr num) = inl (ap (λ x. line_fault v (x ∷ a ∷ [])) e ∙ ap (λ t. number_fault t (number_below offset_limit a)) num)
 
-    named : bytes_eq w (codes "bit") ≡ false → begins w a ≡ false → (length a == 0) ≡ false → ((row : Row) × HasShape v row (w ∷ a ∷ [])) ⊎ (heads w ≡ false) → Sight v (w ∷ a ∷ [])
+    named : bytes_eq w (codes "bit") ≡ false → begins w a ≡ false → (length a == 0) ≡ false → ((row : Row) × HasShape v row (w ∷ a ∷ [])) ⊎ (heads w ≡ false) → LooksRight v (w ∷ a ∷ [])
     named n m z (inl s) = inr s
     named n m z (inr t) = inl (λ i. cond (n i) (number_fault (is_number a) (number_below offset_limit a)) (cond (m i) None (cond (z i) (Some BadWord) (cond (t i) None (Some BadWord)))))
 
-    by : (w ≡ codes "bit") ⊎ (bytes_eq w (codes "bit") ≡ false) → ((w ≡ codes "rohcfn-certificate") × ((a ≡ codes "1") ⊎ (a ≡ codes "2"))) ⊎ (begins w a ≡ false) → ((length a == 0) ≡ true) ⊎ ((length a == 0) ≡ false) → Sight v (w ∷ a ∷ [])
+    by : (w ≡ codes "bit") ⊎ (bytes_eq w (codes "bit") ≡ false) → ((w ≡ codes "rohcfn-certificate") × ((a ≡ codes "1") ⊎ (a ≡ codes "2"))) ⊎ (begins w a ≡ false) → ((length a == 0) ≡ true) ⊎ ((length a == 0) ≡ false) → LooksRight v (w ∷ a ∷ [])
     by (inl e) p q = bit e (either_way (is_number a))
-    by (inr n) (inl e) q = seen v first_row (w ∷ a ∷ []) (record { in_version = tt; alike = (e.0, (e.1, tt)) })
+    by (inr n) (inl e) q = right_as v first_row (w ∷ a ∷ []) (record { in_version = tt; alike = (e.0, (e.1, tt)) })
     by (inr n) (inr m) (inl z) = inl (λ i. cond (n i) (number_fault (is_number a) (number_below offset_limit a)) (cond (m i) None (cond (z i) (Some BadWord) (cond (heads w) None (Some BadWord)))))
     by (inr n) (inr m) (inr z) = named n m z (heads_or_not v w a (some_name a z))
 
 -- the rest of three words, where the first is neither of these
-sight_ref : (v : Version) (w a b : List ℕ) → 0 < length a → (referring_fault v w b ≡ Some BadWord) ⊎ ((row : Row) × HasShape v row (w ∷ a ∷ b ∷ []))
-sight_ref One w a b h = inl refl
-sight_ref Two w a b h = by (decide w (codes "ref")) (either_way (is_signed b))
+looks_ref : (v : Version) (w a b : List ℕ) → 0 < length a → (referring_fault v w b ≡ Some BadWord) ⊎ ((row : Row) × HasShape v row (w ∷ a ∷ b ∷ []))
+looks_ref One w a b h = inl refl
+looks_ref Two w a b h = by (decide w (codes "ref")) (either_way (is_signed b))
   where
     by : (w ≡ codes "ref") ⊎ (bytes_eq w (codes "ref") ≡ false) → (is_signed b ≡ true) ⊎ (is_signed b ≡ false) → (reference_fault w b ≡ Some BadWord) ⊎ ((row : Row) × HasShape Two row (w ∷ a ∷ b ∷ []))
     by (inl e) (inl num) = inr (ref_row, record { in_version = refl; alike = (e, (h, (num, tt))) })
@@ -269,8 +269,8 @@ turns_or_not w b = by (decide w (codes "library")) (decide b (codes "up")) (deci
     by (inl e) (inr m) (inr n) = inr (ap (λ x. turns x b) e ∙ (λ i. m i || n i))
     by (inr m) p q = inr (ap (λ t. t && (bytes_eq b (codes "up") || bytes_eq b (codes "down"))) m)
 
-sight_three : (v : Version) (w a b : List ℕ) → Sight v (w ∷ a ∷ b ∷ [])
-sight_three v w a b = by (either_way (length a == 0))
+looks_three : (v : Version) (w a b : List ℕ) → LooksRight v (w ∷ a ∷ b ∷ [])
+looks_three v w a b = by (either_way (length a == 0))
   where
     P : Option Fault
     P = number_fault (is_signed b) (constant_of b)
@@ -278,50 +278,50 @@ sight_three v w a b = by (either_way (length a == 0))
     S : Option Fault
     S = number_fault (is_number b) (constant_of b)
 
-    param : 0 < length a → w ≡ codes "param" → (is_signed b ≡ true) ⊎ (is_signed b ≡ false) → Sight v (w ∷ a ∷ b ∷ [])
-    param h e (inl num) = seen v param_row (w ∷ a ∷ b ∷ []) (record { in_version = tt; alike = (e, (h, (num, tt))) })
+    param : 0 < length a → w ≡ codes "param" → (is_signed b ≡ true) ⊎ (is_signed b ≡ false) → LooksRight v (w ∷ a ∷ b ∷ [])
+    param h e (inl num) = right_as v param_row (w ∷ a ∷ b ∷ []) (record { in_version = tt; alike = (e, (h, (num, tt))) })
     param h e (inr num) = inl (ap (λ x. line_fault v (x ∷ a ∷ b ∷ [])) e ∙ past_name a (number_fault (is_signed b) (constant_of b)) h ∙ ap (λ t. number_fault t (constant_of b)) num)
 
-    solve : 0 < length a → w ≡ codes "solve" → (is_number b ≡ true) ⊎ (is_number b ≡ false) → Sight v (w ∷ a ∷ b ∷ [])
-    solve h e (inl num) = seen v solve_row (w ∷ a ∷ b ∷ []) (record { in_version = tt; alike = (e, (h, (num, tt))) })
+    solve : 0 < length a → w ≡ codes "solve" → (is_number b ≡ true) ⊎ (is_number b ≡ false) → LooksRight v (w ∷ a ∷ b ∷ [])
+    solve h e (inl num) = right_as v solve_row (w ∷ a ∷ b ∷ []) (record { in_version = tt; alike = (e, (h, (num, tt))) })
     solve h e (inr num) = inl (ap (λ x. line_fault v (x ∷ a ∷ b ∷ [])) e ∙ past_name a (number_fault (is_number b) (constant_of b)) h ∙ ap (λ t. number_fault t (constant_of b)) num)
 
-    last : (length a == 0) ≡ false → bytes_eq w (codes "param") ≡ false → bytes_eq w (codes "solve") ≡ false → turns w b ≡ false → (referring_fault v w b ≡ Some BadWord) ⊎ ((row : Row) × HasShape v row (w ∷ a ∷ b ∷ [])) → Sight v (w ∷ a ∷ b ∷ [])
+    last : (length a == 0) ≡ false → bytes_eq w (codes "param") ≡ false → bytes_eq w (codes "solve") ≡ false → turns w b ≡ false → (referring_fault v w b ≡ Some BadWord) ⊎ ((row : Row) × HasShape v row (w ∷ a ∷ b ∷ [])) → LooksRight v (w ∷ a ∷ b ∷ [])
     last z n m t (inl f) = inl ((λ i. cond (z i) (Some BadWord) (cond (n i) (number_fault (is_signed b) (constant_of b)) (cond (m i) (number_fault (is_number b) (constant_of b)) (cond (t i) None (referring_fault v w b))))) ∙ f)
     last z n m t (inr s) = inr s
 
-    rest : (length a == 0) ≡ false → (w ≡ codes "param") ⊎ (bytes_eq w (codes "param") ≡ false) → (w ≡ codes "solve") ⊎ (bytes_eq w (codes "solve") ≡ false) → ((w ≡ codes "library") × ((b ≡ codes "up") ⊎ (b ≡ codes "down"))) ⊎ (turns w b ≡ false) → Sight v (w ∷ a ∷ b ∷ [])
+    rest : (length a == 0) ≡ false → (w ≡ codes "param") ⊎ (bytes_eq w (codes "param") ≡ false) → (w ≡ codes "solve") ⊎ (bytes_eq w (codes "solve") ≡ false) → ((w ≡ codes "library") × ((b ≡ codes "up") ⊎ (b ≡ codes "down"))) ⊎ (turns w b ≡ false) → LooksRight v (w ∷ a ∷ b ∷ [])
     rest z (inl e) q r = param (some_name a z) e (either_way (is_signed b))
     rest z (inr n) (inl e) r = solve (some_name a z) e (either_way (is_number b))
-    rest z (inr n) (inr m) (inl e) = seen v library_row (w ∷ a ∷ b ∷ []) (record { in_version = tt; alike = (e.0, (some_name a z, (e.1, tt))) })
-    rest z (inr n) (inr m) (inr t) = last z n m t (sight_ref v w a b (some_name a z))
+    rest z (inr n) (inr m) (inl e) = right_as v library_row (w ∷ a ∷ b ∷ []) (record { in_version = tt; alike = (e.0, (some_name a z, (e.1, tt))) })
+    rest z (inr n) (inr m) (inr t) = last z n m t (looks_ref v w a b (some_name a z))
 
-    by : ((length a == 0) ≡ true) ⊎ ((length a == 0) ≡ false) → Sight v (w ∷ a ∷ b ∷ [])
+    by : ((length a == 0) ≡ true) ⊎ ((length a == 0) ≡ false) → LooksRight v (w ∷ a ∷ b ∷ [])
     by (inl z) = inl (ap (λ t. cond t (Some BadWord) (cond (bytes_eq w (codes "param")) (number_fault (is_signed b) (constant_of b)) (cond (bytes_eq w (codes "solve")) (number_fault (is_number b) (constant_of b)) (cond (turns w b) None (referring_fault v w b))))) z)
     by (inr z) = rest z (decide w (codes "param")) (decide w (codes "solve")) (turns_or_not w b)
 
-sight_four : (v : Version) (w a c d : List ℕ) → Sight v (w ∷ a ∷ c ∷ d ∷ [])
-sight_four v w a c d = by (decide w (codes "length")) (either_way (length a == 0)) (decide c (codes "U")) (decide c (codes "C"))
+looks_four : (v : Version) (w a c d : List ℕ) → LooksRight v (w ∷ a ∷ c ∷ d ∷ [])
+looks_four v w a c d = by (decide w (codes "length")) (either_way (length a == 0)) (decide c (codes "U")) (decide c (codes "C"))
   where
     R : Option Fault
     R = cond (bytes_eq d (codes "method")) None (number_fault (is_number d) (constant_of d))
 
-    last : w ≡ codes "length" → 0 < length a → (c ≡ codes "U") ⊎ (c ≡ codes "C") → (d ≡ codes "method") ⊎ (bytes_eq d (codes "method") ≡ false) → (is_number d ≡ true) ⊎ (is_number d ≡ false) → Sight v (w ∷ a ∷ c ∷ d ∷ [])
-    last e h s (inl m) q = seen v length_row (w ∷ a ∷ c ∷ d ∷ []) (record { in_version = tt; alike = (e, (h, (s, (m, tt)))) })
-    last e h s (inr m) (inl num) = seen v length_by_row (w ∷ a ∷ c ∷ d ∷ []) (record { in_version = tt; alike = (e, (h, (s, (num, tt)))) })
+    last : w ≡ codes "length" → 0 < length a → (c ≡ codes "U") ⊎ (c ≡ codes "C") → (d ≡ codes "method") ⊎ (bytes_eq d (codes "method") ≡ false) → (is_number d ≡ true) ⊎ (is_number d ≡ false) → LooksRight v (w ∷ a ∷ c ∷ d ∷ [])
+    last e h s (inl m) q = right_as v length_row (w ∷ a ∷ c ∷ d ∷ []) (record { in_version = tt; alike = (e, (h, (s, (m, tt)))) })
+    last e h s (inr m) (inl num) = right_as v length_by_row (w ∷ a ∷ c ∷ d ∷ []) (record { in_version = tt; alike = (e, (h, (s, (num, tt)))) })
     last e h s (inr m) (inr num) = inl (ap (λ x. line_fault v (x ∷ a ∷ c ∷ d ∷ [])) e ∙ past_side a c d h s ∙ (λ i. cond (m i) None (number_fault (num i) (constant_of d))))
 
-    by : (w ≡ codes "length") ⊎ (bytes_eq w (codes "length") ≡ false) → ((length a == 0) ≡ true) ⊎ ((length a == 0) ≡ false) → (c ≡ codes "U") ⊎ (bytes_eq c (codes "U") ≡ false) → (c ≡ codes "C") ⊎ (bytes_eq c (codes "C") ≡ false) → Sight v (w ∷ a ∷ c ∷ d ∷ [])
+    by : (w ≡ codes "length") ⊎ (bytes_eq w (codes "length") ≡ false) → ((length a == 0) ≡ true) ⊎ ((length a == 0) ≡ false) → (c ≡ codes "U") ⊎ (bytes_eq c (codes "U") ≡ false) → (c ≡ codes "C") ⊎ (bytes_eq c (codes "C") ≡ false) → LooksRight v (w ∷ a ∷ c ∷ d ∷ [])
     by (inr n) p q r = inl (ap (λ t. cond (not t || ((length a == 0) || not (bytes_eq c (codes "U") || bytes_eq c (codes "C")))) (Some BadWord) (cond (bytes_eq d (codes "method")) None (number_fault (is_number d) (constant_of d)))) n)
     by (inl e) (inl z) q r = inl (ap (λ x. line_fault v (x ∷ a ∷ c ∷ d ∷ [])) e ∙ ap (λ t. cond (t || not (bytes_eq c (codes "U") || bytes_eq c (codes "C"))) (Some BadWord) (cond (bytes_eq d (codes "method")) None (number_fault (is_number d) (constant_of d)))) z)
     by (inl e) (inr z) (inl s) r = last e (some_name a z) (inl s) (decide d (codes "method")) (either_way (is_number d))
     by (inl e) (inr z) (inr n) (inl s) = last e (some_name a z) (inr s) (decide d (codes "method")) (either_way (is_number d))
     by (inl e) (inr z) (inr n) (inr m) = inl (ap (λ x. line_fault v (x ∷ a ∷ c ∷ d ∷ [])) e ∙ (λ i. cond (z i || not (n i || m i)) (Some BadWord) (cond (bytes_eq d (codes "method")) None (number_fault (is_number d) (constant_of d)))))
 
-pub sight : (v : Version) (ws : List (List ℕ)) → Sight v ws
-sight v [] = inl refl
-sight v (a ∷ []) = sight_one v a
-sight v (a ∷ b ∷ []) = sight_two v a b
-sight v (a ∷ b ∷ c ∷ []) = sight_three v a b c
-sight v (a ∷ b ∷ c ∷ d ∷ []) = sight_four v a b c d
-sight v (a ∷ b ∷ c ∷ d ∷ f ∷ more) = inl refl
+pub looks_right : (v : Version) (ws : List (List ℕ)) → LooksRight v ws
+looks_right v [] = inl refl
+looks_right v (a ∷ []) = looks_one v a
+looks_right v (a ∷ b ∷ []) = looks_two v a b
+looks_right v (a ∷ b ∷ c ∷ []) = looks_three v a b c
+looks_right v (a ∷ b ∷ c ∷ d ∷ []) = looks_four v a b c d
+looks_right v (a ∷ b ∷ c ∷ d ∷ f ∷ more) = inl refl
