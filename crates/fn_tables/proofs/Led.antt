@@ -7,12 +7,13 @@ use Rattle.fn_bits.specs.Number.{enc, num}
 use Rattle.fn_bits.proofs.Numbers.{length-enc, enc-num, num-below}
 use Rattle.fn_cert.specs.declared.certificate.Node.{Node}
 use Rattle.fn_cert.specs.declared.certificate.Node.TheVariants as node
-use Rattle.fn_rules.specs.Trees.{way, is_number}
+use Rattle.fn_rules.specs.Trees.{way, leads, is_number}
 use Rattle.fn_tables.specs.declared.table.Start.{Start}
 use Rattle.fn_tables.specs.Tables.{passed, entry}
 use Rattle.fn_tables.specs.Kept.{past, IsStart}
-use Rattle.fn_tables.specs.Walking.{Shows, IsOn}
+use Rattle.fn_tables.specs.Walking.{Shows, IsOn, IsSame}
 use Rattle.fn_tables.proofs.Passing.{by_window, goes_on, way_past}
+use Rattle.fn_tables.proofs.Sized.{at_front}
 
 -- ---- what a number of bits shows
 
@@ -70,6 +71,18 @@ module _ (es : List ℕ) (nodes : List Node) (place o : ℕ) (s : Start) (v : �
         further = omega (arith, own, to);
         same = sym (by_window bits (enc s.width v) o shows refs args 0 (drop place nodes) ∙ ap (λ x. way refs bits args 0 x) on);
       }
+
+-- the test that stands at a place
+pub test_at : (nodes : List Node) (place o : ℕ) → slice_get nodes place ≡ Some (node.Bit o) → drop place nodes ≡ node.Bit o ∷ drop (place + 1) nodes
+test_at nodes place o e = at_front nodes place (node.Bit o) (node.Bit o) (slice_get_within nodes place (node.Bit o) e) (get_or_from_slice_get nodes place (node.Bit o) (node.Bit o) e)
+
+-- the leaf at a place to which the way leads from the first node
+pub leaf_told : (refs : ℕ → Option ℤ) (bits : List Bool) (args : List ℤ) (nodes : List Node) (place k : ℕ) → IsSame bits nodes 0 place → slice_get nodes place ≡ Some (node.Leaf k) → way refs bits args 0 nodes ≡ leads k
+leaf_told refs bits args nodes place k same e =
+    let here : drop place nodes ≡ node.Leaf k ∷ drop (place + 1) nodes =
+    at_front nodes place (node.Leaf k) (node.Leaf k) (slice_get_within nodes place (node.Leaf k) e) (get_or_from_slice_get nodes place (node.Leaf k) (node.Leaf k) e) in
+    let from_first : way refs bits args 0 (drop place nodes) ≡ way refs bits args 0 nodes = same refs args in
+    sym from_first ∙ ap (λ x. way refs bits args 0 x) here
 
 -- ---- by the node alone
 

@@ -106,7 +106,6 @@ fn step(
 }
 
 /// The node to which the tables lead from the place, one after the other: the place itself, where none begins there or where not all its bits are there.
-#[inline(never)]
 pub(crate) fn looked_up(
     entries: &[u16],
     tables: &TreeTables,

@@ -86,17 +86,7 @@ impl Tables {
             return Ok(Picked::Format(format));
         }
         follow(
-            alloc,
-            entries,
-            tables,
-            nodes,
-            begin,
-            context,
-            path,
-            formats,
-            arguments,
-            cursor,
-            from,
+            alloc, entries, tables, nodes, begin, context, path, formats, arguments, cursor, from,
         )
     }
 

@@ -13,7 +13,7 @@ returns-in-Parameter c = λ refs.
     by_its_test refs (drop c.args.from c.args.cursor.now.left) c.args.arguments.now c.args.nodes.now c.args.place c.subtree.result c.in-Parameter.parameter c.in-Parameter.constant c.is_at-is_other.result
     (at_front c.args.nodes.now c.args.place _ _ c.requires.within c.in-Parameter.is) is c.subtree.ensures.first c.subtree.ensures.second
 
-pub returns-in-Some-bit_at : goal.returns-in-Some-bit_at
-returns-in-Some-bit_at c = λ refs.
-    by_its_bit refs (drop c.args.from c.args.cursor.now.left) c.args.arguments.now c.args.nodes.now c.args.place c.subtree-in-Some-bit_at.result c.in-Bit.offset c.in-Some-bit_at.bit
-    (at_front c.args.nodes.now c.args.place _ _ c.requires.within c.in-Bit.is) c.in-Some-bit_at.ensures c.subtree-in-Some-bit_at.ensures.first c.subtree-in-Some-bit_at.ensures.second
+pub returns-in-Some : goal.returns-in-Some
+returns-in-Some c = λ refs.
+    by_its_bit refs (drop c.args.from c.args.cursor.now.left) c.args.arguments.now c.args.nodes.now c.args.place c.subtree-in-Some.result c.in-Bit.offset c.in-Some.bit
+    (at_front c.args.nodes.now c.args.place _ _ c.requires.within c.in-Bit.is) c.in-Some.ensures c.subtree-in-Some.ensures.first c.subtree-in-Some.ensures.second
