@@ -1,9 +1,9 @@
 //! Packs and unpacks headers by a profile in the ROHC formal notation.
 #![tactic(auto)]
 
-use rohcfn_tool::counted::Uncounted;
+use rohcfn_input::counted::Uncounted;
+use rohcfn_input::status::{Failure, Status};
 use rohcfn_tool::program::run;
-use rohcfn_tool::status::{Failure, Status};
 use std::io::Eprint;
 use std::process::ExitCode;
 use std::{env, io};

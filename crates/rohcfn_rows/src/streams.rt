@@ -1,8 +1,8 @@
 //! A run over readers and writers that give or take few octets, fail or stop.
 
-use rohcfn_tool::counted::Uncounted;
+use rohcfn_input::counted::Uncounted;
+use rohcfn_input::status::{Failure, Status};
 use rohcfn_tool::program::{Outcome, run};
-use rohcfn_tool::status::{Failure, Status};
 use std::alloc::{AllocError, Global};
 use std::io;
 use std::io::{ErrorKind, Read, Write};

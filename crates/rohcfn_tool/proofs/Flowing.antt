@@ -15,15 +15,15 @@ use Rattle.fn_line.specs.declared.fault.LineFault.{LineFault}
 use Rattle.fn_line.specs.declared.runs.Event.{Event}
 use Rattle.fn_line.specs.declared.runs.RunFault.{RunFault}
 use Rattle.fn_line.specs.declared.runs.RunFault.TheVariants as run
-use Rattle.rohcfn_tool.specs.declared.status.Answer.{Answer}
-use Rattle.rohcfn_tool.specs.declared.status.Status.{Status}
-use Rattle.rohcfn_tool.specs.declared.status.Status.TheVariants as status
+use Rattle.rohcfn_input.specs.declared.status.Answer.{Answer}
+use Rattle.rohcfn_input.specs.declared.status.Status.{Status}
+use Rattle.rohcfn_input.specs.declared.status.Status.TheVariants as status
 use Rattle.rohcfn_tool.specs.Events.{IsEvent}
-use Rattle.rohcfn_tool.specs.Inputs.{IsBadLine}
+use Rattle.rohcfn_input.specs.Inputs.{IsBadLine}
 use Rattle.rohcfn_tool.specs.Lined.{AnsweredEvents, AreItemLines, IsEventFault, IsItemPushed, IsPushed, IsRefusedBy, IsSentPrinted, PrintsReceived, PrintsSent, all_received, all_sent, bad_event, bad_event_text, one_refused, up_to_fault}
-use Rattle.rohcfn_tool.specs.OneLine.{IsLine}
-use Rattle.rohcfn_tool.specs.Printed.{Holds, IsRefusal}
-use Rattle.rohcfn_tool.proofs.Replying.{refusal_is}
+use Rattle.rohcfn_input.specs.OneLine.{IsLine}
+use Rattle.rohcfn_input.specs.Refusals.{Holds, IsRefusal}
+use Rattle.rohcfn_input.proofs.AnswersHeld.{refusal_is}
 
 -- events of which a line can't be read
 pub bad_events_are : (a : Accepting) (input : List ℕ) (n m : ℕ) (written : List ℕ) (r : Result Answer AllocError) → IsBadLine IsEvent input n → written ≡ bad_event_text m → m ≡ n → IfOk r (IsRefusal written)

@@ -9,54 +9,17 @@ use Rattle.fn_context.specs.Entries.{Entries}
 use Rattle.fn_context.specs.Text.{IsContextText}
 use Rattle.fn_filling.specs.declared.filling.Filling.{Filling}
 use Rattle.fn_filling.specs.Entries.{next}
-use Rattle.fn_source.specs.declared.fault.Fault.{Fault}
-use Rattle.fn_normal.specs.declared.fault.ProfileFault.{ProfileFault}
-use Rattle.fn_names.specs.Readings.{HasCause, IsTextFault, Reads}
-use Rattle.fn_profile.specs.Resolved.{Resolved}
-use Rattle.fn_show.specs.Shown as listing
-use Rattle.rohcfn_tool.specs.declared.status.Answer.{Answer}
-use Rattle.rohcfn_tool.specs.declared.status.Status.{Status}
-use Rattle.rohcfn_tool.specs.declared.status.Status.TheVariants as status
+use Rattle.rohcfn_input.specs.declared.status.Answer.{Answer}
+use Rattle.rohcfn_input.specs.declared.status.Status.{Status}
+use Rattle.rohcfn_input.specs.declared.status.Status.TheVariants as status
 use Rattle.fn_checker.specs.Accepted.{Accepting}
-use Rattle.rohcfn_tool.specs.declared.inputs.BadLine.{BadLine}
-use Rattle.rohcfn_tool.specs.declared.inputs.BadLine.TheVariants as bad
-use Rattle.rohcfn_tool.specs.declared.words.Direction.{Direction}
-use Rattle.rohcfn_tool.specs.Inputs.{BlamesContext}
-use Rattle.rohcfn_tool.specs.Printed.{AnsweredFor, bad_context, context_line, Holds, IsBadInput, IsEnd, IsFinished, IsRefusal, IsStep, AnsweredIn, Prints, ShownBy, Shows, bad_line, bad_line_text, done, line, fault, listed, no_listing}
-use Rattle.rohcfn_tool.specs.ProfileLines.{IsFaultLine, cause_line, text_fault, text_line, profile_fault}
-
--- one line that refuses
-pub refusal_is : (P : Status → List ℕ → Type 0) (text written : List ℕ) (r : Result Answer AllocError) → P status.Refused (text ++ 10 ∷ []) → written ≡ text → IfOk r (IsRefusal written) → IfOk r (Holds P)
-refusal_is P text written (Err e) h is g = tt
-refusal_is P text written (Ok a) h is g =
-    let Q : Status → Type 0 = λ s. P s (string_bytes a.output) in
-    subst Q (sym g.status_is) (subst (P status.Refused) (ap (λ x. x ++ 10 ∷ []) (sym is) ∙ sym g.line_is) h)
-
--- an answer of which more is so
-pub passed_on : (P Q : Status → List ℕ → Type 0) (r : Result Answer AllocError) → ((s : Status) (out : List ℕ) → P s out → Q s out) → IfOk r (Holds P) → IfOk r (Holds Q)
-passed_on P Q (Err e) f h = tt
-passed_on P Q (Ok a) f h = f a.status (string_bytes a.output) h
-
--- ---- a fault of a profile
-
-pub line_of_text : (top octets : List ℕ) (f : Fault) (r : Result (String Global) AllocError) → IsTextFault octets f → IfOk r (λ text. string_bytes text ≡ text_line octets f)
-    → IfOk r (λ text. IsFaultLine top octets (string_bytes text))
-line_of_text top octets f (Ok text) h e = subst (λ x. IsFaultLine top octets x) (sym e) (text_fault f h)
-line_of_text top octets f (Err e) h is = tt
-
-pub line_of_cause : (top octets : List ℕ) (f : ProfileFault) (r : Result (String Global) AllocError) → HasCause octets top f → IfOk r (λ text. string_bytes text ≡ cause_line octets f)
-    → IfOk r (λ text. IsFaultLine top octets (string_bytes text))
-line_of_cause top octets f (Ok text) h e = subst (λ x. IsFaultLine top octets x) (sym e) (profile_fault f h)
-line_of_cause top octets f (Err e) h is = tt
-
-pub all_listed : (top name octets : List ℕ) (p : Resolved) (output : String Global) → name ≡ top → Reads octets name p → string_bytes output ≡ listing.shown octets p.methods p.sizes → Shows top octets (record { status = status.Done; output = output })
-all_listed top name octets p output n h e =
-    let P : List ℕ → Type 0 = λ out. ShownBy top octets status.Done out in
-    let Q : List ℕ → Type 0 = λ x. Reads octets x p in
-    subst P (sym e) (listed p (subst Q n h))
-
-pub refused_listing : (top name profile text written : List ℕ) (r : Result Answer AllocError) → name ≡ top → IsFaultLine name profile text → written ≡ text → IfOk r (IsRefusal written) → IfOk r (Shows top profile)
-refused_listing top name profile text written r n h e g = refusal_is (ShownBy top profile) text written r (no_listing text (subst (λ x. IsFaultLine x profile text) n h)) e g
+use Rattle.rohcfn_input.specs.declared.inputs.BadLine.{BadLine}
+use Rattle.rohcfn_input.specs.declared.inputs.BadLine.TheVariants as bad
+use Rattle.rohcfn_words.specs.declared.words.Direction.{Direction}
+use Rattle.rohcfn_input.specs.Inputs.{BlamesContext}
+use Rattle.rohcfn_tool.specs.Printed.{AnsweredFor, bad_context, context_line, IsBadInput, IsEnd, IsFinished, IsStep, AnsweredIn, Prints, bad_line, bad_line_text, done, line, fault}
+use Rattle.rohcfn_input.specs.Refusals.{Holds, IsRefusal}
+use Rattle.rohcfn_input.proofs.AnswersHeld.{refusal_is}
 
 -- ---- a line for each input
 

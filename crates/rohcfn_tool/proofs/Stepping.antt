@@ -1,7 +1,6 @@
 -- The line of one item or packet.
-use Rattle.std.proofs.Common.{◌≡◌, ◌∙◌, ℕ, Bool, List, [], ◌∷◌, ◌++◌, drop, get_or, length, ◌<◌, ◌≤◌, ◌+◌, map, codes, decimal, true, false, refl, ap, sym, subst, append_assoc}
+use Rattle.std.proofs.Common.{◌≡◌, ◌∙◌, ℕ, Bool, List, [], ◌∷◌, ◌++◌, ◌+◌, map, codes, decimal, true, false, refl, ap, sym, subst, append_assoc}
 use Rattle.std.specs.Prelude.{string_bytes}
-use Rattle.std.proofs.lemmas.List.{append-nil, drop_more, drop_all}
 use Rattle.fn_bits.specs.Cursor.{Place}
 use Rattle.fn_bits.specs.Text.{IsText}
 use Rattle.fn_context.specs.Entries.{Entries, overridden}
@@ -9,7 +8,6 @@ use Rattle.fn_normal.specs.declared.profile.Method.{Method}
 use Rattle.fn_profile.specs.Named.{AreWords}
 use Rattle.fn_profile.specs.Resolved.{IsSound, Resolved}
 use Rattle.fn_filling.specs.declared.filling.Item.{Item}
-use Rattle.fn_filling.specs.declared.filling.AskedValue.{AskedValue}
 use Rattle.fn_filling.specs.Fillings.{item}
 use Rattle.fn_checker.specs.Accepted.{Accepting}
 use Rattle.fn_engine.specs.Reading as reading
@@ -18,8 +16,8 @@ use Rattle.fn_engine.specs.declared.reader.Read.{Read}
 use Rattle.fn_engine.specs.declared.reader.UnpackFault.{UnpackFault}
 use Rattle.fn_engine.specs.declared.writer.PackFault.{PackFault}
 use Rattle.fn_engine.specs.declared.writer.Written.{Written}
-use Rattle.rohcfn_tool.specs.ItemTexts.{AreValuesText, HasMore, IsItemText, IsValueText}
-use Rattle.rohcfn_tool.proofs.OneLines.{packet_faults}
+use Rattle.rohcfn_input.specs.ItemTexts.{HasMore, IsItemText}
+use Rattle.rohcfn_tool.proofs.PacketLines.{packet_faults}
 use Rattle.rohcfn_tool.specs.Printed.{IsBitsLine, IsItemStep, IsPacketFault, IsPacketStep, IsReadLine, IsRefusedItem, IsRefusedPacket, IsTaken}
 
 -- ---- items
@@ -64,36 +62,3 @@ packet_faulted a n e p methods text line before after same shown is sound told g
 pub took_line : (it : Item) (count : ℕ) (before mid after : List ℕ) → HasMore (IsItemText it) before mid → after ≡ mid ++ codes " took " ++ decimal count ++ 10 ∷ [] → IsReadLine it count before after
 took_line it count before mid after h e =
     (h.0 ++ codes " took " ++ decimal count, (h.0, h.1, refl), e ∙ ap (λ m. m ++ codes " took " ++ decimal count ++ 10 ∷ []) h.2 ∙ (simp append_assoc))
-
--- ---- the text of an item
-
-pub item_grown : (it : Item) (values : List AskedValue) (before mid after : List ℕ) → HasMore (λ text. IsText text it.header) before mid → values ≡ it.asked → HasMore (AreValuesText values) mid after → HasMore (IsItemText it) before after
-item_grown it values before mid after h same g =
-    (h.0 ++ g.0, (h.0, g.0, h.1, subst (λ vs. AreValuesText vs g.0) same g.1, refl), g.2 ∙ ap (λ m. m ++ g.0) h.2 ∙ append_assoc before h.0 g.0)
-
--- the values so far are the front of all values
-abbrev pub ValuesSoFar : List AskedValue → List AskedValue → List ℕ → List ℕ → Type 0
-ValuesSoFar all left before now = HasMore (λ front. (rest : List ℕ) → AreValuesText left rest → AreValuesText all (front ++ rest)) before now
-
-pub values_start : (all : List AskedValue) (text : List ℕ) → ValuesSoFar all (drop 0 all) text text
-values_start all text = ([], λ rest h. h, sym (append-nil text))
-
-pub values_more : (values : List AskedValue) (i : ℕ) (d v : AskedValue) (before text new : List ℕ) → i < length values → v ≡ get_or values i d → ValuesSoFar values (drop i values) before text → HasMore (IsValueText v) text new
-    → ValuesSoFar values (drop (i + 1) values) before new
-values_more values i d v before text new inside at so_far is =
-    let here : drop i values ≡ v ∷ drop (i + 1) values = drop_more values i d inside ∙ ap (λ y. y ∷ drop (i + 1) values) (sym at) in (
-      so_far.0 ++ is.0,
-      λ rest more.
-          let all : AreValuesText (drop i values) (is.0 ++ rest) = subst (λ vs. AreValuesText vs (is.0 ++ rest)) (sym here) (is.0, rest, is.1, more, refl) in
-          subst (AreValuesText values) (sym (append_assoc so_far.0 is.0 rest)) (so_far.1 (is.0 ++ rest) all),
-      is.2 ∙ ap (λ t. t ++ is.0) so_far.2 ∙ append_assoc before so_far.0 is.0,
-    )
-
-pub values_end : (values : List AskedValue) (i : ℕ) (before text : List ℕ) → length values ≤ i → ValuesSoFar values (drop i values) before text → HasMore (AreValuesText values) before text
-values_end values i before text whole so_far =
-    let last : AreValuesText (drop i values) [] = subst (λ vs. AreValuesText vs []) (sym (drop_all i values whole)) refl in
-    (so_far.0, subst (AreValuesText values) (append-nil so_far.0) (so_far.1 [] last), so_far.2)
-
-pub value_grown : (v : AskedValue) (name before mid after : List ℕ) → name ≡ v.name → mid ≡ before ++ codes " " ++ name ++ codes "=" → HasMore (λ spelled. IsText spelled v.bits) mid after → HasMore (IsValueText v) before after
-value_grown v name before mid after same e h =
-    (codes " " ++ v.name ++ codes "=" ++ h.0, (h.0, h.1, refl), h.2 ∙ ap (λ m. m ++ h.0) (e ∙ ap (λ n. before ++ codes " " ++ n ++ codes "=") same) ∙ (simp append_assoc))

@@ -1,13 +1,11 @@
--- The lines of events, and octets in hex.
-use Rattle.std.specs.Prelude.{◌≡◌, ◌==◌, ◌<◌, ℕ, List, [], ◌∷◌, codes, decimal, filter, not, Ok}
+-- The lines of events.
+use Rattle.std.specs.Prelude.{◌≡◌, ◌==◌, ◌<◌, ℕ, List, [], ◌∷◌, codes, decimal}
 use Rattle.std.specs.List.{slice_split}
-use Rattle.hex.specs.Hex.{decode_of}
-use Rattle.fn_source.specs.Lexical.{is_space}
 use Rattle.fn_filling.specs.declared.filling.Item.{Item}
 use Rattle.fn_line.specs.Lines.{flow_count}
 use Rattle.fn_line.specs.declared.runs.Event.{Event}
 use Rattle.fn_line.specs.declared.runs.Event.TheVariants.{Send, Reset}
-use Rattle.rohcfn_tool.specs.Inputs.{AreItemWords}
+use Rattle.rohcfn_input.specs.Inputs.{AreItemWords}
 
 -- the word is the number of a flow
 pub record IsFlow (word : List ℕ) (flow : ℕ) : Type 0 where
@@ -40,11 +38,3 @@ IsSend text flow it = AreSendWords (slice_split (λ octet. octet == 32) text) fl
 
 abbrev pub IsReset : List ℕ → ℕ → Type 0
 IsReset text flow = AreResetWords (slice_split (λ octet. octet == 32) text) flow
-
--- the text less its white space
-abbrev pub without_space : List ℕ → List ℕ
-without_space text = filter (λ octet. not (is_space octet)) text
-
--- the text is read as these octets: two hex digits each, with white space anywhere
-abbrev pub AreOctets : List ℕ → List ℕ → Type 0
-AreOctets text octets = decode_of (without_space text) ≡ Ok octets

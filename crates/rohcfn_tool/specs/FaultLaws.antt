@@ -1,17 +1,16 @@
 -- A fault is one line, without a line feed.
 use Rattle.std.specs.Prelude.{ℕ, List}
 use Rattle.fn_line.specs.declared.fault.LineFault.{LineFault}
-use Rattle.rohcfn_tool.specs.declared.bundle.BadPart.{BadPart}
-use Rattle.rohcfn_tool.specs.declared.words.Direction.{Direction}
-use Rattle.rohcfn_tool.specs.declared.words.End.{End}
-use Rattle.rohcfn_tool.specs.declared.accepting.Origin.{Origin}
-use Rattle.rohcfn_tool.specs.Accepting.{RefusesProfile}
-use Rattle.rohcfn_tool.specs.Bundle.{BlamesPart}
+use Rattle.rohcfn_input.specs.declared.bundle.BadPart.{BadPart}
+use Rattle.rohcfn_words.specs.declared.words.Direction.{Direction}
+use Rattle.rohcfn_words.specs.declared.words.End.{End}
+use Rattle.rohcfn_report.specs.declared.accepting.Origin.{Origin}
+use Rattle.rohcfn_report.specs.Accepting.{RefusesProfile}
+use Rattle.rohcfn_input.specs.Bundle.{BlamesPart, shown_name}
 use Rattle.rohcfn_tool.specs.Lined.{IsLineFault, bad_event_text, bad_hex_text, line_part_name}
-use Rattle.rohcfn_tool.specs.OneLine.{IsLine}
+use Rattle.rohcfn_input.specs.OneLine.{IsLine}
 use Rattle.rohcfn_tool.specs.Printed.{bad_line_text, context_line, input_name}
-use Rattle.rohcfn_tool.specs.ProfileLines.{IsFaultLine}
-use Rattle.rohcfn_tool.specs.Program.{shown_name}
+use Rattle.rohcfn_report.specs.ProfileLines.{IsFaultLine}
 
 -- Each fault line is one line: those of items, packets, events and `prove` are so where they are printed (`Prints`, `PrintsSent`, `ProvedBy`); these are the
 -- others.

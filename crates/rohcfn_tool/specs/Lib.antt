@@ -1,16 +1,5 @@
-pub mod Accepting
-pub mod Bundle
-pub mod Counted
 pub mod Events
 pub mod FaultLaws
-pub mod Inputs
-pub mod ItemTexts
 pub mod Lined
-pub mod OneLine
 pub mod Printed
-pub mod ProfileLines
 pub mod Program
-pub mod Provings
-pub mod Status
-pub mod Verdicts
-pub mod Words

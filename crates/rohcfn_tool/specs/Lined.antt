@@ -14,19 +14,20 @@ use Rattle.fn_line.specs.declared.fault.LineFault.{LineFault}
 use Rattle.fn_line.specs.declared.fault.LineFault.TheVariants.{FlowOctet, RefusedPacket, Padding, Ended}
 use Rattle.fn_line.specs.declared.fault.LineFault.TheVariants as fault
 use Rattle.fn_line.specs.declared.runs.Event.{Event}
-use Rattle.rohcfn_tool.specs.declared.accepting.Origin.{Origin}
-use Rattle.rohcfn_tool.specs.declared.bundle.Parts.{Parts}
-use Rattle.rohcfn_tool.specs.declared.status.Answer.{Answer}
-use Rattle.rohcfn_tool.specs.declared.status.Status.{Status}
-use Rattle.rohcfn_tool.specs.declared.status.Status.TheVariants as status
-use Rattle.rohcfn_tool.specs.declared.words.End.{End}
-use Rattle.rohcfn_tool.specs.declared.words.End.TheVariants.{Sending, Receiving}
-use Rattle.rohcfn_tool.specs.declared.words.Order.{Order}
-use Rattle.rohcfn_tool.specs.Accepting.{AcceptsProfile, RefusesProfile, origin_of}
-use Rattle.rohcfn_tool.specs.Events.{AreOctets, IsEvent}
-use Rattle.rohcfn_tool.specs.Inputs.{HasLines, IsBadLine}
-use Rattle.rohcfn_tool.specs.ItemTexts.{IsItemText}
-use Rattle.rohcfn_tool.specs.OneLine.{IsLine}
+use Rattle.rohcfn_report.specs.declared.accepting.Origin.{Origin}
+use Rattle.rohcfn_input.specs.declared.bundle.Parts.{Parts}
+use Rattle.rohcfn_input.specs.declared.status.Answer.{Answer}
+use Rattle.rohcfn_input.specs.declared.status.Status.{Status}
+use Rattle.rohcfn_input.specs.declared.status.Status.TheVariants as status
+use Rattle.rohcfn_words.specs.declared.words.End.{End}
+use Rattle.rohcfn_words.specs.declared.words.End.TheVariants.{Sending, Receiving}
+use Rattle.rohcfn_words.specs.declared.words.Order.{Order}
+use Rattle.rohcfn_report.specs.Accepting.{AcceptsProfile, RefusesProfile, origin_of}
+use Rattle.rohcfn_input.specs.Octets.{AreOctets}
+use Rattle.rohcfn_tool.specs.Events.{IsEvent}
+use Rattle.rohcfn_input.specs.Inputs.{HasLines, IsBadLine}
+use Rattle.rohcfn_input.specs.ItemTexts.{IsItemText}
+use Rattle.rohcfn_input.specs.OneLine.{IsLine}
 
 -- a line for each item: its flow, a blank and its text
 abbrev pub AreItemLines : Found → List ℕ → Type 0

@@ -1,13 +1,10 @@
--- What is printed for a profile, and for a profile with a context and items or packets (docs/FORMATS.md).
+-- What is printed for a profile with a context and items or packets, and what is answered to an order (docs/FORMATS.md).
 use Rattle.std.specs.Prelude.{◌≡◌, ℕ, ◌+◌, Bool, true, false, List, [], ◌∷◌, ◌++◌, length, codes, decimal, Option, Some, None, string_bytes}
 use Rattle.std.specs.Borrow.{Bor}
 use Rattle.fn_bits.specs.Text.{IsText}
 use Rattle.fn_context.specs.Entries.{Entries, bits_at}
 use Rattle.fn_context.specs.Text.{IsContextText}
 use Rattle.fn_normal.specs.declared.profile.Method.{Method}
-use Rattle.fn_profile.specs.Resolved.{Resolved}
-use Rattle.fn_names.specs.Readings.{Reads}
-use Rattle.fn_show.specs.Shown as listing
 use Rattle.fn_filling.specs.declared.filling.Filling.{Filling}
 use Rattle.fn_filling.specs.declared.filling.Item.{Item}
 use Rattle.fn_filling.specs.Fillings.{packed, item}
@@ -21,26 +18,24 @@ use Rattle.fn_engine.specs.declared.reader.UnpackFault.{UnpackFault}
 use Rattle.fn_engine.specs.declared.reader.UnpackFault.TheVariants.{Truncated, Refused, OutOfMemory}
 use Rattle.fn_engine.specs.declared.writer.PackFault.{PackFault}
 use Rattle.fn_engine.specs.declared.writer.PackFault.TheVariants as writer
-use Rattle.fn_cert.specs.declared.certificate.Version.{Version}
-use Rattle.rohcfn_tool.specs.declared.accepting.Origin.{Origin}
-use Rattle.rohcfn_tool.specs.declared.bundle.Parts.{Parts}
-use Rattle.rohcfn_tool.specs.declared.status.Answer.{Answer}
-use Rattle.rohcfn_tool.specs.declared.status.Status.{Status}
-use Rattle.rohcfn_tool.specs.declared.status.Status.TheVariants as status
-use Rattle.rohcfn_tool.specs.declared.words.Command.TheVariants as command
-use Rattle.rohcfn_tool.specs.declared.words.Command.TheVariants.{Show, Check, Prove, Run}
-use Rattle.rohcfn_tool.specs.declared.words.Direction.{Direction}
-use Rattle.rohcfn_tool.specs.declared.words.Direction.TheVariants.{Pack, Unpack}
-use Rattle.rohcfn_tool.specs.declared.words.End.{End}
-use Rattle.rohcfn_tool.specs.declared.words.Order.{Order}
-use Rattle.rohcfn_tool.specs.Accepting.{AcceptsProfile, RefusesProfile, origin_of}
-use Rattle.rohcfn_tool.specs.Inputs.{HasLines, IsBadContext, IsBadLine, IsBits, IsItem, StartsAt}
-use Rattle.rohcfn_tool.specs.OneLine.{IsLine}
-use Rattle.rohcfn_tool.specs.ItemTexts.{IsItemText}
+use Rattle.rohcfn_input.specs.declared.bundle.Parts.{Parts}
+use Rattle.rohcfn_input.specs.declared.status.Answer.{Answer}
+use Rattle.rohcfn_input.specs.declared.status.Status.{Status}
+use Rattle.rohcfn_input.specs.declared.status.Status.TheVariants as status
+use Rattle.rohcfn_words.specs.declared.words.Command.TheVariants as command
+use Rattle.rohcfn_words.specs.declared.words.Command.TheVariants.{Show, Check, Prove, Run}
+use Rattle.rohcfn_words.specs.declared.words.Direction.{Direction}
+use Rattle.rohcfn_words.specs.declared.words.Direction.TheVariants.{Pack, Unpack}
+use Rattle.rohcfn_words.specs.declared.words.End.{End}
+use Rattle.rohcfn_words.specs.declared.words.Order.{Order}
+use Rattle.rohcfn_report.specs.Accepting.{AcceptsProfile, RefusesProfile, origin_of}
+use Rattle.rohcfn_input.specs.Inputs.{HasLines, IsBadContext, IsBadLine, IsBits, IsItem, StartsAt}
+use Rattle.rohcfn_input.specs.OneLine.{IsLine}
+use Rattle.rohcfn_input.specs.ItemTexts.{IsItemText}
 use Rattle.rohcfn_tool.specs.Lined.{Lined}
-use Rattle.rohcfn_tool.specs.ProfileLines.{IsFaultLine}
-use Rattle.rohcfn_tool.specs.Provings.{ProvedBy}
-use Rattle.rohcfn_tool.specs.Verdicts.{format_name, method_name}
+use Rattle.rohcfn_report.specs.Verdicts.{format_name, method_name}
+use Rattle.rohcfn_report.specs.Reports.{ShownBy, CheckedOctets, ProvedOctets}
+use Rattle.rohcfn_input.specs.Refusals.{Holds}
 
 -- ---- the line of an item or a packet
 
@@ -155,27 +150,6 @@ pub data AnsweredFor (direction : Direction) (shows : Bool) (a : Accepting) (con
 
 -- ---- by the octets of a profile
 
--- What is answered to `show`.
-pub data ShownBy (top octets : List ℕ) : Status → List ℕ → Type 0 where
-  -- the profile is at fault
-  no_listing : (text : List ℕ) → IsFaultLine top octets text → ShownBy top octets status.Refused (text ++ 10 ∷ [])
-  -- the methods, bounds and constraints of the normal form
-  listed : (p : Resolved) → Reads octets top p → ShownBy top octets status.Done (listing.shown octets p.methods p.sizes)
-
--- What is answered to `check`, by the octets of a profile, and by where its certificate comes from.
-pub data CheckedOctets (top profile : List ℕ) (origin : Origin) : Status → List ℕ → Type 0 where
-  -- something is wrong with one of them
-  refused : (text : List ℕ) → RefusesProfile top profile origin text → CheckedOctets top profile origin status.Refused (text ++ 10 ∷ [])
-  -- the certificate is valid for the profile that the octets stand for
-  accepted : (a : Accepting) → AcceptsProfile top profile origin a → CheckedOctets top profile origin status.Done (codes "accepted" ++ 10 ∷ [])
-
--- What is answered to `prove` for that version.
-pub data ProvedOctets (version : Version) (top octets : List ℕ) : Status → List ℕ → Type 0 where
-  -- the profile is at fault
-  none_proved : (text : List ℕ) → IsFaultLine top octets text → ProvedOctets version top octets status.Refused (text ++ 10 ∷ [])
-  -- by the profile that the octets stand for
-  proved_by : {s : Status} {output : List ℕ} (p : Resolved) → Reads octets top p → ProvedBy version p s output → ProvedOctets version top octets s output
-
 -- What is answered in a direction, by the octets of a profile, of its certificate and of a context, if there are such, and of items or packets.
 pub data AnsweredBy (direction : Direction) (order : Order) (profile : List ℕ) (parts : Parts) (input : List ℕ) : Status → List ℕ → Type 0 where
   -- something is wrong with the profile or its certificate
@@ -204,10 +178,6 @@ pub data Answered (order : Order) (parts : Parts) : Status → List ℕ → Type
 
 -- ---- the steps
 
--- an answer of which this is so
-abbrev pub Holds : (Status → List ℕ → Type 0) → Answer → Type 0
-Holds P a = P a.status (string_bytes a.output)
-
 abbrev pub Answers : Order → Parts → Answer → Type 0
 Answers order parts = Holds (Answered order parts)
 
@@ -222,20 +192,6 @@ AnswersFor direction shows a context input = Holds (AnsweredFor direction shows 
 
 abbrev pub AnswersIn : Direction → Bool → Accepting → Entries → List ℕ → Answer → Type 0
 AnswersIn direction shows a ctx input = Holds (AnsweredIn direction shows a ctx input)
-
-abbrev pub ChecksOctets : List ℕ → List ℕ → Origin → Answer → Type 0
-ChecksOctets top profile origin = Holds (CheckedOctets top profile origin)
-
-abbrev pub ProvesOctets : Version → List ℕ → List ℕ → Answer → Type 0
-ProvesOctets version top octets = Holds (ProvedOctets version top octets)
-
-abbrev pub Shows : List ℕ → List ℕ → Answer → Type 0
-Shows top octets = Holds (ShownBy top octets)
-
--- one line, which refuses
-pub record IsRefusal (text : List ℕ) (a : Answer) : Type 0 where
-  pub status_is : a.status ≡ status.Refused
-  pub line_is : string_bytes a.output ≡ text ++ 10 ∷ []
 
 -- these lines, and what follows the last
 pub record IsFinished (shows : Bool) (ctx : Entries) (lines : List ℕ) (a : Answer) : Type 0 where

@@ -1,46 +1,25 @@
 -- What the program prints.
-use Rattle.std.specs.Prelude.{◌≡◌, ◌<◌, ◌≤◌, ◌⊎◌, ◌==◌, ℕ, List, [], ◌∷◌, ◌++◌, Option, None, Some, if◌then◌else◌, length, filter, not, codes, option_and_then, string_bytes}
-use Rattle.std.specs.Str.{is_utf8}
-use Rattle.std.specs.Str.Lines.{lines}
-use Rattle.std.specs.List.{slice_split}
+use Rattle.std.specs.Prelude.{◌≡◌, ◌<◌, ◌≤◌, ◌⊎◌, ℕ, List, [], ◌∷◌, ◌++◌, Option, None, Some, length, codes, option_and_then, string_bytes}
 use Rattle.std.specs.Io.KnownBytes.{Appends, Keeps}
-pub use Rattle.rohcfn_tool.specs.Counted.{most_octets}
-use Rattle.rohcfn_tool.specs.Bundle.{BlamesPart, HoldsParts, IsBundle, parts_of, text_named}
+pub use Rattle.rohcfn_input.specs.Counted.{most_octets}
+use Rattle.rohcfn_input.specs.Bundle.{BlamesPart, HoldsParts, IsBundle, parts_of, text_named, shown_name}
 use Rattle.rohcfn_tool.specs.Printed.{Answered}
-use Rattle.rohcfn_tool.specs.Words.{AskHelp, AskJustHelp, asked, asked_of}
-use Rattle.rohcfn_tool.specs.declared.bundle.BadPart.{BadPart}
-use Rattle.rohcfn_tool.specs.declared.bundle.BadPart.TheVariants.{Front, Named}
-use Rattle.rohcfn_tool.specs.declared.bundle.Parts.{Parts}
-use Rattle.rohcfn_tool.specs.declared.program.Input.{Input}
-use Rattle.rohcfn_tool.specs.declared.program.Input.TheVariants.{Whole, Large}
+use Rattle.rohcfn_words.specs.Words.{AskHelp, AskJustHelp, asked, asked_of}
+use Rattle.rohcfn_input.specs.declared.bundle.BadPart.{BadPart}
+use Rattle.rohcfn_input.specs.declared.bundle.Parts.{Parts}
 use Rattle.rohcfn_tool.specs.declared.program.Outcome.{Outcome}
 use Rattle.rohcfn_tool.specs.declared.program.Reply.{Reply}
 use Rattle.rohcfn_tool.specs.declared.program.Reply.TheVariants.{Print, Tell}
-use Rattle.rohcfn_tool.specs.declared.status.Status.{Status}
-use Rattle.rohcfn_tool.specs.declared.status.Status.TheVariants.{Done, Refused, Usage, Failed}
-use Rattle.rohcfn_tool.specs.declared.words.Order.{Order}
+use Rattle.rohcfn_input.specs.declared.status.Status.{Status}
+use Rattle.rohcfn_input.specs.declared.status.Status.TheVariants.{Done, Refused, Usage, Failed}
+use Rattle.rohcfn_words.specs.declared.words.Order.{Order}
+use Rattle.rohcfn_input.specs.PartWords.{words_in}
 
 abbrev pub large_line : List ℕ
 large_line = codes "bundle: I6 above 4 MiB" ++ 10 ∷ []
 
 abbrev pub bad_part_line : List ℕ → List ℕ
 bad_part_line name = codes "bundle: I4 bad part " ++ name ++ 10 ∷ []
-
--- a part's name in a line: itself where it is text
-abbrev pub shown_name : BadPart → List ℕ
-shown_name Front = codes "-"
-shown_name (Named name) = if is_utf8 name.now then name.now else codes "-"
-
--- the words of the one line
-abbrev pub words_of_line : List (List ℕ) → Option (List (List ℕ))
-words_of_line [] = None
-words_of_line (line ∷ []) = Some (slice_split (λ octet. octet == 32) line)
-words_of_line (line ∷ other ∷ more) = None
-
--- the words in a part: its one line that isn't empty, cut at each blank
-abbrev pub words_in : List ℕ → Option (List (List ℕ))
-words_in text = if is_utf8 text
-    then words_of_line (filter (λ line. not (length line == 0)) (lines text)) else None
 
 -- the words of a call: those that are given, and with none those of the input
 abbrev pub words_of : List (List ℕ) → List ℕ → Option (List (List ℕ))
@@ -92,16 +71,6 @@ Gives given input status None old new = (output : List ℕ) × RunPrints given i
 
 abbrev pub RunGives : List (List ℕ) → List ℕ → Outcome → Option (List ℕ) → Option (List ℕ) → Type 0
 RunGives given input outcome old new = Gives given input outcome.status outcome.usage old new
-
--- the whole of what a reader had left, or that it is too long
-abbrev pub IsInput : List ℕ → Input → Type 0
-IsInput all (Whole input) = (input.items ≡ all) × (length all ≤ most_octets)
-IsInput all Large = most_octets < length all
-
--- what was read is no more than the program takes
-abbrev pub IsShortInput : Input → Type 0
-IsShortInput (Whole input) = length input.items ≤ most_octets
-IsShortInput Large = Unit {0}
 
 -- what the reply to an input is
 abbrev pub Replies : List (List ℕ) → List ℕ → Reply → Type 0

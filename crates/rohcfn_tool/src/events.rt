@@ -1,18 +1,16 @@
-//! The lines of events, and octets in hex.
+//! The lines of events.
 
 ghost use Rattle.std.specs.Prelude.{◌≡◌, ℕ, List, IfOk, IfErr, IfSome, IfNone, map};
-ghost use Rattle.fn_source.specs.Lexical.{is_space};
 ghost use Rattle.fn_filling.specs.declared.filling.Item.{Item};
 ghost use Rattle.fn_line.specs.declared.runs.Event.{Event};
-ghost use Rattle.rohcfn_tool.specs.Events.{AreOctets, AreResetWords, IsEvent, IsFlow, IsReset, IsSend, without_space};
-ghost use Rattle.rohcfn_tool.specs.Inputs.{BlamesLine, HasLines};
+ghost use Rattle.rohcfn_tool.specs.Events.{AreResetWords, IsEvent, IsFlow, IsReset, IsSend};
+ghost use Rattle.rohcfn_input.specs.Inputs.{BlamesLine, HasLines};
 
-use crate::inputs::{BadLine, bad_line_of, pieces, read_item};
 use fn_bits::lines::lines;
 use fn_filling::Item;
 use fn_line::{Event, Flow};
-use hex::FromHexError;
 use itoa::Buffer;
+use rohcfn_input::inputs::{BadLine, bad_line_of, pieces, read_item};
 use std::alloc::{AllocError, Global};
 
 /// The events of the lines of a part, the empty lines left out. All lines are read before any is used.
@@ -111,37 +109,4 @@ fn read_flow(word: &str) -> Option<Flow>
     } else {
         None
     }
-}
-
-/// The octets of hex digits of either case with white space anywhere, or `None` where the text is none of an octet each two digits.
-pub fn read_octets(alloc: Global, text: &[u8]) -> Result<Option<Vec<u8>>, AllocError>
-    ensures found { IfOk result (λ o. IfSome o (λ v. AreOctets text.now v.items)) }
-    ensures none { IfOk result (λ o. IfNone o ((octets : List ℕ) → AreOctets text.now octets → ⊥)) }
-{
-    let digits = digits_in(alloc, text)?;
-    match hex::decode(alloc, digits.as_slice()) {
-        Ok(octets) => Ok(Some(octets)),
-        Err(FromHexError::OutOfMemory) => Err(AllocError),
-        Err(_) => Ok(None),
-    }
-}
-
-/// A text less its white space.
-fn digits_in(alloc: Global, text: &[u8]) -> Result<Vec<u8>, AllocError>
-    ensures { IfOk result (λ digits. digits.items ≡ without_space text.now) }
-{
-    let mut digits = Vec::with_capacity(alloc, text.len())?;
-    for octet in text {
-        if !is_blank(*octet) {
-            digits.push(*octet)?;
-        }
-    }
-    Ok(digits)
-}
-
-/// Whether the octet is white space: a space, tab, CR, LF or form feed.
-fn is_blank(octet: u8) -> bool
-    ensures { result ≡ is_space octet }
-{
-    octet == b' ' || octet == b'\t' || octet == b'\r' || octet == b'\n' || octet == 12
 }

@@ -1,23 +1,24 @@
 //! What is answered to `line`.
 
 ghost use Rattle.std.specs.Prelude.{◌≡◌, ◌++◌, IfOk, OnOk, codes, decimal, string_bytes};
-ghost use Rattle.rohcfn_tool.specs.Accepting.{origin_of};
+ghost use Rattle.rohcfn_report.specs.Accepting.{origin_of};
 ghost use Rattle.rohcfn_tool.specs.Lined as spec;
-ghost use Rattle.rohcfn_tool.specs.OneLine.{IsLine};
+ghost use Rattle.rohcfn_input.specs.OneLine.{IsLine};
 
-use crate::accepting::{Judged, Origin, accept};
-use crate::bundle::Parts;
-use crate::events::{read_events, read_octets};
-use crate::inputs::BadLine;
-use crate::printing::{push_item_text, push_line};
-use crate::replies::refusal;
-use crate::status::{Answer, Status};
-use crate::words::{End, Order};
+use crate::events::read_events;
 use fn_checker::Accepted;
 use fn_engine::PackFault;
 use fn_filling::Item;
 use fn_line::{Event, Flow, LineFault, Received, RunFault, Sent, receive, run};
 use itoa::Buffer;
+use rohcfn_input::bundle::Parts;
+use rohcfn_input::inputs::BadLine;
+use rohcfn_input::octets::read_octets;
+use rohcfn_input::refusals::refusal;
+use rohcfn_input::spelling::{push_item_text, push_line};
+use rohcfn_input::status::{Answer, Status};
+use rohcfn_report::accepting::{Judged, Origin, accept};
+use rohcfn_words::words::{End, Order};
 use std::alloc::{AllocError, Global};
 
 /// The answer to `line`: at the sending end the octets of the events and the items that a receiver gives of them, at the receiving end the items of

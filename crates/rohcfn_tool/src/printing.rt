@@ -1,21 +1,20 @@
 //! The lines for items and packets.
 
 ghost use Rattle.std.specs.Prelude.{◌≡◌, ◌∷◌, ◌++◌, [], true, IfOk, OnOk, codes, decimal, string_bytes};
-ghost use Rattle.rohcfn_tool.specs.OneLine.{IsLine};
-ghost use Rattle.rohcfn_tool.specs.ItemTexts.{AreValuesText, HasMore, IsItemText, IsValueText};
+ghost use Rattle.rohcfn_input.specs.OneLine.{IsLine};
 ghost use Rattle.rohcfn_tool.specs.Printed as spec;
 
-use crate::spelling::push_bits;
-use crate::status::{Answer, Status};
-use crate::verdicts::{format_name, method_name};
 use fn_bits::{Bits, Cursor};
 use fn_checker::Accepted;
 use fn_context::Context;
 use fn_engine::{PackFault, Read, UnpackFault, Written, pack, unpack};
-use fn_filling::{AskedValue, Item};
+use fn_filling::Item;
 use fn_normal::Method;
 use fn_reader::Blamed;
 use itoa::Buffer;
+use rohcfn_input::spelling::{push_bits, push_item_text, push_line};
+use rohcfn_input::status::{Answer, Status};
+use rohcfn_report::verdicts::{format_name, method_name};
 use std::alloc::{AllocError, Global};
 
 /// A line of packed bits for each item, up to the first that is refused, and after the last the context that is reached, where it is wanted.
@@ -64,13 +63,6 @@ pub(crate) fn unpack_all(
         }
     }
     finish(alloc, shows, output, &context)
-}
-
-pub(crate) fn push_line(output: &mut String, line: &str) -> Result<(), AllocError>
-    ensures { OnOk result (string_bytes output.new ≡ string_bytes output.old ++ line.now ++ 10 ∷ []) }
-{
-    output.push_str(line)?;
-    output.push('\n')
 }
 
 /// The lines, and the context after them where it is wanted.
@@ -256,46 +248,6 @@ fn push_took(text: &mut String, bits: usize) -> Result<(), AllocError>
     let mut buffer = Buffer::new();
     text.push_str(" took ")?;
     push_line(text, buffer.format(bits))
-}
-
-/// Adds the text of an item: its header, then each value after a blank.
-pub(crate) fn push_item_text(
-    alloc: Global,
-    text: &mut String,
-    item: &Item,
-) -> Result<(), AllocError>
-    ensures { OnOk result (HasMore (IsItemText item.now) (string_bytes text.old) (string_bytes text.new)) }
-{
-    push_bits(alloc, text, &item.header)?;
-    push_values(alloc, text, item.asked.as_slice())?;
-    Ok(())
-}
-
-/// Adds the text of values, each after a blank.
-fn push_values(alloc: Global, text: &mut String, values: &[AskedValue]) -> Result<(), AllocError>
-    ensures { OnOk result (HasMore (AreValuesText values.now) (string_bytes text.old) (string_bytes text.new)) }
-{
-    for value in values {
-        push_value(alloc, text, value)?;
-    }
-    Ok(())
-}
-
-/// Adds the value of a field, after a blank.
-fn push_value(alloc: Global, text: &mut String, value: &AskedValue) -> Result<(), AllocError>
-    ensures { OnOk result (HasMore (IsValueText value.now) (string_bytes text.old) (string_bytes text.new)) }
-{
-    push_named(text, value.name.as_str())?;
-    push_bits(alloc, text, &value.bits)?;
-    Ok(())
-}
-
-fn push_named(text: &mut String, name: &str) -> Result<(), AllocError>
-    ensures { OnOk result (string_bytes text.new ≡ string_bytes text.old ++ codes " " ++ name.now ++ codes "=") }
-{
-    text.push(' ')?;
-    text.push_str(name)?;
-    text.push('=')
 }
 
 /// The line of a refused packet.

@@ -1,17 +1,16 @@
 //! The program over a reader and a writer.
-ghost use Rattle.std.specs.Prelude.{◌≡◌, ◌==◌, filter, not, ◌+◌, ◌<◌, ◌≤◌, List, ℕ, ◌++◌, true, false, map, length, IfOk, IfSome, option_and_then, option_map, string_bytes, vec_len, IsTrue};
-ghost use Rattle.std.specs.List.{slice_split};
-ghost use Rattle.std.specs.Str.Lines.{lines};
-ghost use Rattle.std.specs.Io.KnownBytes.{Appends, Consumes, IsAtEnd};
-ghost use Rattle.rohcfn_tool.specs.Counted.{IsSoFar};
-ghost use Rattle.rohcfn_tool.specs.Program.{IsInput, IsShortInput, large_line, RefusesBy, Replies, RepliesBy, RunGives, bad_part_line, most_octets, shown_name, words_in};
+ghost use Rattle.std.specs.Prelude.{◌≡◌, ◌≤◌, List, ℕ, ◌++◌, true, map, length, IfOk, IfSome};
+ghost use Rattle.std.specs.Io.KnownBytes.{Appends};
+ghost use Rattle.rohcfn_input.specs.Counted.{IsSoFar, most_octets};
+ghost use Rattle.rohcfn_tool.specs.Program.{RefusesBy, Replies, RepliesBy, RunGives, bad_part_line, large_line};
 
-use crate::bundle::{BadPart, Parts, split};
-use crate::counted::CountedRead;
-use crate::inputs::pieces;
 use crate::replies::answer;
-use crate::status::{Answer, Failure, Status};
-use crate::words::{WordsError, read_order};
+use rohcfn_input::bundle::{Parts, name_shown, split};
+use rohcfn_input::counted::CountedRead;
+use rohcfn_input::part_words::words_at;
+use rohcfn_input::reading::{Input, read_input};
+use rohcfn_input::status::{Answer, Failure, Status};
+use rohcfn_words::words::{WordsError, read_order};
 use std::alloc::{AllocError, Global};
 use std::io::Write;
 
@@ -22,23 +21,12 @@ pub struct Outcome {
     pub usage: Option<String>,
 }
 
-// What a reader gave: all that it had, or more octets than the program takes.
-#[derive(Drop)]
-enum Input {
-    Whole(Vec<u8>),
-    Large,
-}
-
 // What is to be written, or told to the person who called.
 #[derive(Drop)]
 enum Reply {
     Print(Status, String),
     Tell(Status, String),
 }
-
-const LIMIT: usize = 4_194_304;
-
-const CHUNK: usize = 65_536;
 
 /// Runs the program on the words that follow its name, or with none on those of its input.
 ///
@@ -104,52 +92,6 @@ fn refused_input(alloc: Global) -> Result<Reply, AllocError>
     Ok(Reply::Print(Status::Refused, output))
 }
 
-// Reads until the reader ends, or has given more than the program takes.
-fn read_input<R: CountedRead>(alloc: Global, reader: &mut R) -> Result<Input, Failure>
-    requires { IsSoFar (R.account reader.old) 0 }
-    ensures all { IfSome (R.remaining reader.old) (λ all. IfOk result (λ input. IsInput all input)) }
-    ensures short { IfOk result IsShortInput }
-{
-    let mut input = Vec::new(alloc);
-    let mut chunk = zeros(alloc, CHUNK)?;
-    while input.len() <= LIMIT {
-        if !read_more(reader, chunk.as_mut_slice(), &mut input)? {
-            return Ok(Input::Whole(input));
-        }
-    }
-    Ok(Input::Large)
-}
-
-fn zeros(alloc: Global, count: usize) -> Result<Vec<u8>, AllocError>
-    ensures { IfOk result (λ zeros. vec_len zeros ≡ count) }
-{
-    vec![in alloc; 0u8; count]
-}
-
-// One read, of no more than what the program takes and one octet. Whether the reader goes on.
-fn read_more<R: CountedRead>(
-    reader: &mut R,
-    chunk: &mut [u8],
-    input: &mut Vec<u8>,
-) -> Result<bool, Failure>
-    requires room { 0 < length chunk.old }
-    requires short { vec_len input.old ≤ most_octets }
-    requires counted { IsSoFar (R.account reader.old) (vec_len input.old) }
-    ensures grows { IfOk result (λ goes_on. (got : List ℕ) × (input.new.items ≡ input.old.items ++ got) × Consumes (R.remaining reader.old) (R.remaining reader.new) got) }
-    ensures goes_on { IfOk result (λ goes_on. goes_on ≡ true → vec_len input.old < vec_len input.new) }
-    ensures ends { IfOk result (λ goes_on. goes_on ≡ false → (vec_len input.new ≡ vec_len input.old) × IsAtEnd (R.remaining reader.new)) }
-    ensures counted { IfOk result (λ goes_on. goes_on ≡ true → IsSoFar (R.account reader.new) (vec_len input.new)) }
-{
-    let room = chunk.len().min(LIMIT + 1 - input.len());
-    match reader.read_next(&mut chunk[..room]) {
-        Ok(count) => {
-            input.extend_from_slice(&chunk[..count])?;
-            Ok(count != 0)
-        }
-        Err(_fault) => Err(Failure::Reading),
-    }
-}
-
 // Writes all octets, a write at a time, and tells whether each took some.
 fn write_out<W: Write>(writer: &mut W, output: &[u8]) -> bool
     ensures whole { result ≡ true → Appends (W.contents writer.old) (W.contents writer.new) output.now }
@@ -205,41 +147,4 @@ fn reply_by(alloc: Global, words: &[&str], parts: &Parts<'_>) -> Result<Reply, A
         Err(WordsError::Usage(text)) => Ok(Reply::Tell(Status::Usage, text)),
         Err(WordsError::OutOfMemory) => Err(AllocError),
     }
-}
-
-// A bad part's name, where it is text.
-fn name_shown(bad: BadPart<'_>) -> &str
-    ensures { result.now ≡ shown_name bad.entry }
-{
-    match bad {
-        BadPart::Front => "-",
-        BadPart::Named(name) => match str::from_utf8(name) {
-            Ok(name) => name,
-            Err(_fault) => "-",
-        },
-    }
-}
-
-// The words in a part: those of its one line that isn't empty.
-fn words_at<'a>(alloc: Global, text: Option<&'a [u8]>) -> Result<Option<Vec<&'a str>>, AllocError>
-    ensures { IfOk result (λ words. option_map (λ words. map (λ word. word.now) words.items) words ≡ option_and_then words_in (option_map (λ text. text.now) text.entry)) }
-{
-    let Some(octets) = text else {
-        return Ok(None);
-    };
-    let Ok(text) = str::from_utf8(octets) else {
-        return Ok(None);
-    };
-    let lines = filled_lines(alloc, text)?;
-    if lines.len() != 1 {
-        return Ok(None);
-    }
-    Ok(Some(pieces(alloc, lines[0])?))
-}
-
-// The lines that aren't empty.
-fn filled_lines<'a>(alloc: Global, text: &'a str) -> Result<Vec<&'a str>, AllocError>
-    ensures { IfOk result (λ found. map (λ line. line.now) found.items ≡ filter (λ line. not (length line == 0)) (lines text.entry.now)) }
-{
-    text.lines().filter(|line| !line.is_empty()).collect(alloc)
 }

@@ -1,21 +1,22 @@
 //! What is printed for an order and the parts of the input.
 
 ghost use Rattle.std.specs.Prelude.{◌≡◌, ◌++◌, IfOk, codes, decimal, string_bytes};
-ghost use Rattle.rohcfn_tool.specs.Accepting.{origin_of};
 ghost use Rattle.rohcfn_tool.specs.FaultLaws.{AreOneLine};
 ghost use Rattle.rohcfn_tool.specs.Printed as spec;
 
-use crate::accepting::{Judged, Origin, accept};
-use crate::bundle::Parts;
-use crate::inputs::{BadLine, read_context, read_items, read_packets};
 use crate::lined::answer_line;
 use crate::printing::{pack_all, unpack_all};
-use crate::proving::answer_prove;
-use crate::showing::answer_listing;
-use crate::status::{Answer, Status};
-use crate::words::{Command, Direction, Order};
 use fn_checker::Accepted;
 use fn_context::Context;
+use rohcfn_input::bundle::Parts;
+use rohcfn_input::inputs::{BadLine, read_context, read_items, read_packets};
+use rohcfn_input::refusals::refusal;
+use rohcfn_input::status::Answer;
+use rohcfn_report::accepting::{Judged, Origin, accept};
+use rohcfn_report::checking::answer_check;
+use rohcfn_report::proving::answer_prove;
+use rohcfn_report::showing::answer_listing;
+use rohcfn_words::words::{Command, Direction, Order};
 use std::alloc::{AllocError, Global};
 
 /// What is printed for an order: the listing of a profile, the verdict on a certificate, a certificate, a line for each item or packet up to the first refusal, the
@@ -31,28 +32,13 @@ pub fn answer(alloc: Global, order: &Order<'_>, parts: &Parts<'_>) -> Result<Ans
     };
     match order.command {
         Command::Show => answer_listing(alloc, order.top, profile),
-        Command::Check => answer_check(alloc, order, profile, parts),
+        Command::Check => {
+            let origin = Origin::of(order.version, parts);
+            answer_check(alloc, order.top, profile, origin)
+        }
         Command::Prove => answer_prove(alloc, order.version, order.top, profile),
         Command::Run(direction) => answer_run(alloc, direction, order, profile, parts),
         Command::Line(end) => answer_line(alloc, end, order, profile, parts),
-    }
-}
-
-/// The answer to `check`: `accepted`, or the line of the first fault.
-fn answer_check(
-    alloc: Global,
-    order: &Order<'_>,
-    profile: &[u8],
-    parts: &Parts<'_>,
-) -> Result<Answer, AllocError>
-    ensures { IfOk result (spec.ChecksOctets order.now.top.now profile.now (origin_of order.now.version parts.now.certificate)) }
-{
-    match accept(alloc, order.top, profile, Origin::of(order.version, parts))? {
-        Judged::Accepted(_) => Ok(Answer {
-            status: Status::Done,
-            output: String::from_str(alloc, "accepted\n")?,
-        }),
-        Judged::Refused(line) => refusal(alloc, line.as_str()),
     }
 }
 
@@ -177,22 +163,10 @@ fn answer_packets(
 }
 
 /// A law of fault lines: each is one line, without a line feed.
-#[tactic(auto, using(crate::proofs::PartNames::are_one_line))]
+#[tactic(auto, using(crate::proofs::OtherLines::are_one_line))]
 pub fn faults_are_lines()
     ensures { AreOneLine }
 {}
-
-/// One line, and the status of a refusal.
-pub(crate) fn refusal(alloc: Global, line: &str) -> Result<Answer, AllocError>
-    ensures { IfOk result (spec.IsRefusal line.now) }
-{
-    let mut output = String::from_str(alloc, line)?;
-    output.push('\n')?;
-    Ok(Answer {
-        status: Status::Refused,
-        output,
-    })
-}
 
 /// The line of items or packets that can't be read.
 fn bad_line(alloc: Global, direction: Direction, number: usize) -> Result<String, AllocError>

@@ -3,7 +3,7 @@ use Rattle.std.specs.Prelude.{Some, None}
 use Rattle.std.proofs.lemmas.Str.Pattern.{split_parts}
 use Rattle.fn_context.proofs.Paths.{Lacks-from}
 use Rattle.rohcfn_tool.proofs.EventWords.{lone_word, no_event, no_reset, no_send, resets, sends}
-use Rattle.rohcfn_tool.proofs.InputLines.{more_words, one_word}
+use Rattle.rohcfn_input.proofs.InputLines.{more_words, one_word}
 use Rattle.rohcfn_tool.proofs.events.read_event.Goals as goal
 
 pub returns-in_default-clause-none : goal.returns-in_default-clause-none

@@ -1,6 +1,6 @@
 use Rattle.std.proofs.Common.{ap, ◌∙◌}
 use Rattle.rohcfn_tool.specs.Events.{IsEvent}
-use Rattle.rohcfn_tool.proofs.InputLines.{shown, broken_in, lines_all, lines_more, lines_bad}
+use Rattle.rohcfn_input.proofs.InputLines.{shown, broken_in, lines_all, lines_more, lines_bad}
 use Rattle.rohcfn_tool.proofs.events.read_events.Goals as goal
 
 pub returns-in-Err-clause-bad : goal.returns-in-Err-clause-bad

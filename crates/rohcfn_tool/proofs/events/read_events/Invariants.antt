@@ -1,7 +1,7 @@
 use Rattle.std.proofs.Common.{take}
 use Rattle.rohcfn_tool.specs.Events.{IsEvent}
-use Rattle.rohcfn_tool.specs.Inputs.{AreRead}
-use Rattle.rohcfn_tool.proofs.InputLines.{shown}
+use Rattle.rohcfn_input.specs.Inputs.{AreRead}
+use Rattle.rohcfn_input.proofs.InputLines.{shown}
 use Rattle.rohcfn_tool.proofs.events.read_events.Given as goal
 
 -- the lines so far are read as the events so far

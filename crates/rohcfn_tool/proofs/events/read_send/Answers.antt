@@ -4,7 +4,7 @@ use Rattle.std.proofs.lemmas.Str.Pattern.{split_parts}
 use Rattle.fn_context.proofs.Paths.{Lacks-from}
 use Rattle.rohcfn_tool.specs.Events.{AreSendWords}
 use Rattle.rohcfn_tool.proofs.EventWords.{lone_send}
-use Rattle.rohcfn_tool.proofs.InputLines.{more_words, one_word}
+use Rattle.rohcfn_input.proofs.InputLines.{more_words, one_word}
 use Rattle.rohcfn_tool.proofs.events.read_send.Goals as goal
 
 pub returns-in_default-clause-none : goal.returns-in_default-clause-none

@@ -1,8 +1,8 @@
 use Rattle.std.proofs.Common.{refl}
-use Rattle.rohcfn_tool.specs.declared.words.End.TheVariants.{Sending, Receiving}
-use Rattle.rohcfn_tool.specs.Accepting.{origin_of}
+use Rattle.rohcfn_words.specs.declared.words.End.TheVariants.{Sending, Receiving}
+use Rattle.rohcfn_report.specs.Accepting.{origin_of}
 use Rattle.rohcfn_tool.specs.Lined.{Lined, LinedBy, by_part, no_part}
-use Rattle.rohcfn_tool.proofs.Replying.{passed_on, refusal_is}
+use Rattle.rohcfn_input.proofs.AnswersHeld.{passed_on, refusal_is}
 use Rattle.rohcfn_tool.proofs.lined.answer_line.Goals as goal
 
 pub returns-in-Some : goal.returns-in-Some

@@ -1,6 +1,6 @@
 use Rattle.std.proofs.Common.{refl}
 use Rattle.rohcfn_tool.specs.Lined.{AnsweredHex, PrintsReceived, bad_hex, received_octets}
-use Rattle.rohcfn_tool.proofs.Replying.{passed_on, refusal_is}
+use Rattle.rohcfn_input.proofs.AnswersHeld.{passed_on, refusal_is}
 use Rattle.rohcfn_tool.proofs.lined.answer_octets.Goals as goal
 
 pub returns-in-Some : goal.returns-in-Some

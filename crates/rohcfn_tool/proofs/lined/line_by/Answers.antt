@@ -1,7 +1,7 @@
-use Rattle.rohcfn_tool.specs.Accepting.{origin_of}
+use Rattle.rohcfn_report.specs.Accepting.{origin_of}
 use Rattle.rohcfn_tool.specs.Lined.{AnsweredEnd, LinedBy, not_accepted, with_profile}
-use Rattle.rohcfn_tool.proofs.Certificates.{accepted_here, refused_here}
-use Rattle.rohcfn_tool.proofs.Replying.{passed_on, refusal_is}
+use Rattle.rohcfn_report.proofs.Certificates.{accepted_here, refused_here}
+use Rattle.rohcfn_input.proofs.AnswersHeld.{passed_on, refusal_is}
 use Rattle.rohcfn_tool.proofs.lined.line_by.Goals as goal
 
 pub returns-in-Accepted : goal.returns-in-Accepted

@@ -1,5 +1,5 @@
 use Rattle.std.proofs.Common.{length, length-drop, ap, arith}
-use Rattle.rohcfn_tool.proofs.BundleParts.{tail_is}
+use Rattle.rohcfn_input.proofs.BundleParts.{tail_is}
 use Rattle.rohcfn_tool.proofs.ProgramBytes.{Keeps-from_none, sent_front, sent_more}
 use Rattle.rohcfn_tool.proofs.program.write_out.Goals as goal
 

@@ -1,8 +1,8 @@
-use Rattle.std.proofs.Common.{refl}
-use Rattle.rohcfn_tool.specs.Accepting.{origin_of}
+use Rattle.std.proofs.Common.{refl, subst, sym}
 use Rattle.rohcfn_tool.specs.Lined.{Lined}
-use Rattle.rohcfn_tool.specs.Printed.{Answered, AnsweredRun, CheckedOctets, ProvedOctets, ShownBy, no_profile, shown, checked, proved, ran, lined}
-use Rattle.rohcfn_tool.proofs.Replying.{passed_on, refusal_is}
+use Rattle.rohcfn_tool.specs.Printed.{Answered, AnsweredRun, no_profile, shown, checked, proved, ran, lined}
+use Rattle.rohcfn_report.specs.Reports.{CheckedOctets, ProvedOctets, ShownBy}
+use Rattle.rohcfn_input.proofs.AnswersHeld.{passed_on, refusal_is}
 use Rattle.rohcfn_tool.proofs.replies.answer.Goals as goal
 
 pub returns-in_default : goal.returns-in_default
@@ -14,7 +14,8 @@ returns-in-Show c =
 
 pub returns-in-Check : goal.returns-in-Check
 returns-in-Check c =
-    passed_on (CheckedOctets c.args.order.now.top.now c.in-Some.profile.now (origin_of c.args.order.now.version c.args.parts.now.certificate)) (Answered c.args.order.now c.args.parts.now) c.answer_check.result (λ s out h. checked c.in-Some.profile c.in-Some.is c.in-Check.is h) c.answer_check.ensures
+    passed_on (CheckedOctets c.args.order.now.top.now c.in-Some.profile.now c.of-origin.result) (Answered c.args.order.now c.args.parts.now) c.answer_check.result
+    (λ s out h. checked c.in-Some.profile c.in-Some.is c.in-Check.is (subst (λ o. CheckedOctets c.args.order.now.top.now c.in-Some.profile.now o s out) c.of-origin.ensures h)) c.answer_check.ensures
 
 pub returns-in-Prove : goal.returns-in-Prove
 returns-in-Prove c =

@@ -1,6 +1,7 @@
 use Rattle.std.proofs.Common.{◌∙◌}
 use Rattle.rohcfn_tool.specs.Printed.{AnsweredFor, AnsweredIn, from_context}
-use Rattle.rohcfn_tool.proofs.Replying.{bad_context_is, passed_on}
+use Rattle.rohcfn_tool.proofs.Replying.{bad_context_is}
+use Rattle.rohcfn_input.proofs.AnswersHeld.{passed_on}
 use Rattle.rohcfn_tool.proofs.replies.answer_for.Goals as goal
 
 pub returns-in-Ok : goal.returns-in-Ok

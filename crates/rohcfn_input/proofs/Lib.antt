@@ -1,0 +1,13 @@
+pub mod AnswersHeld
+pub mod BundleHeld
+pub mod BundleLines
+pub mod BundleParts
+pub mod BundleSpelled
+pub mod CountedReads
+pub mod InputLines
+pub mod ItemsSpelled
+pub mod OneLines
+pub mod PartNames
+pub mod ShownNames
+pub mod Spelled
+pub mod WordsThere

@@ -1,0 +1,15 @@
+-- What is read of an input.
+use Rattle.std.specs.Prelude.{◌≡◌, ◌<◌, ◌≤◌, ℕ, List, length}
+use Rattle.rohcfn_input.specs.Counted.{most_octets}
+use Rattle.rohcfn_input.specs.declared.reading.Input.{Input}
+use Rattle.rohcfn_input.specs.declared.reading.Input.TheVariants.{Whole, Large}
+
+-- the whole of what a reader had left, or that it is too long
+abbrev pub IsInput : List ℕ → Input → Type 0
+IsInput all (Whole input) = (input.items ≡ all) × (length all ≤ most_octets)
+IsInput all Large = most_octets < length all
+
+-- what was read is no more than the program takes
+abbrev pub IsShortInput : Input → Type 0
+IsShortInput (Whole input) = length input.items ≤ most_octets
+IsShortInput Large = Unit {0}

@@ -1,0 +1,134 @@
+//! The texts of bits and of items, at the end of what is printed.
+
+ghost use Rattle.std.specs.Prelude.{◌≡◌, ◌≤◌, ◌<◌, ◌*◌, ◌/◌, ◌+◌, ◌-◌, ◌^◌, [], ◌∷◌, ◌++◌, take, length, OnOk, codes, decimal, string_bytes};
+ghost use Rattle.hex.specs.Hex.{encode_lower};
+ghost use Rattle.fn_bits.specs.Number.{enc};
+ghost use Rattle.fn_bits.specs.Octets.{Holds};
+ghost use Rattle.fn_bits.specs.Text.{IsText};
+ghost use Rattle.rohcfn_input.specs.ItemTexts.{AreValuesText, HasMore, IsItemText, IsValueText};
+
+use fn_bits::Bits;
+use fn_filling::{AskedValue, Item};
+use itoa::Buffer;
+use std::alloc::{AllocError, Global};
+
+/// Adds the text of bits, as `Bits::print_text` has it. That of at most 64 bits takes no allocation of its own.
+pub fn push_bits(alloc: Global, text: &mut String, bits: &Bits) -> Result<(), AllocError>
+    ensures { OnOk result (HasMore (λ spelled. IsText spelled bits.now) (string_bytes text.old) (string_bytes text.new)) }
+{
+    match bits.value() {
+        Some(word) => {
+            push_word(text, bits.len(), word)?;
+            Ok(())
+        }
+        None => push_long(alloc, text, bits),
+    }
+}
+
+/// Adds the text of more than 64 bits.
+#[inline(never)]
+fn push_long(alloc: Global, text: &mut String, bits: &Bits) -> Result<(), AllocError>
+    ensures { OnOk result (HasMore (λ spelled. IsText spelled bits.now) (string_bytes text.old) (string_bytes text.new)) }
+{
+    let spelled = bits.print_text(alloc)?;
+    text.push_str(spelled.as_str())
+}
+
+/// Adds the text of at most 64 bits.
+fn push_word(text: &mut String, count: usize, word: u64) -> Result<(), AllocError>
+    requires most { count ≤ 64 }
+    requires below { word < 2 ^ count }
+    ensures { OnOk result (HasMore (λ spelled. IsText spelled (enc count word)) (string_bytes text.old) (string_bytes text.new)) }
+{
+    let octets = octets_of(word, count);
+    let many = (count + 7) / 8;
+    let mut digits = [0u8; 16];
+    push_octets(text, count, &octets[..many], &mut digits[..2 * many])?;
+    Ok(())
+}
+
+/// Adds a count, a colon and the hex digits of octets, for which there is room.
+fn push_octets(
+    text: &mut String,
+    count: usize,
+    octets: &[u8],
+    room: &mut [u8],
+) -> Result<(), AllocError>
+    requires { length room.old ≡ 2 * length octets.now }
+    ensures { OnOk result (string_bytes text.new ≡ string_bytes text.old ++ decimal count ++ 58 ∷ encode_lower octets.now) }
+{
+    hex::encode_to_slice(octets, room).unwrap();
+    push_digits(text, count, str::from_utf8(room).unwrap())
+}
+
+/// Adds a count, a colon and digits.
+fn push_digits(text: &mut String, count: usize, digits: &str) -> Result<(), AllocError>
+    ensures { OnOk result (string_bytes text.new ≡ string_bytes text.old ++ decimal count ++ 58 ∷ digits.now) }
+{
+    let mut buffer = Buffer::new();
+    text.push_str(buffer.format(count))?;
+    text.push(':')?;
+    text.push_str(digits)
+}
+
+/// The octets of the bits, with zero bits after them.
+fn octets_of(word: u64, count: usize) -> [u8; 8]
+    requires most { count ≤ 64 }
+    requires below { word < 2 ^ count }
+    ensures { Holds (take ((count + 7) / 8) result) (enc count word) }
+{
+    at_front(word, count).to_be_bytes()
+}
+
+/// The number of the bits and of zero bits after them, 64 in all.
+fn at_front(word: u64, count: usize) -> u64
+    requires most { count ≤ 64 }
+    requires below { word < 2 ^ count }
+    ensures { result ≡ word * 2 ^ (64 - count) }
+{
+    if count == 0 { 0 } else { word << (64 - count) }
+}
+
+/// Adds the text of an item: its header, then each value after a blank.
+pub fn push_item_text(alloc: Global, text: &mut String, item: &Item) -> Result<(), AllocError>
+    ensures { OnOk result (HasMore (IsItemText item.now) (string_bytes text.old) (string_bytes text.new)) }
+{
+    push_bits(alloc, text, &item.header)?;
+    push_values(alloc, text, item.asked.as_slice())?;
+    Ok(())
+}
+
+/// Adds the text of values, each after a blank.
+fn push_values(alloc: Global, text: &mut String, values: &[AskedValue]) -> Result<(), AllocError>
+    ensures { OnOk result (HasMore (AreValuesText values.now) (string_bytes text.old) (string_bytes text.new)) }
+{
+    for value in values {
+        push_value(alloc, text, value)?;
+    }
+    Ok(())
+}
+
+/// Adds the value of a field, after a blank.
+fn push_value(alloc: Global, text: &mut String, value: &AskedValue) -> Result<(), AllocError>
+    ensures { OnOk result (HasMore (IsValueText value.now) (string_bytes text.old) (string_bytes text.new)) }
+{
+    push_named(text, value.name.as_str())?;
+    push_bits(alloc, text, &value.bits)?;
+    Ok(())
+}
+
+fn push_named(text: &mut String, name: &str) -> Result<(), AllocError>
+    ensures { OnOk result (string_bytes text.new ≡ string_bytes text.old ++ codes " " ++ name.now ++ codes "=") }
+{
+    text.push(' ')?;
+    text.push_str(name)?;
+    text.push('=')
+}
+
+/// Adds a line.
+pub fn push_line(output: &mut String, line: &str) -> Result<(), AllocError>
+    ensures { OnOk result (string_bytes output.new ≡ string_bytes output.old ++ line.now ++ 10 ∷ []) }
+{
+    output.push_str(line)?;
+    output.push('\n')
+}

@@ -1,5 +1,0 @@
-use Rattle.rohcfn_tool.proofs.Stepping.{item_grown}
-use Rattle.rohcfn_tool.proofs.printing.push_item_text.Goals as goal
-
-pub returns : goal.returns
-returns c = item_grown c.args.item.now _ _ _ _ c.in_ok-push_bits.ensures c.as_slice.ensures c.in_ok-push_values.ensures

@@ -1,0 +1,95 @@
+-- What words that are written out ask for.
+use Rattle.std.proofs.Common.{◌≡◌, [], ◌∷◌, None, Some, true, false, inl, refl, codes}
+use Rattle.clap.proofs.OnLiterals.{clap_on_literals}
+use Rattle.fn_cert.specs.declared.certificate.Version.TheVariants.{One, Two}
+use Rattle.rohcfn_words.specs.declared.words.Command.TheVariants.{Show, Check, Prove, Run, Line}
+use Rattle.rohcfn_words.specs.declared.words.Direction.TheVariants.{Pack, Unpack}
+use Rattle.rohcfn_words.specs.declared.words.End.TheVariants.{Sending, Receiving}
+use Rattle.rohcfn_words.specs.Words.{AskHelp, AskJustHelp, ReadsWords, asked_of, program}
+
+pub pack_read : asked_of (codes "pack" ∷ codes "--top" ∷ codes "plain" ∷ []) ≡ Some (record { command = Run Pack; top = codes "plain"; shows_context = false; version = One })
+unfolding asked_of program clap_on_literals
+pack_read = refl
+
+pub unpack_read : asked_of (codes "unpack" ∷ codes "--top=plain" ∷ []) ≡ Some (record { command = Run Unpack; top = codes "plain"; shows_context = false; version = One })
+unfolding asked_of program clap_on_literals
+unpack_read = refl
+
+pub show_read : asked_of (codes "show" ∷ codes "--top" ∷ codes "plain" ∷ []) ≡ Some (record { command = Show; top = codes "plain"; shows_context = false; version = One })
+unfolding asked_of program clap_on_literals
+show_read = refl
+
+pub check_read : asked_of (codes "check" ∷ codes "--top" ∷ codes "plain" ∷ []) ≡ Some (record { command = Check; top = codes "plain"; shows_context = false; version = One })
+unfolding asked_of program clap_on_literals
+check_read = refl
+
+pub prove_read : asked_of (codes "prove" ∷ codes "--top" ∷ codes "plain" ∷ []) ≡ Some (record { command = Prove; top = codes "plain"; shows_context = false; version = One })
+unfolding asked_of program clap_on_literals
+prove_read = refl
+
+pub pack_context_read : asked_of (codes "pack" ∷ codes "--top" ∷ codes "plain" ∷ codes "--context" ∷ []) ≡ Some (record { command = Run Pack; top = codes "plain"; shows_context = true; version = One })
+unfolding asked_of program clap_on_literals
+pack_context_read = refl
+
+pub pack_second_read : asked_of (codes "pack" ∷ codes "--top" ∷ codes "plain" ∷ codes "--v2" ∷ []) ≡ Some (record { command = Run Pack; top = codes "plain"; shows_context = false; version = Two })
+unfolding asked_of program clap_on_literals
+pack_second_read = refl
+
+pub prove_second_read : asked_of (codes "prove" ∷ codes "--v2" ∷ codes "--top" ∷ codes "plain" ∷ []) ≡ Some (record { command = Prove; top = codes "plain"; shows_context = false; version = Two })
+unfolding asked_of program clap_on_literals
+prove_second_read = refl
+
+pub line_second_read : asked_of (codes "line" ∷ codes "--top" ∷ codes "plain" ∷ codes "--receive" ∷ codes "--v2" ∷ []) ≡ Some (record { command = Line Receiving; top = codes "plain"; shows_context = false; version = Two })
+unfolding asked_of program clap_on_literals
+line_second_read = refl
+
+pub show_second_refused : asked_of (codes "show" ∷ codes "--top" ∷ codes "plain" ∷ codes "--v2" ∷ []) ≡ None
+unfolding asked_of program clap_on_literals
+show_second_refused = refl
+
+pub show_context_refused : asked_of (codes "show" ∷ codes "--top" ∷ codes "plain" ∷ codes "--context" ∷ []) ≡ None
+unfolding asked_of program clap_on_literals
+show_context_refused = refl
+
+pub line_read : asked_of (codes "line" ∷ codes "--top" ∷ codes "plain" ∷ []) ≡ Some (record { command = Line Sending; top = codes "plain"; shows_context = false; version = One })
+unfolding asked_of program clap_on_literals
+line_read = refl
+
+pub line_receive_read : asked_of (codes "line" ∷ codes "--top" ∷ codes "plain" ∷ codes "--receive" ∷ []) ≡ Some (record { command = Line Receiving; top = codes "plain"; shows_context = false; version = One })
+unfolding asked_of program clap_on_literals
+line_receive_read = refl
+
+pub pack_receive_refused : asked_of (codes "pack" ∷ codes "--top" ∷ codes "plain" ∷ codes "--receive" ∷ []) ≡ None
+unfolding asked_of program clap_on_literals
+pack_receive_refused = refl
+
+pub line_context_refused : asked_of (codes "line" ∷ codes "--top" ∷ codes "plain" ∷ codes "--context" ∷ []) ≡ None
+unfolding asked_of program clap_on_literals
+line_context_refused = refl
+
+pub top_missing : asked_of (codes "pack" ∷ []) ≡ None
+unfolding asked_of program clap_on_literals
+top_missing = refl
+
+pub flag_unknown : asked_of (codes "pack" ∷ codes "--top" ∷ codes "plain" ∷ codes "--fly" ∷ []) ≡ None
+unfolding asked_of program clap_on_literals
+flag_unknown = refl
+
+pub command_missing : asked_of [] ≡ None
+unfolding asked_of program clap_on_literals
+command_missing = refl
+
+pub help_wanted : AskJustHelp (codes "--help" ∷ [])
+unfolding AskJustHelp program clap_on_literals
+help_wanted = refl
+
+pub command_help_wanted : AskJustHelp (codes "pack" ∷ codes "--help" ∷ [])
+unfolding AskJustHelp program clap_on_literals
+command_help_wanted = refl
+
+pub help_command_met : AskHelp (codes "help" ∷ [])
+unfolding AskHelp program clap_on_literals
+help_command_met = inl refl
+
+pub words_are_read : ReadsWords
+words_are_read = record { pack = pack_read; unpack = unpack_read; show = show_read; check = check_read; prove = prove_read; pack_context = pack_context_read; pack_second = pack_second_read; prove_second = prove_second_read; line_second = line_second_read; show_second = show_second_refused; show_context = show_context_refused; line = line_read; line_receive = line_receive_read; pack_receive = pack_receive_refused; line_context = line_context_refused; no_top = top_missing; no_command = command_missing; other_flag = flag_unknown; help = help_wanted; command_help = command_help_wanted; help_command = help_command_met }

@@ -1,0 +1,27 @@
+use Rattle.std.proofs.Common.{◌≡◌, ◌∙◌, ap, refl, Some, None, option_map, codes, rules}
+use Rattle.clap.proofs.WalkLemmas.{first_value-rows}
+use Rattle.clap.specs.Words.{first_of, found_of, rows_of, subcommand_rows_of}
+use Rattle.clap.specs.declared.parser.matches.ArgMatches.TheViews.{out-ArgMatches}
+use Rattle.rohcfn_words.specs.Words.{asked, is_set}
+use Rattle.rohcfn_words.proofs.WordsLemmas.{asked_by_parts, asked_without_top, subcommand_read}
+use Rattle.rohcfn_words.proofs.words.order_in.Goals as goal
+
+pub returns-in_err-top : goal.returns-in_err-top
+returns-in_err-top c =
+    let met : subcommand_rows_of c.args.matches.now ≡ Some (c.in_ok-name.name.now, rows_of (found_of c.in_ok-name.flags.now)) =
+    subcommand_read (out-ArgMatches c.args.matches.now).subcommand (Some (c.in_ok-name.name, c.in_ok-name.flags)) c.in_ok-name.ensures.name c.in_ok-name.ensures.rows in
+    let none : c.from_residual-in_err-top.result ≡ None = search rules in
+    let top = c.in_err-top.ensures ∙ first_value-rows (found_of c.in_ok-name.flags.now) (codes "top") in
+    let receives = c.is_set-receives.ensures ∙ ap is_set (c.get_str.ensures ∙ first_value-rows (found_of c.in_ok-name.flags.now) (codes "receive")) in
+    ap (option_map asked) none ∙ asked_without_top _ _ _ (Some c.in_ok-command.command) c.is_set-receives.result None met c.in_ok-command.ensures receives top refl
+
+pub returns : goal.returns
+returns c =
+    let met : subcommand_rows_of c.args.matches.now ≡ Some (c.in_ok-name.name.now, rows_of (found_of c.in_ok-name.flags.now)) =
+    subcommand_read (out-ArgMatches c.args.matches.now).subcommand (Some (c.in_ok-name.name, c.in_ok-name.flags)) c.in_ok-name.ensures.name c.in_ok-name.ensures.rows in
+    let receives = c.is_set-receives.ensures ∙ ap is_set (c.get_str.ensures ∙ first_value-rows (found_of c.in_ok-name.flags.now) (codes "receive")) in
+    let second : c.is_set.result ≡ is_set (first_of (codes "v2") (rows_of (found_of c.in_ok-name.flags.now))) = c.is_set.ensures ∙ ap is_set (c.get_str-4.ensures ∙ first_value-rows (found_of c.in_ok-name.flags.now) (codes "v2")) in
+    let set = c.is_set-shows_context.ensures ∙ ap is_set (c.get_str-3.ensures ∙ first_value-rows (found_of c.in_ok-name.flags.now) (codes "context")) in
+    let parts = asked_by_parts _ _ _ (Some c.in_ok-command.command) c.is_set-receives.result (Some c.in_ok-top.top.now) c.is_set-shows_context.result c.is_set.result met c.in_ok-command.ensures receives
+    (c.in_ok-top.ensures ∙ first_value-rows (found_of c.in_ok-name.flags.now) (codes "top")) set second in
+    ap (λ version. Some (record { command = c.in_ok-command.command; top = c.in_ok-top.top.now; shows_context = c.is_set-shows_context.result; version = version })) c.version_asked-version.ensures ∙ parts

@@ -1,0 +1,165 @@
+-- What the words of a call ask for, by what clap's contracts say of a command and words.
+use Rattle.std.specs.Prelude.{◌≡◌, ◌≢◌, ℕ, Bool, true, false, List, [], ◌∷◌, Option, None, Some, if◌then◌else◌, codes}
+use Rattle.std.specs.Str.{bytes_eq}
+use Rattle.clap.specs.Words.{App, IsAmong, Kinds, Row, Rule, fault_of, first_of, new_app, new_rule, subcommand_of, with_rule, with_subcommand}
+use Rattle.clap.specs.Simple.{on_top}
+use Rattle.clap.specs.declared.builder.action.ArgAction.TheVariants.{SetTrue}
+use Rattle.clap.specs.declared.error.kind.ErrorKind.{ErrorKind}
+use Rattle.clap.specs.declared.error.kind.ErrorKind.TheVariants.{DisplayHelp, OutOfMemory}
+use Rattle.fn_cert.specs.declared.certificate.Version.{Version}
+use Rattle.fn_cert.specs.declared.certificate.Version.TheVariants.{One, Two}
+use Rattle.rohcfn_words.specs.declared.words.Command.{Command}
+use Rattle.rohcfn_words.specs.declared.words.Command.TheVariants.{Show, Check, Prove, Run, Line}
+use Rattle.rohcfn_words.specs.declared.words.Direction.TheVariants.{Pack, Unpack}
+use Rattle.rohcfn_words.specs.declared.words.End.{End}
+use Rattle.rohcfn_words.specs.declared.words.End.TheVariants.{Sending, Receiving}
+use Rattle.rohcfn_words.specs.declared.words.Order.{Order}
+use Rattle.rohcfn_words.specs.declared.words.WordsError.{WordsError}
+use Rattle.rohcfn_words.specs.declared.words.WordsError.TheVariants as error
+
+-- `--top NAME`, which has to be there
+abbrev pub top_flag : Rule
+top_flag = record (new_rule (codes "top")) {
+  long = Some (codes "top");
+  value_names = 1;
+  required = true;
+}
+
+-- `--context`, which takes no value
+abbrev pub context_flag : Rule
+context_flag = record (new_rule (codes "context")) {
+  long = Some (codes "context");
+  action = Some SetTrue;
+}
+
+-- `--v2` and `--receive`, likewise
+abbrev pub version_flag : Rule
+version_flag = record (new_rule (codes "v2")) {
+  long = Some (codes "v2");
+  action = Some SetTrue;
+}
+
+abbrev pub receive_flag : Rule
+receive_flag = record (new_rule (codes "receive")) {
+  long = Some (codes "receive");
+  action = Some SetTrue;
+}
+
+-- a command of that name with the first flag
+abbrev pub with_top : List ℕ → App
+with_top name = with_rule (new_app name) top_flag
+
+-- one that may make a certificate, with the second flag too; and with one more
+abbrev pub with_version : List ℕ → App
+with_version name = with_rule (with_top name) version_flag
+
+abbrev pub with_flags : List ℕ → App
+with_flags name = with_rule (with_version name) context_flag
+
+abbrev pub with_receive : List ℕ → App
+with_receive name = with_rule (with_version name) receive_flag
+
+-- the program's own command line: no name before the words, and one of the commands has to be there
+abbrev pub bare_program : App
+bare_program = on_top (λ top. record top { no_binary_name = true; subcommand_required = true })
+    (new_app (codes "rohcfn"))
+
+-- with its commands
+unfoldable pub program : App
+program = with_subcommand (with_subcommand (with_subcommand (with_subcommand (with_subcommand (with_subcommand bare_program (with_flags (codes "pack")).top)
+    (with_flags (codes "unpack")).top) (with_top (codes "show")).top) (with_version (codes "check")).top) (with_version (codes "prove")).top) (with_receive (codes "line")).top
+
+-- a command, the name of a method, whether the last context is printed, and the version of a certificate that is made
+pub record Asked : Type 0 where
+  pub command : Command
+  pub top : List ℕ
+  pub shows_context : Bool
+  pub version : Version
+
+abbrev pub asked : Order → Asked
+asked order = record { command = order.command; top = order.top.now; shows_context = order.shows_context; version = order.version }
+
+-- the end of a line: the receiving one, where that is asked for
+abbrev pub end_at : Bool → End
+end_at receives = if receives then Receiving else Sending
+
+-- a command by its name, and by whether the receiving end is asked for
+abbrev pub command_named : List ℕ → Bool → Option Command
+command_named name receives = if bytes_eq name (codes "pack") then Some (Run Pack)
+    else (if bytes_eq name (codes "unpack") then Some (Run Unpack)
+    else (if bytes_eq name (codes "show") then Some Show
+    else (if bytes_eq name (codes "check") then Some Check
+    else (if bytes_eq name (codes "prove") then Some Prove
+    else (if bytes_eq name (codes "line") then Some (Line (end_at receives)) else None)))))
+
+-- the flag was given
+abbrev pub is_set : Option (List ℕ) → Bool
+is_set None = false
+is_set (Some text) = bytes_eq text (codes "true")
+
+-- the version of a certificate that is made: the first, where the second is not asked for
+abbrev pub version_asked : Bool → Version
+version_asked second = if second then Two else One
+
+abbrev pub asked_by : Option Command → Option (List ℕ) → Bool → Bool → Option Asked
+asked_by None top context second = None
+asked_by (Some command) None context second = None
+asked_by (Some command) (Some top) context second = Some (record { command = command; top = top; shows_context = context; version = version_asked second })
+
+-- a command's name, and the values of its flags
+abbrev pub asked_in : Option (List ℕ × List Row) → Option Asked
+asked_in None = None
+asked_in (Some met) = asked_by (command_named met.0 (is_set (first_of (codes "receive") met.1))) (first_of (codes "top") met.1) (is_set (first_of (codes "context") met.1)) (is_set (first_of (codes "v2") met.1))
+
+-- words with a fault ask for nothing
+abbrev pub asked_unless : Kinds → Option (List ℕ × List Row) → Option Asked
+asked_unless [] met = asked_in met
+asked_unless (kind ∷ kinds) met = None
+
+-- what the words ask for
+unfoldable pub asked_of : List (List ℕ) → Option Asked
+asked_of words = asked_unless (fault_of program words) (subcommand_of program words)
+
+-- the words ask for help
+unfoldable pub AskHelp : List (List ℕ) → Type 0
+AskHelp words = IsAmong DisplayHelp (fault_of program words)
+
+-- they ask for help, and no other fault may be told of them
+unfoldable pub AskJustHelp : List (List ℕ) → Type 0
+AskJustHelp words = fault_of program words ≡ DisplayHelp ∷ []
+
+-- why words are refused: they ask for help, or for nothing
+abbrev pub RefusesWords : List (List ℕ) → WordsError → Type 0
+RefusesWords words (error.Help text) = (asked_of words ≡ None) × AskHelp words
+RefusesWords words (error.Usage text) = (asked_of words ≡ None) × ¬ (AskJustHelp words)
+RefusesWords words error.OutOfMemory = Unit {0}
+
+-- what clap's kind of refusal is to the caller
+abbrev pub RefusesError : ErrorKind → WordsError → Type 0
+RefusesError kind (error.Help text) = kind ≡ DisplayHelp
+RefusesError kind (error.Usage text) = (kind ≢ OutOfMemory) × (kind ≢ DisplayHelp)
+RefusesError kind error.OutOfMemory = Unit {0}
+
+-- what some words ask for, written out
+pub record ReadsWords : Type 0 where
+  pub pack : asked_of (codes "pack" ∷ codes "--top" ∷ codes "plain" ∷ []) ≡ Some (record { command = Run Pack; top = codes "plain"; shows_context = false; version = One })
+  pub unpack : asked_of (codes "unpack" ∷ codes "--top=plain" ∷ []) ≡ Some (record { command = Run Unpack; top = codes "plain"; shows_context = false; version = One })
+  pub show : asked_of (codes "show" ∷ codes "--top" ∷ codes "plain" ∷ []) ≡ Some (record { command = Show; top = codes "plain"; shows_context = false; version = One })
+  pub check : asked_of (codes "check" ∷ codes "--top" ∷ codes "plain" ∷ []) ≡ Some (record { command = Check; top = codes "plain"; shows_context = false; version = One })
+  pub prove : asked_of (codes "prove" ∷ codes "--top" ∷ codes "plain" ∷ []) ≡ Some (record { command = Prove; top = codes "plain"; shows_context = false; version = One })
+  pub pack_context : asked_of (codes "pack" ∷ codes "--top" ∷ codes "plain" ∷ codes "--context" ∷ []) ≡ Some (record { command = Run Pack; top = codes "plain"; shows_context = true; version = One })
+  pub pack_second : asked_of (codes "pack" ∷ codes "--top" ∷ codes "plain" ∷ codes "--v2" ∷ []) ≡ Some (record { command = Run Pack; top = codes "plain"; shows_context = false; version = Two })
+  pub prove_second : asked_of (codes "prove" ∷ codes "--v2" ∷ codes "--top" ∷ codes "plain" ∷ []) ≡ Some (record { command = Prove; top = codes "plain"; shows_context = false; version = Two })
+  pub line_second : asked_of (codes "line" ∷ codes "--top" ∷ codes "plain" ∷ codes "--receive" ∷ codes "--v2" ∷ []) ≡ Some (record { command = Line Receiving; top = codes "plain"; shows_context = false; version = Two })
+  pub show_second : asked_of (codes "show" ∷ codes "--top" ∷ codes "plain" ∷ codes "--v2" ∷ []) ≡ None
+  pub show_context : asked_of (codes "show" ∷ codes "--top" ∷ codes "plain" ∷ codes "--context" ∷ []) ≡ None
+  pub line : asked_of (codes "line" ∷ codes "--top" ∷ codes "plain" ∷ []) ≡ Some (record { command = Line Sending; top = codes "plain"; shows_context = false; version = One })
+  pub line_receive : asked_of (codes "line" ∷ codes "--top" ∷ codes "plain" ∷ codes "--receive" ∷ []) ≡ Some (record { command = Line Receiving; top = codes "plain"; shows_context = false; version = One })
+  pub pack_receive : asked_of (codes "pack" ∷ codes "--top" ∷ codes "plain" ∷ codes "--receive" ∷ []) ≡ None
+  pub line_context : asked_of (codes "line" ∷ codes "--top" ∷ codes "plain" ∷ codes "--context" ∷ []) ≡ None
+  pub no_top : asked_of (codes "pack" ∷ []) ≡ None
+  pub no_command : asked_of [] ≡ None
+  pub other_flag : asked_of (codes "pack" ∷ codes "--top" ∷ codes "plain" ∷ codes "--fly" ∷ []) ≡ None
+  pub help : AskJustHelp (codes "--help" ∷ [])
+  pub command_help : AskJustHelp (codes "pack" ∷ codes "--help" ∷ [])
+  pub help_command : AskHelp (codes "help" ∷ [])

@@ -1,0 +1,4 @@
+//! The command line.
+#![tactic(auto)]
+
+pub mod words;

@@ -1,0 +1,302 @@
+//! What the words of a call ask for.
+ghost use Rattle.std.specs.Prelude.{◌≡◌, ◌↔◌, None, Some, false, map, IfOk, IfErr, option_map};
+ghost use Rattle.clap.specs.Words.{app_of, kind_of, subcommand_rows_of};
+ghost use Rattle.clap.specs.declared.builder.command.Command.TheViews.{out-Command as fields_of};
+ghost use Rattle.rohcfn_words.specs.Words.{ReadsWords, RefusesError, RefusesWords, asked, asked_in, asked_of, command_named, end_at, is_set, program, version_asked, with_flags, with_receive, with_top, with_version};
+
+use clap::error::ErrorKind;
+use clap::{Arg, ArgAction, ArgMatches};
+use fn_cert::Version;
+use std::alloc::{AllocError, AllocFailed, Global};
+use thiserror::Error;
+
+/// What the program does.
+#[derive(Clone, Copy, PartialEq, Eq)]
+pub enum Command {
+    /// Lists what the part `profile` says.
+    Show,
+    /// Checks the part `certificate` against the part `profile`.
+    Check,
+    /// Makes a certificate for the part `profile`.
+    Prove,
+    /// Turns lines into lines by the part `profile`.
+    Run(Direction),
+    /// Sends or receives packets of several flows on one line, by the part `profile`.
+    Line(End),
+}
+
+/// An end of a line of flows.
+#[derive(Clone, Copy, PartialEq, Eq)]
+pub enum End {
+    /// Sends the part `events`.
+    Sending,
+    /// Receives the part `octets`.
+    Receiving,
+}
+
+/// From which lines to which.
+#[derive(Clone, Copy, PartialEq, Eq)]
+pub enum Direction {
+    /// Items to packed bits.
+    Pack,
+    /// Packed bits to items.
+    Unpack,
+}
+
+/// A call: the command, the name of the method at which it starts, whether the last context is printed, and the version of a certificate that is made.
+#[derive(Clone, Copy)]
+pub struct Order<'a> {
+    pub command: Command,
+    pub top: &'a str,
+    pub shows_context: bool,
+    pub version: Version,
+}
+
+/// Why words are no order. The text is clap's, for the person who called.
+#[derive(Debug, Drop, Error)]
+pub enum WordsError {
+    #[error("{0}")]
+    Help(String),
+    #[error("{0}")]
+    Usage(String),
+    #[error("out of memory")]
+    OutOfMemory,
+}
+
+impl From<AllocError> for WordsError {
+    ghost use Rattle.rohcfn_words.specs.declared.words.WordsError.TheVariants.{OutOfMemory};
+
+    ghost from_gives = { λ _ error. error ≡ OutOfMemory };
+
+    fn from(_error: AllocError) -> WordsError {
+        WordsError::OutOfMemory
+    }
+}
+
+/// Reads the words that follow the program's name: a command, `pack`, `unpack`, `show`, `check`, `prove` or `line`, and
+/// its flags: `--top NAME`, for all commands but `show` also `--v2`, for `pack` and `unpack` also `--context`, and for `line`
+/// also `--receive`.
+///
+/// The clauses say it by clap's own account of a command line (`asked_of`), on which clap's parse is
+/// proved exact. Words that ask for help alone are no usage fault. The clauses say nothing of the text, and not
+/// which usage fault it tells.
+pub fn read_order<'a>(alloc: Global, words: &'a [&'a str]) -> Result<Order<'a>, WordsError>
+    ensures order { IfOk result (λ order. asked_of (map (λ word. word.now) words.entry.now) ≡ Some (asked order)) }
+    ensures refused { IfErr result (λ error. RefusesWords (map (λ word. word.now) words.entry.now) error) }
+{
+    let command = program(alloc)?;
+    match command.try_get_matches_from(words) {
+        Ok(matches) => match order_in(&matches) {
+            Some(order) => Ok(order),
+            None => Err(WordsError::Usage(format!(in alloc; "{NO_ORDER}\n{INPUT}")?)),
+        },
+        Err(error) => Err(refusal(alloc, &error)?),
+    }
+}
+
+/// A law of words: what some of them ask for.
+#[tactic(auto, using(crate::proofs::WordsRead::words_are_read))]
+pub fn words_written_out()
+    ensures { ReadsWords }
+{}
+
+const NO_ORDER: &str = "error: a command and --top NAME are needed\n";
+
+// What goes in and comes out, with an example for each command. It ends each text for the person who called.
+const INPUT: &str = "\
+A bundle is read from standard input: parts, each after a line `=== PART`. For example:
+
+  rohcfn show --top plain <BUNDLE            profile > the methods, bounds and constraints
+  rohcfn prove --top plain <BUNDLE           profile > a certificate
+  rohcfn check --top plain <BUNDLE           profile > `accepted`
+  rohcfn pack --top plain <BUNDLE            profile, items > a line of bits for each item
+  rohcfn unpack --top plain <BUNDLE          profile, packets > the item of each packet
+  rohcfn line --top plain <BUNDLE            profile, events > octets in hex, then `FLOW ITEM` lines
+  rohcfn line --top plain --receive <BUNDLE  profile, octets > `FLOW ITEM` lines
+
+The parts certificate and context may be there as well. Where no certificate is there one is made,
+with --v2 of version 2. Without words the program takes those of the part words. Each format, and
+the lines of faults: docs/FORMATS.md.
+";
+
+// The program's command line.
+fn program<'a>(alloc: Global) -> Result<clap::Command<'a>, AllocError>
+    ensures { IfOk result (λ command. app_of command ≡ program) }
+{
+    // (each command is made just before it is added: what is held across a `?` costs the proof minutes)
+    let bare = clap::Command::new(alloc, "rohcfn")
+        .about("Packs and unpacks headers by a profile in the ROHC formal notation")
+        .after_help(INPUT)
+        .bin_name("rohcfn")?
+        .no_binary_name(true)
+        .subcommand_required(true);
+    let pack = with_flags(alloc, "pack", "Packs the part items")?;
+    let one = bare.subcommand(pack)?;
+    let unpack = with_flags(alloc, "unpack", "Unpacks the part packets")?;
+    let two = one.subcommand(unpack)?;
+    let show = with_top(
+        alloc,
+        "show",
+        "Shows the methods, bounds and constraints of the part profile",
+    )?;
+    let three = two.subcommand(show)?;
+    let check = with_version(
+        alloc,
+        "check",
+        "Checks the part certificate against the part profile",
+    )?;
+    let four = three.subcommand(check)?;
+    let prove = with_version(alloc, "prove", "Makes a certificate for the part profile")?;
+    let five = four.subcommand(prove)?;
+    let line = with_receive(alloc, "line", "Sends the part events on a line of flows")?;
+    five.subcommand(line)
+}
+
+// A command with the flag `--top`.
+fn with_top<'a>(
+    alloc: Global,
+    name: &'a str,
+    about: &'a str,
+) -> Result<clap::Command<'a>, AllocError>
+    ensures app { IfOk result (λ command. app_of command ≡ with_top name.entry.now) }
+    ensures local { IfOk result (λ command. (fields_of command).has_globals ≡ false) }
+{
+    let top = Arg::new(alloc, "top")
+        .long("top")
+        .value_name("NAME")
+        .help("The method at which a header starts")
+        .required(true);
+    clap::Command::new(alloc, name)
+        .about(about)
+        .after_help(INPUT)
+        .arg(top)
+}
+
+// A command that may make a certificate, with the flags `--top` and `--v2`.
+fn with_version<'a>(
+    alloc: Global,
+    name: &'a str,
+    about: &'a str,
+) -> Result<clap::Command<'a>, AllocError>
+    ensures app { IfOk result (λ command. app_of command ≡ with_version name.entry.now) }
+    ensures local { IfOk result (λ command. (fields_of command).has_globals ≡ false) }
+{
+    let second = Arg::new(alloc, "v2")
+        .long("v2")
+        .help("Makes a certificate of version 2, where none is given")
+        .action(ArgAction::SetTrue);
+    with_top(alloc, name, about)?.arg(second)
+}
+
+// A command with the flags `--top`, `--v2` and `--context`.
+fn with_flags<'a>(
+    alloc: Global,
+    name: &'a str,
+    about: &'a str,
+) -> Result<clap::Command<'a>, AllocError>
+    ensures app { IfOk result (λ command. app_of command ≡ with_flags name.entry.now) }
+    ensures local { IfOk result (λ command. (fields_of command).has_globals ≡ false) }
+{
+    let context = Arg::new(alloc, "context")
+        .long("context")
+        .help("Prints the last context after the lines")
+        .action(ArgAction::SetTrue);
+    with_version(alloc, name, about)?.arg(context)
+}
+
+// A command with the flags `--top`, `--v2` and `--receive`.
+fn with_receive<'a>(
+    alloc: Global,
+    name: &'a str,
+    about: &'a str,
+) -> Result<clap::Command<'a>, AllocError>
+    ensures app { IfOk result (λ command. app_of command ≡ with_receive name.entry.now) }
+    ensures local { IfOk result (λ command. (fields_of command).has_globals ≡ false) }
+{
+    let receive = Arg::new(alloc, "receive")
+        .long("receive")
+        .help("Receives the part octets instead")
+        .action(ArgAction::SetTrue);
+    with_version(alloc, name, about)?.arg(receive)
+}
+
+// The order in what clap read.
+fn order_in<'a>(matches: &ArgMatches<'a>) -> Option<Order<'a>>
+    ensures { option_map asked result ≡ asked_in (subcommand_rows_of matches.now) }
+{
+    let (name, flags) = matches.subcommand()?;
+    let receives = is_set(flags.get_str("receive"));
+    let command = command_of(name, receives)?;
+    let top = flags.get_str("top")?;
+    let shows_context = is_set(flags.get_str("context"));
+    let version = version_asked(is_set(flags.get_str("v2")));
+    Some(Order {
+        command,
+        top,
+        shows_context,
+        version,
+    })
+}
+
+// The version of a certificate that is made, by whether the second is asked for.
+fn version_asked(second: bool) -> Version
+    ensures { result ≡ version_asked second }
+{
+    if second { Version::Two } else { Version::One }
+}
+
+// Whether the text of a flag says that it was given.
+fn is_set(text: Option<&str>) -> bool
+    ensures { result ≡ is_set (option_map (λ text. text.now) text.entry) }
+{
+    match text {
+        Some(text) => text == "true",
+        None => false,
+    }
+}
+
+fn command_of(name: &str, receives: bool) -> Option<Command>
+    ensures { result ≡ command_named name.now receives }
+{
+    if name == "pack" {
+        Some(Command::Run(Direction::Pack))
+    } else if name == "unpack" {
+        Some(Command::Run(Direction::Unpack))
+    } else if name == "show" {
+        Some(Command::Show)
+    } else if name == "check" {
+        Some(Command::Check)
+    } else if name == "prove" {
+        Some(Command::Prove)
+    } else if name == "line" {
+        Some(Command::Line(end_of(receives)))
+    } else {
+        None
+    }
+}
+
+fn end_of(receives: bool) -> End
+    ensures { result ≡ end_at receives }
+{
+    if receives {
+        End::Receiving
+    } else {
+        End::Sending
+    }
+}
+
+// What clap's refusal is to the caller.
+fn refusal(alloc: Global, error: &clap::Error) -> Result<WordsError, AllocError>
+    ensures { IfOk result (λ told. RefusesError (kind_of error.now) told) }
+{
+    let kind = error.kind();
+    if kind == ErrorKind::OutOfMemory {
+        return Ok(WordsError::OutOfMemory);
+    }
+    if kind == ErrorKind::DisplayHelp {
+        let text = format!(in alloc; "{error}")?;
+        return Ok(WordsError::Help(text));
+    }
+    let text = format!(in alloc; "{error}\n{INPUT}")?;
+    Ok(WordsError::Usage(text))
+}
