@@ -1,5 +1,5 @@
 -- What is found of a profile and its certificate, as the code has it.
-use Rattle.std.proofs.Common.{◌≡◌, refl, ◌∙◌, ℕ, List, [], ◌∷◌, ◌++◌, ap, sym, subst}
+use Rattle.std.proofs.Common.{◌≡◌, refl, ◌∙◌, ℕ, ◌≤◌, List, length, [], ◌∷◌, ◌++◌, ap, sym, subst}
 use Rattle.std.specs.Borrow.{Bor}
 use Rattle.std.specs.Prelude.{Option, Some, None, Result, Ok, Err, IfOk, String, codes, string_bytes}
 use Rattle.std.specs.Global.{Global}
@@ -12,9 +12,9 @@ use Rattle.fn_names.specs.Readings.{Reads}
 use Rattle.fn_normal.specs.declared.profile.Method.{Method}
 use Rattle.fn_profile.specs.Resolved.{IsSound, Resolved}
 use Rattle.fn_cert.specs.declared.certificate.Version.{Version}
-use Rattle.fn_cert.specs.Kept.{Certified}
+use Rattle.fn_cert.specs.Kept.{Certified, AreKept}
 use Rattle.fn_cert.specs.Text.{certificate_text}
-use Rattle.fn_cert.specs.Faults.{IsReading, Blames}
+use Rattle.fn_cert.specs.Faults.{IsReading, Blames, text_limit}
 use Rattle.fn_cert.specs.declared.reading.CertificateError.{CertificateError}
 use Rattle.fn_rules.specs.declared.fault.CheckFault.{CheckFault}
 use Rattle.fn_rules.specs.Valid.{Valid}
@@ -127,8 +127,9 @@ broken_here octets e n (Ok text) is blames h =
     h ∙ ap (λ k. line_of_certificate k (codes "K1 bad word")) lines.1
 
 -- a text that is read as a certificate, or as none
-pub read_here : (p : Resolved) (octets : Bor (List ℕ)) (text : List ℕ) (cert : Certified) → octets.now ≡ text → IsUtf8 text → IsReading p.methods (numbered_lines text) cert → IsCertificate p (Given octets) cert
-read_here p octets text cert same utf8 reads = read octets refl (subst IsUtf8 (sym same) utf8) (subst (λ t. IsReading p.methods (numbered_lines t) cert) (sym same) reads)
+pub read_here : (p : Resolved) (octets : Bor (List ℕ)) (text : List ℕ) (cert : Certified) → octets.now ≡ text → IsUtf8 text → length text ≤ text_limit → IsReading p.methods (numbered_lines text) cert → AreKept cert → IsCertificate p (Given octets) cert
+read_here p octets text cert same utf8 short reads kept =
+    read octets refl (subst IsUtf8 (sym same) utf8) (subst (λ t. length t ≤ text_limit) (sym same) short) (subst (λ t. IsReading p.methods (numbered_lines t) cert) (sym same) reads) kept
 
 pub unread_here : (p : Resolved) (octets : Bor (List ℕ)) (text line : List ℕ) (e : CertificateError) → octets.now ≡ text → IsUtf8 text → Blames p.methods e text → IsErrorLine e line → LacksCertificate p (Given octets) line × IsLine line
 unread_here p octets text line e same utf8 blames is = (unread octets e refl (subst IsUtf8 (sym same) utf8) (subst (Blames p.methods e) (sym same) blames) is, errors e line is)
@@ -143,8 +144,8 @@ none_proved_line version p why methods text written (Ok a) is shown line sound s
     let Q : Status → Type 0 = λ s. ProvedBy version p s (string_bytes a.output) in
     subst Q (sym g.status_is) (subst P (ap (λ x. x ++ 10 ∷ []) (sym same) ∙ sym g.line_is) (unproved why text is here (unproved_lines p.methods why text sound.words here)))
 
-pub certificate_printed : (version : Version) (p : Resolved) (cert : Certified) (r : Result Answer AllocError) → IsProved version p cert → IfOk r (λ a. a.status ≡ status.Done) → IfOk r (λ a. string_bytes a.output ≡ certificate_text cert) → IfOk r (Proves version p)
-certificate_printed version p cert r is done spelled = done_is (ProvedBy version p) (certificate_text cert) r (printed cert is) done spelled
+pub certificate_printed : (version : Version) (p : Resolved) (cert : Certified) (r : Result Answer AllocError) → IsProved version p cert → AreKept cert → IfOk r (λ a. a.status ≡ status.Done) → IfOk r (λ a. string_bytes a.output ≡ certificate_text cert) → IfOk r (Proves version p)
+certificate_printed version p cert r is kept done spelled = done_is (ProvedBy version p) (certificate_text cert) r (printed cert is kept) done spelled
 
 pub proved_by_profile : (version : Version) (top name profile : List ℕ) (p : Resolved) (r : Result Answer AllocError) → name ≡ top → Reads profile name p → IfOk r (Proves version p) → IfOk r (ProvesOctets version top profile)
 proved_by_profile version top name profile p (Err e) is reads h = tt

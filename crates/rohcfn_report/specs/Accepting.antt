@@ -1,5 +1,5 @@
 -- A profile and its certificate: what is accepted, and the line of what is wrong with them (docs/FORMATS.md).
-use Rattle.std.specs.Prelude.{◌≡◌, ℕ, List, Option, Some, None, codes, string_bytes}
+use Rattle.std.specs.Prelude.{◌≡◌, ℕ, ◌≤◌, List, length, Option, Some, None, codes, string_bytes}
 use Rattle.std.specs.Borrow.{Bor}
 use Rattle.std.specs.Str.{IsUtf8}
 use Rattle.fn_bits.specs.Lines.{numbered_lines, broken_line}
@@ -7,8 +7,8 @@ use Rattle.fn_names.specs.Readings.{Reads}
 use Rattle.fn_profile.specs.Resolved.{Resolved}
 use Rattle.fn_cert.specs.declared.reading.CertificateError.{CertificateError}
 use Rattle.fn_cert.specs.declared.certificate.Version.{Version}
-use Rattle.fn_cert.specs.Kept.{Certified}
-use Rattle.fn_cert.specs.Faults.{IsReading, Blames}
+use Rattle.fn_cert.specs.Kept.{Certified, AreKept}
+use Rattle.fn_cert.specs.Faults.{IsReading, Blames, text_limit}
 use Rattle.fn_rules.specs.declared.fault.CheckFault.{CheckFault}
 use Rattle.fn_rules.specs.Refusals.{IsRefused}
 use Rattle.fn_rules.specs.Valid.{Valid}
@@ -31,10 +31,10 @@ abbrev pub origin_of : Version → Option (Bor (List ℕ)) → Origin
 origin_of version (Some octets) = Given octets
 origin_of version None = Made version
 
--- The certificate of a profile: octets that are given are read, and where none are given one of the version is made.
+-- The certificate of a profile, within the limits of certificates: octets that are given, no more than a text may have, are read, and where none are given one of the version is made.
 pub data IsCertificate (p : Resolved) (origin : Origin) (cert : Certified) : Type 0 where
-  read : (octets : Bor (List ℕ)) → origin ≡ Given octets → IsUtf8 octets.now → IsReading p.methods (numbered_lines octets.now) cert → IsCertificate p origin cert
-  made : (version : Version) → origin ≡ Made version → IsProved version p cert → IsCertificate p origin cert
+  read : (octets : Bor (List ℕ)) → origin ≡ Given octets → IsUtf8 octets.now → length octets.now ≤ text_limit → IsReading p.methods (numbered_lines octets.now) cert → AreKept cert → IsCertificate p origin cert
+  made : (version : Version) → origin ≡ Made version → IsProved version p cert → AreKept cert → IsCertificate p origin cert
 
 -- the line of octets that are no UTF-8
 abbrev pub broken_text : List ℕ → List ℕ

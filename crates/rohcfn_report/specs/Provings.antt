@@ -3,7 +3,7 @@ use Rattle.std.specs.Prelude.{◌≡◌, ℕ, List, [], ◌∷◌, ◌++◌, cod
 use Rattle.fn_normal.specs.declared.profile.Method.{Method}
 use Rattle.fn_cert.specs.declared.certificate.Direction.{Direction}
 use Rattle.fn_cert.specs.declared.certificate.Version.{Version}
-use Rattle.fn_cert.specs.Kept.{Certified}
+use Rattle.fn_cert.specs.Kept.{Certified, AreKept}
 use Rattle.fn_cert.specs.Text.{certificate_text, side_word}
 use Rattle.fn_profile.specs.Resolved.{Resolved}
 use Rattle.fn_order.specs.declared.fault.FieldSide.{FieldSide}
@@ -39,8 +39,8 @@ IsUnprovedLine methods OutOfMemory text = ⊥
 pub data ProvedBy (version : Version) (p : Resolved) : Status → List ℕ → Type 0 where
   -- no certificate is made, and one line says why
   unproved : (why : Unproved) (text : List ℕ) → IsUnproved version p why → IsUnprovedLine p.methods why text → IsLine text → ProvedBy version p status.Refused (text ++ 10 ∷ [])
-  -- the text of the one that is
-  printed : (cert : Certified) → IsProved version p cert → ProvedBy version p status.Done (certificate_text cert)
+  -- the text of the one that is, which is within the limits of certificates
+  printed : (cert : Certified) → IsProved version p cert → AreKept cert → ProvedBy version p status.Done (certificate_text cert)
 
 abbrev pub Proves : Version → Resolved → Answer → Type 0
 Proves version p a = ProvedBy version p a.status (string_bytes a.output)

@@ -104,7 +104,10 @@ fn make(alloc: Global, profile: &Profile, version: Version) -> Result<Found, All
     ensures { IfOk result (spec.IsMade profile.now version) }
 {
     match prove(alloc, profile, version) {
-        Ok(certificate) => Ok(Found::Certificate(certificate)),
+        Ok(certificate) => {
+            certificate.keeps();
+            Ok(Found::Certificate(certificate))
+        }
         Err(unproved) => {
             profile.keeps();
             Ok(Found::Line(unproved_line(alloc, profile.methods(), unproved)?))
@@ -129,7 +132,10 @@ fn read_text(alloc: Global, profile: &Profile, text: &str) -> Result<Found, Allo
     ensures { IfOk result (spec.IsGiven profile.now text.now) }
 {
     match fn_cert::read(alloc, profile, text) {
-        Ok(certificate) => Ok(Found::Certificate(certificate)),
+        Ok(certificate) => {
+            certificate.keeps();
+            Ok(Found::Certificate(certificate))
+        }
         Err(error) => Ok(Found::Line(unread_line(alloc, error)?)),
     }
 }

@@ -41,7 +41,10 @@ fn prove_profile(alloc: Global, version: Version, profile: &Profile) -> Result<A
     ensures { IfOk result (Proves version profile.now) }
 {
     match prove(alloc, profile, version) {
-        Ok(certificate) => answer_printed(alloc, &certificate),
+        Ok(certificate) => {
+            certificate.keeps();
+            answer_printed(alloc, &certificate)
+        }
         Err(unproved) => {
             profile.keeps();
             let line = unproved_line(alloc, profile.methods(), unproved)?;
