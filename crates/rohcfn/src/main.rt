@@ -32,7 +32,7 @@ fn main(rt: HostRuntime) -> ExitCode {
         alloc,
         texts.as_slice(),
         &mut Uncounted(rt.reader()),
-        &mut io::writer(&rt),
+        &mut Uncounted(io::writer(&rt)),
     );
     let told = match &outcome.usage {
         Some(usage) => eprint!(rt; "{usage}").is_ok(),

@@ -1,6 +1,8 @@
 -- What is read of an input.
-use Rattle.std.specs.Prelude.{◌≡◌, ◌<◌, ◌≤◌, ℕ, List, length}
-use Rattle.rohcfn_input.specs.Counted.{most_octets}
+use Rattle.std.specs.Prelude.{◌≡◌, ◌<◌, ◌≤◌, ℕ, List, length, Option}
+use Rattle.rohcfn_input.specs.Counted.{Account, HasFailed, most_octets}
+use Rattle.rohcfn_input.specs.declared.status.Failure.{Failure}
+use Rattle.rohcfn_input.specs.declared.status.Failure.TheVariants.{Reading, Writing, Memory}
 use Rattle.rohcfn_input.specs.declared.reading.Input.{Input}
 use Rattle.rohcfn_input.specs.declared.reading.Input.TheVariants.{Whole, Large}
 
@@ -13,3 +15,9 @@ IsInput all Large = most_octets < length all
 abbrev pub IsShortInput : Input → Type 0
 IsShortInput (Whole input) = length input.items ≤ most_octets
 IsShortInput Large = Unit {0}
+
+-- why nothing was read: a read has failed, or memory ran out
+abbrev pub BlamesRead : Failure → Option Account → Type 0
+BlamesRead Reading account = HasFailed account
+BlamesRead Writing account = ⊥
+BlamesRead Memory account = Unit {0}

@@ -1,9 +1,9 @@
 //! The input, read to its end.
 
-ghost use Rattle.std.specs.Prelude.{◌≡◌, ◌+◌, ◌<◌, ◌≤◌, List, ℕ, ◌++◌, true, false, length, IfOk, IfSome, vec_len};
+ghost use Rattle.std.specs.Prelude.{◌≡◌, ◌+◌, ◌<◌, ◌≤◌, List, ℕ, ◌++◌, true, false, length, IfOk, IfErr, IfSome, vec_len};
 ghost use Rattle.std.specs.Io.KnownBytes.{Consumes, IsAtEnd};
 ghost use Rattle.rohcfn_input.specs.Counted.{IsSoFar, most_octets};
-ghost use Rattle.rohcfn_input.specs.Reading.{IsInput, IsShortInput};
+ghost use Rattle.rohcfn_input.specs.Reading.{BlamesRead, IsInput, IsShortInput};
 
 use crate::counted::CountedRead;
 use crate::status::Failure;
@@ -25,6 +25,7 @@ pub fn read_input<R: CountedRead>(alloc: Global, reader: &mut R) -> Result<Input
     requires { IsSoFar (R.account reader.old) 0 }
     ensures all { IfSome (R.remaining reader.old) (λ all. IfOk result (λ input. IsInput all input)) }
     ensures short { IfOk result IsShortInput }
+    ensures failed { IfErr result (λ why. BlamesRead why (R.account reader.new)) }
 {
     let mut input = Vec::new(alloc);
     let mut chunk = zeros(alloc, CHUNK)?;
@@ -55,6 +56,7 @@ fn read_more<R: CountedRead>(
     ensures goes_on { IfOk result (λ goes_on. goes_on ≡ true → vec_len input.old < vec_len input.new) }
     ensures ends { IfOk result (λ goes_on. goes_on ≡ false → (vec_len input.new ≡ vec_len input.old) × IsAtEnd (R.remaining reader.new)) }
     ensures counted { IfOk result (λ goes_on. goes_on ≡ true → IsSoFar (R.account reader.new) (vec_len input.new)) }
+    ensures failed { IfErr result (λ why. BlamesRead why (R.account reader.new)) }
 {
     let room = chunk.len().min(LIMIT + 1 - input.len());
     match reader.read_next(&mut chunk[..room]) {

@@ -116,13 +116,13 @@ fn with_steps(
         reads: usize::MAX,
         fault: ErrorKind::Other,
     });
-    let mut sink = Sink {
+    let mut sink = Uncounted(Sink {
         taken: Vec::new(alloc),
         step: writes,
         writes: usize::MAX,
-    };
+    });
     let outcome = run(alloc, words, &mut source, &mut sink);
-    let Sink { taken, .. } = sink;
+    let Uncounted(Sink { taken, .. }) = sink;
     (outcome, taken)
 }
 
@@ -296,10 +296,10 @@ fn takes_four_mebibytes(rt: HostRuntime) -> Result<(), Fail> {
     assert!(rt; outcome.status == Status::Refused);
     assert!(rt; taken.as_slice() == large.as_slice());
     let mut endless = Uncounted(Endless { given: 0 });
-    let mut written = Vec::new(alloc);
+    let mut written = Uncounted(Vec::new(alloc));
     let outcome = run(alloc, words.as_slice(), &mut endless, &mut written);
     assert!(rt; outcome.status == Status::Refused);
-    assert!(rt; written.as_slice() == large.as_slice());
+    assert!(rt; written.0.as_slice() == large.as_slice());
     assert!(rt; endless.0.given == 4_194_305, "{}", endless.0.given);
     Ok(())
 }
@@ -312,7 +312,7 @@ fn over_and_asked<R: Read + Drop>(alloc: Global, reader: R) -> (bool, bool) {
         is_over: false,
         is_asked_again: false,
     });
-    let mut written = Vec::new(alloc);
+    let mut written = Uncounted(Vec::new(alloc));
     let _outcome = run(alloc, &[], &mut watched, &mut written);
     (watched.0.is_over, watched.0.is_asked_again)
 }
@@ -367,14 +367,14 @@ fn fails_with_its_reader(rt: HostRuntime) {
                 reads,
                 fault,
             });
-            let mut written = Vec::new(rt.alloc());
+            let mut written = Uncounted(Vec::new(rt.alloc()));
             let outcome = run(rt.alloc(), &[], &mut source, &mut written);
             assert!(rt;
                 outcome.status == Status::Failed(Failure::Reading),
                 "at {reads}"
             );
             assert!(rt; outcome.usage.is_none(), "at {reads}");
-            assert!(rt; written.is_empty(), "at {reads}");
+            assert!(rt; written.0.is_empty(), "at {reads}");
         }
     }
 }
@@ -383,11 +383,11 @@ fn fails_with_its_reader(rt: HostRuntime) {
 fn fails_with_its_writer(rt: HostRuntime) {
     let text = b"18:96af00\n";
     for writes in 0..11 {
-        let mut sink = Sink {
+        let mut sink = Uncounted(Sink {
             taken: Vec::new(rt.alloc()),
             step: 1,
             writes,
-        };
+        });
         let mut source = Uncounted(ROW);
         let outcome = run(rt.alloc(), &[], &mut source, &mut sink);
         let wanted = if writes < 10 {
@@ -397,7 +397,7 @@ fn fails_with_its_writer(rt: HostRuntime) {
         };
         assert!(rt; outcome.status == wanted, "at {writes}");
         assert!(rt;
-            sink.taken.as_slice() == &text[..writes.min(10)],
+            sink.0.taken.as_slice() == &text[..writes.min(10)],
             "at {writes}"
         );
     }

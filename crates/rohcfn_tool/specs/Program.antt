@@ -1,7 +1,9 @@
 -- What the program prints.
-use Rattle.std.specs.Prelude.{◌≡◌, ◌<◌, ◌≤◌, ◌⊎◌, ℕ, List, [], ◌∷◌, ◌++◌, Option, None, Some, length, codes, option_and_then, string_bytes}
+use Rattle.std.specs.Prelude.{◌≡◌, ◌<◌, ◌≤◌, ◌⊎◌, ℕ, Bool, List, [], ◌∷◌, ◌++◌, Option, None, Some, length, codes, option_and_then, string_bytes}
 use Rattle.std.specs.Io.KnownBytes.{Appends, Keeps}
 pub use Rattle.rohcfn_input.specs.Counted.{most_octets}
+use Rattle.rohcfn_input.specs.Counted.{Account, HasFailed, HasStopped}
+use Rattle.rohcfn_input.specs.declared.status.Failure.TheVariants.{Reading, Writing}
 use Rattle.rohcfn_input.specs.Bundle.{BlamesPart, HoldsParts, IsBundle, parts_of, text_named, shown_name}
 use Rattle.rohcfn_tool.specs.Printed.{Answered}
 use Rattle.rohcfn_words.specs.Words.{AskHelp, AskJustHelp, asked, asked_of}
@@ -71,6 +73,17 @@ Gives given input status None old new = (output : List ℕ) × RunPrints given i
 
 abbrev pub RunGives : List (List ℕ) → List ℕ → Outcome → Option (List ℕ) → Option (List ℕ) → Type 0
 RunGives given input outcome old new = Gives given input outcome.status outcome.usage old new
+
+-- so of an input: that of the reader, where it is known what that gives, else of some one
+abbrev pub ForInput : Option (List ℕ) → (List ℕ → Type 0) → Type 0
+ForInput (Some known) P = P known
+ForInput None P = (input : List ℕ) × P input
+
+-- a status of failure is that of a read only where one has failed, that of a write only where one has failed or taken nothing
+abbrev pub Fails : Status → Option Account → Option Bool → Type 0
+Fails (Failed Reading) account is_over = HasFailed account
+Fails (Failed Writing) account is_over = HasStopped is_over
+Fails _ account is_over = Unit {0}
 
 -- what the reply to an input is
 abbrev pub Replies : List (List ℕ) → List ℕ → Reply → Type 0

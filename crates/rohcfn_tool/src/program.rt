@@ -1,18 +1,18 @@
 //! The program over a reader and a writer.
-ghost use Rattle.std.specs.Prelude.{◌≡◌, ◌≤◌, List, ℕ, ◌++◌, true, map, length, IfOk, IfSome};
+ghost use Rattle.std.specs.Prelude.{◌≡◌, ◌≤◌, List, ℕ, ◌++◌, true, false, map, length, IfOk, IfErr};
 ghost use Rattle.std.specs.Io.KnownBytes.{Appends};
-ghost use Rattle.rohcfn_input.specs.Counted.{IsSoFar, most_octets};
-ghost use Rattle.rohcfn_tool.specs.Program.{RefusesBy, Replies, RepliesBy, RunGives, bad_part_line, large_line};
+ghost use Rattle.rohcfn_input.specs.Counted.{HasStopped, IsSoFar, MayTake, most_octets};
+ghost use Rattle.rohcfn_input.specs.Reading.{BlamesRead};
+ghost use Rattle.rohcfn_tool.specs.Program.{Fails, ForInput, RefusesBy, Replies, RepliesBy, RunGives, bad_part_line, large_line};
 
 use crate::replies::answer;
 use rohcfn_input::bundle::{Parts, name_shown, split};
-use rohcfn_input::counted::CountedRead;
+use rohcfn_input::counted::{CountedRead, CountedWrite};
 use rohcfn_input::part_words::words_at;
 use rohcfn_input::reading::{Input, read_input};
 use rohcfn_input::status::{Answer, Failure, Status};
 use rohcfn_words::words::{WordsError, read_order};
 use std::alloc::{AllocError, Global};
-use std::io::Write;
 
 /// How a run ended, and the text for the person who called, of a usage fault or a request for help.
 #[derive(Drop)]
@@ -31,17 +31,21 @@ enum Reply {
 /// Runs the program on the words that follow its name, or with none on those of its input.
 ///
 /// It reads until the reader ends, fails in any way, or has given 4 MiB and one octet, and asks it no more then
-/// (`CountedRead`); it writes until all is written, a write fails or takes nothing. The clause speaks of a reader
-/// and a writer whose bytes are known. That the status is `Failed` only where a read or a write failed, a write
-/// took nothing or memory was refused, and which of these it names, is not said here; nor is the text of `usage`.
-pub fn run<R: CountedRead, W: Write>(
+/// (`CountedRead`); it writes until all is written, a write fails or takes nothing, and asks the writer no more then
+/// (`CountedWrite`). What is written is what the input asks for, or the front of that: some input, where it is not known
+/// what the reader gives. The status is that of a failed read only where a read has failed, and that of a failed write only
+/// where a write has failed or taken nothing; that it is that of memory only where memory was refused is not said here,
+/// nor is the text of `usage`.
+pub fn run<R: CountedRead, W: CountedWrite>(
     alloc: Global,
     words: &[&str],
     reader: &mut R,
     writer: &mut W,
 ) -> Outcome
-    requires { IsSoFar (R.account reader.old) 0 }
-    ensures { IfSome (R.remaining reader.old) (λ input. RunGives (map (λ word. word.now) words.entry.now) input result (W.contents writer.old) (W.contents writer.new)) }
+    requires reader { IsSoFar (R.account reader.old) 0 }
+    requires writer { MayTake (W.is_over writer.old) }
+    ensures gives { ForInput (R.remaining reader.old) (λ input. RunGives (map (λ word. word.now) words.entry.now) input result (W.contents writer.old) (W.contents writer.new)) }
+    ensures failed { Fails result.status (R.account reader.new) (W.is_over writer.new) }
 {
     match reply_from(alloc, words, reader) {
         Ok(Reply::Print(status, output)) => {
@@ -76,7 +80,8 @@ fn reply_from<R: CountedRead>(
     reader: &mut R,
 ) -> Result<Reply, Failure>
     requires { IsSoFar (R.account reader.old) 0 }
-    ensures { IfSome (R.remaining reader.old) (λ input. IfOk result (λ reply. Replies (map (λ word. word.now) words.entry.now) input reply)) }
+    ensures replies { ForInput (R.remaining reader.old) (λ input. IfOk result (λ reply. Replies (map (λ word. word.now) words.entry.now) input reply)) }
+    ensures failed { IfErr result (λ why. BlamesRead why (R.account reader.new)) }
 {
     match read_input(alloc, reader)? {
         Input::Whole(input) => Ok(reply_to(alloc, words, input.as_slice())?),
@@ -93,13 +98,15 @@ fn refused_input(alloc: Global) -> Result<Reply, AllocError>
 }
 
 // Writes all octets, a write at a time, and tells whether each took some.
-fn write_out<W: Write>(writer: &mut W, output: &[u8]) -> bool
+fn write_out<W: CountedWrite>(writer: &mut W, output: &[u8]) -> bool
+    requires { MayTake (W.is_over writer.old) }
     ensures whole { result ≡ true → Appends (W.contents writer.old) (W.contents writer.new) output.now }
     ensures front { (sent : List ℕ) × (rest : List ℕ) × (output.now ≡ sent ++ rest) × Appends (W.contents writer.old) (W.contents writer.new) sent }
+    ensures stopped { result ≡ false → HasStopped (W.is_over writer.new) }
 {
     let mut at = 0;
     while at < output.len() {
-        match writer.write(&output[at..]) {
+        match writer.write_next(&output[at..]) {
             Ok(0) => return false,
             Ok(count) => at += count,
             Err(_fault) => return false,
