@@ -6,8 +6,7 @@ use Rattle.fn_tree.specs.declared.tree.Method.{Method}
 use Rattle.fn_normal.specs.declared.fault.ProfileFault.{ProfileFault}
 use Rattle.fn_normal.specs.Judging.{earlier}
 use Rattle.fn_sections.specs.declared.mention.Mention.{Mention}
-use Rattle.fn_sections.specs.declared.mention.Group.TheVariants as groups
-use Rattle.fn_sections.specs.Mentions.{mentions_in}
+use Rattle.fn_sections.specs.declared.names.Lists.{Lists}
 use Rattle.fn_sections.specs.Sections.{incomplete}
 use Rattle.fn_sections.specs.Causes.{Answers, IsSecond}
 use Rattle.fn_sections.specs.Names.{ParameterCause, EncodingCause, KnownCause, ContextCause, SectionsCause, HeadCause, lacks_sections, parameter, second_format, FieldCause, second_in_base, encoding, known, context, section, NameCause, head, field, lists_of, for_all_formats, format_name}
@@ -26,25 +25,29 @@ heads_judged text constants m {a} {b} {c} {inner} lack parameters named inner_is
     cases f (parameter p) = inr (inl p)
     cases f (second_format n) = inr (inr n)
 
-abbrev pub Four : List ℕ → List Section → ProfileFault → Type 0
-Four text sections f = (IsSecond text (mentions_in text groups.Base 0 sections) f ⊎ EncodingCause text (lists_of text sections) f) ⊎ (KnownCause text (lists_of text sections) f ⊎ ContextCause text (lists_of text sections) f)
+abbrev pub Four : List ℕ → Lists → ProfileFault → Type 0
+Four text lists f = (IsSecond text lists.base f ⊎ EncodingCause text lists f) ⊎ (KnownCause text lists f ⊎ ContextCause text lists f)
 
-pub fields_judged : (text : List ℕ) (sections : List Section) {a b c d e ab cd abcd o : Option ProfileFault} → Answers (IsSecond text (mentions_in text groups.Base 0 sections)) a → Answers (EncodingCause text (lists_of text sections)) b
-    → Answers (KnownCause text (lists_of text sections)) c → Answers (ContextCause text (lists_of text sections)) d → Answers (SectionsCause text (for_all_formats text sections) sections) e
-    → ab ≡ earlier a b → cd ≡ earlier c d → abcd ≡ earlier ab cd → o ≡ earlier abcd e → Answers (FieldCause text sections) o
-fields_judged text sections second encodings known_ones contexts own first_is second_is all_is is =
-    let of_first = subst (Answers (λ f. IsSecond text (mentions_in text groups.Base 0 sections) f ⊎ EncodingCause text (lists_of text sections) f)) (sym first_is) (answers_both second encodings) in
-    let of_second = subst (Answers (λ f. KnownCause text (lists_of text sections) f ⊎ ContextCause text (lists_of text sections) f)) (sym second_is) (answers_both known_ones contexts) in
-    answers_join {C = Four text sections} {D = SectionsCause text (for_all_formats text sections) sections} to from (subst (Answers (Four text sections)) (sym all_is) (answers_both of_first of_second)) own is
+pub lists_judged : (text : List ℕ) (lists : Lists) {a b c d ab cd o : Option ProfileFault} → Answers (IsSecond text lists.base) a → Answers (EncodingCause text lists) b → Answers (KnownCause text lists) c → Answers (ContextCause text lists) d
+    → ab ≡ earlier a b → cd ≡ earlier c d → o ≡ earlier ab cd → Answers (Four text lists) o
+lists_judged text lists second encodings known_ones contexts first_is second_is is =
+    let of_first = subst (Answers (λ f. IsSecond text lists.base f ⊎ EncodingCause text lists f)) (sym first_is) (answers_both second encodings) in
+    let of_second = subst (Answers (λ f. KnownCause text lists f ⊎ ContextCause text lists f)) (sym second_is) (answers_both known_ones contexts) in
+    subst (Answers (Four text lists)) (sym is) (answers_both of_first of_second)
+
+pub fields_judged : (text : List ℕ) (sections : List Section) {four e o : Option ProfileFault} → Answers (Four text (lists_of text sections)) four
+    → Answers (SectionsCause text (for_all_formats text sections) sections) e → o ≡ earlier four e → Answers (FieldCause text sections) o
+fields_judged text sections four own is =
+    answers_join {C = Four text (lists_of text sections)} {D = SectionsCause text (for_all_formats text sections) sections} to from four own is
   where
-    to : (f : ProfileFault) → Four text sections f ⊎ SectionsCause text (for_all_formats text sections) sections f → FieldCause text sections f
+    to : (f : ProfileFault) → Four text (lists_of text sections) f ⊎ SectionsCause text (for_all_formats text sections) sections f → FieldCause text sections f
     to f (inl (inl (inl x))) = second_in_base x
     to f (inl (inl (inr x))) = encoding x
     to f (inl (inr (inl x))) = known x
     to f (inl (inr (inr x))) = context x
     to f (inr x) = section x
 
-    from : (f : ProfileFault) → FieldCause text sections f → Four text sections f ⊎ SectionsCause text (for_all_formats text sections) sections f
+    from : (f : ProfileFault) → FieldCause text sections f → Four text (lists_of text sections) f ⊎ SectionsCause text (for_all_formats text sections) sections f
     from f (second_in_base x) = inl (inl (inl x))
     from f (encoding x) = inl (inl (inr x))
     from f (known x) = inl (inr (inl x))

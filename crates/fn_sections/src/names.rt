@@ -1,6 +1,6 @@
 //! The faults of a method's names.
 
-ghost use Rattle.std.specs.Prelude.{◌≡◌, ◌++◌, ℕ, List, IfOk, map};
+ghost use Rattle.std.specs.Prelude.{◌≡◌, ◌++◌, ◌⊎◌, ℕ, List, IfOk, map};
 ghost use Rattle.std.specs.List.{filter_map};
 ghost use Rattle.fn_sections.specs.Tables.{IsTable};
 ghost use Rattle.fn_sections.specs.Mentions.{first_of, encoded as encoded_ones};
@@ -253,6 +253,36 @@ fn judge_heads(
     Ok(earlier(lack, earlier(parameters, named)))
 }
 
+/// What is wrong with these lists for themselves, and with names in them that UNCOMPRESSED and CONTROL would have to give.
+fn judge_lists(
+    alloc: Global,
+    text: &[u8],
+    lists: &Lists,
+) -> Result<Option<ProfileFault>, AllocError>
+    ensures { IfOk result (Answers (λ f. (IsSecond text.now lists.now.base f ⊎ spec.EncodingCause text.now lists.now f) ⊎ (spec.KnownCause text.now lists.now f ⊎ spec.ContextCause text.now lists.now f))) }
+{
+    let base = second(alloc, text, lists.base.as_slice())?;
+    let encodings = judge_encodings(alloc, text, lists)?;
+    let fields = Table::of(alloc, text, lists.base.as_slice())?;
+    let known = judge_known(alloc, text, &fields, lists)?;
+    let contexts = judge_contexts(text, &fields, lists);
+    Ok(earlier(earlier(base, encodings), earlier(known, contexts)))
+}
+
+/// The table of the fields that are encoded for all formats, or for those that don't.
+fn for_all_formats<'t>(
+    alloc: Global,
+    text: &'t [u8],
+    lists: &Lists,
+) -> Result<Table<'t>, AllocError>
+    ensures { IfOk result (IsTable text.now (encoded_ones (lists.now.base ++ lists.now.default))) }
+{
+    let all = joined(alloc, lists.base.as_slice(), lists.default.as_slice())?;
+    let bound = encoded(alloc, all.as_slice())?;
+    drop(all);
+    Table::of(alloc, text, bound.as_slice())
+}
+
 /// What is wrong with the statements on fields in a method's sections.
 fn judge_fields(
     alloc: Global,
@@ -262,17 +292,11 @@ fn judge_fields(
     ensures { IfOk result (Answers (spec.FieldCause text.now sections.now)) }
 {
     let lists = split(alloc, text, sections)?;
-    let base = second(alloc, text, lists.base.as_slice())?;
-    let encodings = judge_encodings(alloc, text, &lists)?;
-    let fields = Table::of(alloc, text, lists.base.as_slice())?;
-    let known = judge_known(alloc, text, &fields, &lists)?;
-    let contexts = judge_contexts(text, &fields, &lists);
-    let all = joined(alloc, lists.base.as_slice(), lists.default.as_slice())?;
-    let bound = encoded(alloc, all.as_slice())?;
-    let shared = Table::of(alloc, text, bound.as_slice())?;
+    let of_lists = judge_lists(alloc, text, &lists)?;
+    let shared = for_all_formats(alloc, text, &lists)?;
+    drop(lists);
     let own = judge_sections(alloc, text, &shared, sections)?;
-    let of_all = earlier(earlier(base, encodings), earlier(known, contexts));
-    Ok(earlier(of_all, own))
+    Ok(earlier(of_lists, own))
 }
 
 /// The first fault of a method's names and sections. The table is that of the constants' names.
