@@ -1,5 +1,5 @@
 -- A method from its parts: where no part has a fault it is whole, and a fault is that of a part.
-use Rattle.std.proofs.Common.{◌≡◌, ◌∙◌, inl, inr, Bool, List, map, sym, subst}
+use Rattle.std.proofs.Common.{◌≡◌, ◌∙◌, ◌⊎◌, inl, inr, Bool, List, map, sym, subst, Some}
 use Rattle.std.specs.Prelude.{Option}
 use Rattle.fn_tree.specs.declared.tree.Method.{Method as TreeMethod}
 use Rattle.fn_normal.specs.declared.fault.ProfileFault.{ProfileFault}
@@ -17,21 +17,32 @@ use Rattle.fn_formats.specs.declared.drafts.Setting.{Setting}
 use Rattle.fn_methods.specs.declared.methods.FileSetting.{FileSetting}
 use Rattle.fn_methods.specs.Defaults.{default_fault}
 use Rattle.fn_methods.specs.Listing.{AreFormats, FormatCause}
-use Rattle.fn_methods.specs.Methods.{bare_scope, IsSetting, HasGivens, IsBody, IsMethod, HasFormats, BodyCause, MethodCause, in_names, in_body, in_initial, in_format, in_default}
+use Rattle.fn_methods.specs.Methods.{bare_scope, IsSetting, HasGivens, IsBody, IsMethod, AreListed, HasFormats, BodyCause, MethodCause, in_names, in_body, in_initial, in_format, in_default}
 
 -- the formats and the statements of DEFAULT
-pub with_formats : (file : FileSetting) (m : TreeMethod) (x : Setting) (givens : Givens) (formats : List Format) (a b fault : Option ProfileFault)
-    → IsSetting file m x → HasGivens givens x → Judged (AreFormats x 0 x.sections.now formats) (FormatCause x) a → b ≡ default_fault x → fault ≡ earlier a b
-    → HasFormats file m givens formats fault
-with_formats file m x givens formats a b fault is_setting has_givens listed defaults is = record {
+pub both_listed : (x : Setting) (formats : List Format) (a b fault : Option ProfileFault) → Judged (AreFormats x 0 x.sections.now formats) (FormatCause x) a → b ≡ default_fault x → fault ≡ earlier a b
+    → AreListed x formats fault
+both_listed x formats a b fault listed defaults is = record {
+  listed = λ e. listed.fine (neither a b (sym is ∙ e)).0;
+  defaults = λ e. sym defaults ∙ (neither a b (sym is ∙ e)).1;
+  causes = λ f e. elim (which a b f (sym is ∙ e)) as (λ _. FormatCause x f ⊎ (default_fault x ≡ Some f)) [
+    | inl it ↦ inl (listed.cause f it)
+    | inr it ↦ inr (sym defaults ∙ it)
+  ];
+}
+
+-- those of a method's setting
+pub with_formats : (file : FileSetting) (m : TreeMethod) (x : Setting) (givens : Givens) (formats : List Format) (fault : Option ProfileFault)
+    → IsSetting file m x → HasGivens givens x → AreListed x formats fault → HasFormats file m givens formats fault
+with_formats file m x givens formats fault is_setting has_givens both = record {
   setting = x;
   is_setting = is_setting;
   has_givens = has_givens;
-  listed = λ e. subst (λ sections. AreFormats x 0 sections formats) is_setting.sections_are (listed.fine (neither a b (sym is ∙ e)).0);
-  defaults = λ e. sym defaults ∙ (neither a b (sym is ∙ e)).1;
-  causes = λ f e. elim (which a b f (sym is ∙ e)) as (λ _. BodyCause file m f) [
-    | inl it ↦ in_format is_setting (listed.cause f it)
-    | inr it ↦ in_default is_setting (sym defaults ∙ it)
+  listed = λ e. subst (λ sections. AreFormats x 0 sections formats) is_setting.sections_are (both.listed e);
+  defaults = both.defaults;
+  causes = λ f e. elim (both.causes f e) as (λ _. BodyCause file m f) [
+    | inl it ↦ in_format is_setting it
+    | inr it ↦ in_default is_setting it
   ];
 }
 

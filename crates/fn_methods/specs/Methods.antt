@@ -1,5 +1,5 @@
 -- The methods of a file in their normal form.
-use Rattle.std.specs.Prelude.{◌≡◌, Bool, List, [], map, Option, Some, None}
+use Rattle.std.specs.Prelude.{◌≡◌, ◌⊎◌, Bool, List, [], map, Option, Some, None}
 use Rattle.fn_tree.specs.declared.tree.Method.{Method as TreeMethod}
 use Rattle.fn_normal.specs.declared.profile.Format.{Format}
 use Rattle.fn_normal.specs.declared.profile.Method.{Method}
@@ -70,6 +70,12 @@ pub data MethodCause (file : FileSetting) (constants : List Mention) (m : TreeMe
   in_names : {f : ProfileFault} → NameCause file.text.now constants m f → MethodCause file constants m f
   -- of what they give
   in_body : {f : ProfileFault} → BodyCause file m f → MethodCause file constants m f
+
+-- the formats of a setting, or a fault of the formats or of DEFAULT
+pub record AreListed (x : Setting) (formats : List Format) (fault : Option ProfileFault) : Type 0 where
+  pub listed : fault ≡ None → AreFormats x 0 x.sections.now formats
+  pub defaults : fault ≡ None → default_fault x ≡ None
+  pub causes : (f : ProfileFault) → fault ≡ Some f → FormatCause x f ⊎ (default_fault x ≡ Some f)
 
 -- the formats with these givens, or a fault of the formats or of DEFAULT
 pub record HasFormats (file : FileSetting) (m : TreeMethod) (givens : Givens) (formats : List Format) (fault : Option ProfileFault) : Type 0 where

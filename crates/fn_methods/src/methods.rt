@@ -6,13 +6,16 @@ ghost use Rattle.fn_sections.specs.declared.mention.Mention.{Mention as ListedMe
 ghost use Rattle.fn_sections.specs.Tables.{IsTable};
 ghost use Rattle.fn_sections.specs.Mentions.{encoded as encoded_mentions, mentions_in as mentions_of_group};
 ghost use Rattle.fn_formats.specs.Worded.{AreSectionsWorded, MethodIsWorded};
+ghost use Rattle.fn_formats.specs.Drafts as drafts;
+ghost use Rattle.fn_given.specs.Givens.{AreGiven, IsNotGiven};
+ghost use Rattle.fn_methods.specs.Listing.{AreFormats, FormatCause};
 ghost use Rattle.fn_methods.specs.Methods as spec;
 
 use crate::defaults::default_fault;
-use crate::listing::listed_formats;
+use crate::listing::{Formats, listed_formats};
 use crate::parameters::{parameter_names, parameter_table};
 use fn_formats::{Setting, kept_statements};
-use fn_given::{Givens, given};
+use fn_given::{Givens, JudgedGivens, given};
 use fn_normal::{Format, Method, Name, ProfileFault, Words, earlier, word};
 use fn_sections::{Group, Table, encoded, judge, mentions};
 use fn_statements::Methods;
@@ -81,14 +84,28 @@ fn method_body(
     ensures { IfOk result (λ b. Judged (spec.IsBody file.now method.now is_top b.formats) (spec.BodyCause file.now method.now) b.fault) }
 {
     let parameters = parameter_table(alloc, file.text, method.parameters.as_slice())?;
-    let none = Words::new(alloc);
-    let scope = Scope::new(file.text, file.constants, file.values, &parameters, &none);
-    let given = given(alloc, file.text, &scope, method.sections.as_slice(), is_top)?;
+    let given = givens_with(alloc, file, method, &parameters, is_top)?;
     let body = body_with(alloc, file, method, &parameters, &given.givens)?;
     Ok(MethodBody {
         formats: body.formats,
         fault: earlier(given.fault, body.fault),
     })
+}
+
+/// What a method with these parameters is given.
+fn givens_with<'t>(
+    alloc: Global,
+    file: &FileSetting<'_, 't>,
+    method: &tree::Method,
+    parameters: &Words<'t>,
+    is_top: bool,
+) -> Result<JudgedGivens<'t>, AllocError>
+    requires { parameters.now ≡ spec.distinct_words file.now.text.now method.now.parameters }
+    ensures { IfOk result (λ g. Judged (AreGiven (spec.bare_scope file.now method.now) method.now.sections is_top g.givens) (IsNotGiven (spec.bare_scope file.now method.now) method.now.sections) g.fault) }
+{
+    let none = Words::new(alloc);
+    let scope = Scope::new(file.text, file.constants, file.values, parameters, &none);
+    given(alloc, file.text, &scope, method.sections.as_slice(), is_top)
 }
 
 /// The body of a method with these parameters and givens.
@@ -119,13 +136,29 @@ fn body_with<'t>(
         initial_values: givens.values.as_slice(),
         asked: &givens.asked,
     };
-    let kept = kept_statements(alloc, &setting)?;
-    let listed = listed_formats(alloc, &setting, &kept)?;
-    let defaults = default_fault(alloc, &setting)?;
+    body_of(alloc, &setting)
+}
+
+/// The body of the method of this setting.
+fn body_of(alloc: Global, setting: &Setting<'_, '_>) -> Result<MethodBody, AllocError>
+    requires { AreSectionsWorded setting.now.text.now setting.now.sections.now }
+    ensures { IsTable setting.now.text.now (drafts.base setting.now) setting.now.base.now → IsTable setting.now.text.now (drafts.default setting.now) setting.now.default.now → IfOk result (λ b. spec.AreListed setting.now b.formats b.fault) }
+{
+    let listed = formats_of(alloc, setting)?;
+    let defaults = default_fault(alloc, setting)?;
     Ok(MethodBody {
         formats: listed.found,
         fault: earlier(listed.fault, defaults),
     })
+}
+
+/// The formats of the method of this setting. What they share is kept for so long.
+fn formats_of(alloc: Global, setting: &Setting<'_, '_>) -> Result<Formats, AllocError>
+    requires { AreSectionsWorded setting.now.text.now setting.now.sections.now }
+    ensures { IsTable setting.now.text.now (drafts.base setting.now) setting.now.base.now → IsTable setting.now.text.now (drafts.default setting.now) setting.now.default.now → IfOk result (λ all. Judged (AreFormats setting.now 0 setting.now.sections.now all.found) (FormatCause setting.now) all.fault) }
+{
+    let kept = kept_statements(alloc, setting)?;
+    listed_formats(alloc, setting, &kept)
 }
 
 /// The table of the encoded fields of a group of sections.

@@ -3,5 +3,4 @@ use Rattle.fn_methods.proofs.methods.method_body.Goals as goal
 
 pub returns : goal.returns
 returns c =
-    with_givens c.args.file.now c.args.method.now c.args.is_top _ _ c.in_ok-given.given.fault c.in_ok-body.body.fault _
-    (rw (c.new-scope.ensures, c.in_ok-parameters.ensures, c.as_slice.ensures, c.new-none.ensures, c.as_slice-2.ensures) at c.in_ok-given.ensures) c.in_ok-body.ensures c.earlier.ensures
+    with_givens c.args.file.now c.args.method.now c.args.is_top _ _ c.in_ok-given.given.fault c.in_ok-body.body.fault _ c.in_ok-given.ensures c.in_ok-body.ensures c.earlier.ensures
