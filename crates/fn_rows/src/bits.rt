@@ -43,13 +43,23 @@ pub(crate) fn moved(alloc: Global, out: &mut String, rest: &str) -> Result<()> {
     let (first, rest) = parted(rest, " ")?;
     let (next, rest) = parted(rest, " ")?;
     let (ahead, text) = parted(rest, " ")?;
-    let ahead = count(ahead)?;
     let bits = bits(alloc, text)?;
-    let mut cursor = Cursor::new(&bits);
-    put(alloc, out, cursor.take(alloc, count(first)?)?)?;
+    put_moved(alloc, out, &bits, count(first)?, count(next)?, count(ahead)?)
+}
+
+fn put_moved(
+    alloc: Global,
+    out: &mut String,
+    bits: &Bits,
+    first: usize,
+    next: usize,
+    ahead: usize,
+) -> Result<()> {
+    let mut cursor = Cursor::new(bits);
+    put(alloc, out, cursor.take(alloc, first)?)?;
     let mut fork = cursor.fork();
     out.push(' ')?;
-    put(alloc, out, fork.take(alloc, count(next)?)?)?;
+    put(alloc, out, fork.take(alloc, next)?)?;
     put_place(out, &cursor, ahead)?;
     put_place(out, &fork, ahead)
 }

@@ -42,23 +42,64 @@ fn listed(alloc: Global, word: u64, offset: usize, len: usize) -> Result<Vec<boo
 /// Whether the bits of a list, and those of its part from an offset on, are what the list says.
 fn agrees(alloc: Global, list: &[bool], offset: usize, len: usize) -> Result<bool> {
     let bits = pushed(alloc, list)?;
-    let before = list.get(..offset).unwrap_or_default();
+    if !has_octets(&bits, list) || !front_agrees(alloc, &bits, list, offset, len)? {
+        return Ok(false);
+    }
+    part_agrees(alloc, &bits, list, offset, len)
+}
+
+/// Whether what a cursor takes up to the offset is the list's front, and what it looks at then what the list goes on with.
+fn front_agrees(
+    alloc: Global,
+    bits: &Bits,
+    list: &[bool],
+    offset: usize,
+    len: usize,
+) -> Result<bool> {
+    let mut cursor = Cursor::new(bits);
+    let taken = cursor.take(alloc, offset)?.context("no front")?;
     let after = list.get(offset..).unwrap_or_default();
     let part = after.get(..len).unwrap_or_default();
-    let cut = bits.slice(alloc, offset, offset.saturating_add(len))?;
-    let mut cut = cut.context("no part")?;
-    let mut cursor = Cursor::new(&bits);
-    let taken = cursor.take(alloc, offset)?.context("no front")?;
-    let mut joined = taken.copy(alloc)?;
-    joined.append(&cut)?;
-    let cuts_agree = is_list(&taken, before) && is_list(&cut, part) && cut == pushed(alloc, part)?;
-    let peeks_agree = cursor.peek(0, len) == Some(number(part))
+    Ok(is_list(&taken, list.get(..offset).unwrap_or_default())
+        && cursor.peek(0, len) == Some(number(part))
         && cursor.peek(len, 3) == Some(number(after.get(len..).unwrap_or_default()))
-        && cursor.peek(len, 4).is_none();
-    let joins_agree = Some(joined) == bits.slice(alloc, 0, offset.saturating_add(len))?;
-    let octets_agree = has_octets(&cut, part) && has_octets(&bits, list);
-    cut.push(false)?;
-    Ok(cuts_agree && peeks_agree && joins_agree && octets_agree && is_longer(&cut, part))
+        && cursor.peek(len, 4).is_none())
+}
+
+/// Whether the bits that are cut out at the offset are those of the list, also after one more, and the whole again where they are joined to the front.
+fn part_agrees(
+    alloc: Global,
+    bits: &Bits,
+    list: &[bool],
+    offset: usize,
+    len: usize,
+) -> Result<bool> {
+    let cut = bits.slice(alloc, offset, offset.saturating_add(len))?;
+    let cut = cut.context("no part")?;
+    let part = list.get(offset..).unwrap_or_default();
+    let part = part.get(..len).unwrap_or_default();
+    if !is_list(&cut, part) || !has_octets(&cut, part) || !is_pushed(alloc, &cut, part)? {
+        return Ok(false);
+    }
+    Ok(joins(alloc, bits, &cut, offset)? && grows(cut, part)?)
+}
+
+fn is_pushed(alloc: Global, bits: &Bits, list: &[bool]) -> Result<bool> {
+    Ok(*bits == pushed(alloc, list)?)
+}
+
+/// Whether a copy of the front and the bits that are cut out after it are the bits.
+fn joins(alloc: Global, bits: &Bits, cut: &Bits, offset: usize) -> Result<bool> {
+    let front = bits.slice(alloc, 0, offset)?;
+    let mut joined = front.context("no front")?.copy(alloc)?;
+    joined.append(cut)?;
+    Ok(Some(joined) == bits.slice(alloc, 0, offset.saturating_add(cut.len()))?)
+}
+
+/// Whether the bits with a zero after them are the list and a zero.
+fn grows(mut bits: Bits, list: &[bool]) -> Result<bool> {
+    bits.push(false)?;
+    Ok(is_longer(&bits, list))
 }
 
 fn pushed(alloc: Global, list: &[bool]) -> Result<Bits> {

@@ -19,13 +19,23 @@ pub(crate) fn ordered(
 ) -> Result<()> {
     let (direction, rest) = parted(rest, " ")?;
     let (method, format) = parted(rest, " ")?;
-    let (method, format) = (count(method)?, count(format)?);
+    let direction = direction_of(direction)?;
+    planned(alloc, out, profile, direction, count(method)?, count(format)?)
+}
+
+fn planned(
+    alloc: Global,
+    out: &mut String,
+    profile: &Profile,
+    direction: Direction,
+    method: usize,
+    format: usize,
+) -> Result<()> {
     let table = profile.sizes();
     let bounds = table.get(method).context("no bounds")?;
     let sizes = bounds.formats.get(format).context("no bounds")?;
     let method = profile.methods().get(method).context("no method")?;
     let format = method.formats.get(format).context("no format")?;
-    let direction = direction_of(direction)?;
     match order_plan(alloc, Version::One, direction, table, sizes, format) {
         Ok(steps) => put_steps(out, format, steps.as_slice()),
         Err(Unordered::Lacking { sides }) => put_lacking(out, format, sides.as_slice()),
@@ -55,26 +65,44 @@ fn put_steps(out: &mut String, format: &Format, steps: &[Step]) -> Result<()> {
 /// Says a step as a certificate's line does.
 fn put_step(out: &mut String, format: &Format, step: Step) -> Result<()> {
     match step {
-        Step::Take(field) => write!(out, "take {}", name(format, field)?)?,
-        Step::Call(field) => write!(out, "call {}", name(format, field)?)?,
-        Step::LibraryUp(field) => write!(out, "library {} up", name(format, field)?)?,
-        Step::LibraryDown(field) => write!(out, "library {} down", name(format, field)?)?,
+        Step::Take(field) => put_named(out, "take", format, field),
+        Step::Call(field) => put_named(out, "call", format, field),
+        Step::LibraryUp(field) => put_library(out, format, field, "up"),
+        Step::LibraryDown(field) => put_library(out, format, field, "down"),
         Step::MethodLength(field, side) => {
-            write!(out, "length {} {} method", name(format, field)?, word(side))?;
+            put_side(out, format, field, side)?;
+            Ok(out.push_str(" method")?)
         }
         Step::ConstraintLength(field, side, number) => {
-            write!(
-                out,
-                "length {} {} {number}",
-                name(format, field)?,
-                word(side)
-            )?;
+            put_side(out, format, field, side)?;
+            put_number(out, number)
         }
-        Step::Solve(field, number) => write!(out, "solve {} {number}", name(format, field)?)?,
-        Step::Choose(field) => write!(out, "choose {}", name(format, field)?)?,
-        Step::Ask(field) => write!(out, "ask {}", name(format, field)?)?,
+        Step::Solve(field, number) => {
+            put_named(out, "solve", format, field)?;
+            put_number(out, number)
+        }
+        Step::Choose(field) => put_named(out, "choose", format, field),
+        Step::Ask(field) => put_named(out, "ask", format, field),
     }
-    Ok(())
+}
+
+fn put_named(out: &mut String, verb: &str, format: &Format, field: usize) -> Result<()> {
+    let name = name(format, field)?;
+    Ok(write!(out, "{verb} {name}")?)
+}
+
+fn put_library(out: &mut String, format: &Format, field: usize, way: &str) -> Result<()> {
+    let name = name(format, field)?;
+    Ok(write!(out, "library {name} {way}")?)
+}
+
+fn put_side(out: &mut String, format: &Format, field: usize, side: Side) -> Result<()> {
+    let name = name(format, field)?;
+    Ok(write!(out, "length {name} {}", word(side))?)
+}
+
+fn put_number(out: &mut String, number: usize) -> Result<()> {
+    Ok(write!(out, " {number}")?)
 }
 
 fn put_lacking(out: &mut String, format: &Format, sides: &[FieldSide]) -> Result<()> {
