@@ -8,6 +8,6 @@ pub returns-in-Accepted : goal.returns-in-Accepted
 returns-in-Accepted c =
     done_is (CheckedOctets c.args.top.now c.args.profile.now c.args.origin) _ c.answer_accepted.result (accepted _ (accepted_here _ _ _ _ _ _ refl c.in_ok-accept.ensures c.in-Accepted.is)) c.answer_accepted.ensures.status c.answer_accepted.ensures.output
 
-pub returns-in-Refused : goal.returns-in-Refused
-returns-in-Refused c =
+pub returns : goal.returns
+returns c =
     refusal_is (CheckedOctets c.args.top.now c.args.profile.now c.args.origin) _ _ c.refusal.result (refused _ (refused_here _ _ _ _ _ _ refl c.in_ok-accept.ensures c.in-Refused.is)) c.as_str.ensures.value c.refusal.ensures
