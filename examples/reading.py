@@ -80,8 +80,7 @@ class Reader:
 
     def line(self, words):
         head, rest = words[0], words[1:]
-        if self.stage == "version":
-            self.want(words in (["rohcfn-certificate", "1"], ["rohcfn-certificate", "2"]))
+        if self.stage == "version" and words in (["rohcfn-certificate", "1"], ["rohcfn-certificate", "2"]):
             self.version, self.stage = int(words[1]), "between"
         elif head == "method" and len(rest) == 1:
             self.begin_method(rest[0])
@@ -155,6 +154,8 @@ class Reader:
             self.want(rest[1] in ("U", "C"))
         if head == "solve" or head == "length" and rest[2] != "method":
             rest[-1] = number(rest[-1])
+            if rest[-1] >= 1 << 127:
+                raise Fault("K3 above limits")
         self.want(self.stage in ("head", "read", "write"))
         f = self.methods[self.method].formats[self.format]
         rest[0] = f.fields[named(f.fields, rest[0], lambda it: it.name)].name

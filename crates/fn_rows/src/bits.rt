@@ -44,7 +44,14 @@ pub(crate) fn moved(alloc: Global, out: &mut String, rest: &str) -> Result<()> {
     let (next, rest) = parted(rest, " ")?;
     let (ahead, text) = parted(rest, " ")?;
     let bits = bits(alloc, text)?;
-    put_moved(alloc, out, &bits, count(first)?, count(next)?, count(ahead)?)
+    put_moved(
+        alloc,
+        out,
+        &bits,
+        count(first)?,
+        count(next)?,
+        count(ahead)?,
+    )
 }
 
 fn put_moved(

@@ -60,10 +60,12 @@ fn front_agrees(
     let taken = cursor.take(alloc, offset)?.context("no front")?;
     let after = list.get(offset..).unwrap_or_default();
     let part = after.get(..len).unwrap_or_default();
-    Ok(is_list(&taken, list.get(..offset).unwrap_or_default())
-        && cursor.peek(0, len) == Some(number(part))
-        && cursor.peek(len, 3) == Some(number(after.get(len..).unwrap_or_default()))
-        && cursor.peek(len, 4).is_none())
+    Ok(
+        is_list(&taken, list.get(..offset).unwrap_or_default())
+            && cursor.peek(0, len) == Some(number(part))
+            && cursor.peek(len, 3) == Some(number(after.get(len..).unwrap_or_default()))
+            && cursor.peek(len, 4).is_none(),
+    )
 }
 
 /// Whether the bits that are cut out at the offset are those of the list, also after one more, and the whole again where they are joined to the front.

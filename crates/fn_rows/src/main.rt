@@ -49,12 +49,7 @@ fn answered(alloc: Global, profile: &mut String, row: &str) -> Result<String> {
     Ok(out)
 }
 
-fn answer(
-    alloc: Global,
-    out: &mut String,
-    profile: &mut String,
-    row: &[u8],
-) -> Result<()> {
+fn answer(alloc: Global, out: &mut String, profile: &mut String, row: &[u8]) -> Result<()> {
     if row.starts_with(b"lines") {
         return bits::cut_lines(alloc, out, row.get(6..).unwrap_or_default());
     }

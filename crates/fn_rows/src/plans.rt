@@ -20,7 +20,14 @@ pub(crate) fn ordered(
     let (direction, rest) = parted(rest, " ")?;
     let (method, format) = parted(rest, " ")?;
     let direction = direction_of(direction)?;
-    planned(alloc, out, profile, direction, count(method)?, count(format)?)
+    planned(
+        alloc,
+        out,
+        profile,
+        direction,
+        count(method)?,
+        count(format)?,
+    )
 }
 
 fn planned(
