@@ -94,7 +94,7 @@ class Reader:
             self.stage = "write"
         elif words == ["end"]:
             self.want(self.stage in ("between", "formats", "write"))
-            self.stage = "end"
+            self.stage, self.method = "end", -1
         elif NODES.get(head) == len(rest) and (head != "ref" or self.version == 2):
             self.node(head, rest)
         elif STEPS.get(head) == len(rest):
@@ -179,7 +179,6 @@ def read(methods, text):
         if not line:
             continue
         try:
-            reader.want(reader.stage != "end")
             reader.line(line.split(" "))
         except Fault as fault:
             raise Fault("certificate:%d: %s" % (i + 1, fault)) from None
