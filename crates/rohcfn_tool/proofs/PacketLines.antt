@@ -1,5 +1,5 @@
 -- The fault lines of packets and of a line of flows are one line each.
-use Rattle.std.proofs.Common.{ℕ, ◌+◌, List, ◌++◌, Option, Some, None, refl, sym, subst, codes}
+use Rattle.std.proofs.Common.{ℕ, List, ◌++◌, Option, Some, None, refl, sym, subst, codes}
 use Rattle.std.specs.Prelude.{decimal}
 use Rattle.fn_engine.specs.declared.reader.UnpackFault.{UnpackFault}
 use Rattle.fn_engine.specs.declared.reader.UnpackFault.TheVariants as reader

@@ -1,5 +1,5 @@
 -- The line of one item or packet.
-use Rattle.std.proofs.Common.{◌≡◌, ◌∙◌, ℕ, Bool, List, [], ◌∷◌, ◌++◌, ◌+◌, map, codes, decimal, true, false, refl, ap, sym, subst, append_assoc}
+use Rattle.std.proofs.Common.{◌≡◌, ◌∙◌, ℕ, Bool, List, [], ◌∷◌, ◌++◌, map, codes, decimal, true, false, refl, ap, sym, subst, append_assoc}
 use Rattle.std.specs.Prelude.{string_bytes}
 use Rattle.fn_bits.specs.Cursor.{Place}
 use Rattle.fn_bits.specs.Text.{IsText}
