@@ -1,3 +1,4 @@
+pub mod Endings
 pub mod EventWords
 pub mod Flowing
 pub mod OtherLines

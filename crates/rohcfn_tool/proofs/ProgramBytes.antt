@@ -1,7 +1,10 @@
 -- What reads and writes do to known bytes, over several calls.
-use Rattle.std.proofs.Common.{◌≡◌, ◌∙◌, ℕ, ◌+◌, List, ◌++◌, Option, None, Some, take, drop, sym, ap, subst, take-append-drop, append-nil}
+use Rattle.std.proofs.Common.{◌≡◌, ◌∙◌, ℕ, ◌+◌, ◌==◌, Bool, true, false, List, ◌++◌, Option, None, Some, take, drop, refl, sym, ap, subst, take-append-drop, append-nil}
+use Rattle.std.specs.Prelude.{Ok}
 use Rattle.std.specs.Io.KnownBytes.{Appends, Keeps}
+use Rattle.rohcfn_input.specs.Counted.{CountsWrite, MayTake}
 use Rattle.std.proofs.KnownBytes.{Appends-kept, Appends-trans}
+use Rattle.std.proofs.lemmas.Bool.{eqb-true}
 use Rattle.std.proofs.Math.Seq.{take-add}
 
 -- what is sent is the front
@@ -19,3 +22,12 @@ pub Keeps-from_none : (old new : Option (List ℕ)) (buf : List ℕ) (count : �
 Keeps-from_none None new buf count none p = tt
 Keeps-from_none (Some xs) None buf count none p = absurd p
 Keeps-from_none (Some xs) (Some ys) buf count none p = p ∙ ap (λ n. xs ++ take n buf) none ∙ append-nil xs
+
+-- a write that took something
+pub goes_on : (E : Type 0) (old new : Option Bool) (count : ℕ) → CountsWrite {E = E} old new (Ok count) → (count ≡ 0 → ⊥) → MayTake new
+goes_on E None new count is some = subst MayTake (sym is) tt
+goes_on E (Some over) new count is some = by (count == 0) refl
+  where
+    by : (b : Bool) → (count == 0) ≡ b → MayTake new
+    by true e = absurd (some (eqb-true count 0 e))
+    by false e = subst MayTake (sym is) e

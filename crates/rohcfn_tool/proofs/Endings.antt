@@ -1,0 +1,206 @@
+-- What is printed goes with a run that is done or refused; and what a run does to the known bytes of its writer.
+use Rattle.std.proofs.Common.{◌≡◌, ◌∙◌, ℕ, zero, suc, ◌+◌, ◌<◌, Bool, List, [], ◌∷◌, ◌++◌, Option, None, Some, refl, sym, subst, inr, length, string_bytes, Bor, arith}
+use Rattle.std.specs.Prelude.{Result, Ok, IfOk, IfSome, String}
+use Rattle.std.specs.Global.{Global}
+use Rattle.std.specs.Io.KnownBytes.{Appends, Keeps}
+use Rattle.fn_context.specs.Entries.{Entries}
+use Rattle.fn_filling.specs.declared.filling.Filling.{Filling}
+use Rattle.fn_filling.specs.declared.filling.Item.{Item}
+use Rattle.fn_filling.specs.Entries.{next}
+use Rattle.fn_checker.specs.Accepted.{Accepting}
+use Rattle.fn_line.specs.declared.runs.Event.{Event}
+use Rattle.fn_profile.specs.Resolved.{Resolved}
+use Rattle.rohcfn_input.specs.Counted.{Account, most_octets}
+use Rattle.rohcfn_input.specs.Reading.{IsInput}
+use Rattle.rohcfn_input.specs.declared.bundle.Parts.{Parts}
+use Rattle.rohcfn_input.specs.declared.reading.Input.{Input}
+use Rattle.rohcfn_input.specs.declared.reading.Input.TheVariants.{Large}
+use Rattle.rohcfn_input.specs.declared.status.Failure.{Failure}
+use Rattle.rohcfn_input.specs.declared.status.Failure.TheVariants.{Writing}
+use Rattle.rohcfn_input.specs.declared.status.Status.{Status}
+use Rattle.rohcfn_input.specs.declared.status.Status.TheVariants.{Done, Refused, Usage, Failed}
+use Rattle.rohcfn_report.specs.Accepting.{origin_of}
+use Rattle.rohcfn_report.specs.declared.accepting.Origin.{Origin}
+use Rattle.rohcfn_report.specs.Provings.{ProvedBy}
+use Rattle.rohcfn_report.specs.Provings.ProvedBy.{printed as proved_by_printed, unproved as proved_by_unproved}
+use Rattle.rohcfn_report.specs.Reports.{ShownBy, CheckedOctets, ProvedOctets}
+use Rattle.rohcfn_report.specs.Reports.ShownBy.{listed as shown_by_listed, no_listing as shown_by_no_listing}
+use Rattle.rohcfn_report.specs.Reports.CheckedOctets.{accepted as checked_octets_accepted, refused as checked_octets_refused}
+use Rattle.rohcfn_report.specs.Reports.ProvedOctets.{none_proved as proved_octets_none_proved, proved_by as proved_octets_proved_by}
+use Rattle.rohcfn_words.specs.declared.words.Direction.{Direction}
+use Rattle.rohcfn_words.specs.declared.words.Direction.TheVariants.{Pack, Unpack}
+use Rattle.rohcfn_words.specs.declared.words.End.{End}
+use Rattle.rohcfn_words.specs.declared.words.End.TheVariants.{Sending, Receiving}
+use Rattle.rohcfn_words.specs.declared.words.Order.{Order}
+use Rattle.rohcfn_tool.specs.Printed.{Prints, PrintsInput, AnsweredIn, AnsweredFor, AnsweredBy, AnsweredRun, Answered, IsItemLine, FaultsItem, IsPacketLine, FaultsPacket}
+use Rattle.rohcfn_tool.specs.Printed.Prints.{done as prints_done, fault as prints_fault, line as prints_line}
+use Rattle.rohcfn_tool.specs.Printed.AnsweredIn.{answered as answered_in_answered, bad_line as answered_in_bad_line}
+use Rattle.rohcfn_tool.specs.Printed.AnsweredFor.{bad_context as answered_for_bad_context, from_context as answered_for_from_context}
+use Rattle.rohcfn_tool.specs.Printed.AnsweredBy.{by_profile as answered_by_by_profile, unaccepted as answered_by_unaccepted}
+use Rattle.rohcfn_tool.specs.Printed.AnsweredRun.{both as answered_run_both, no_input as answered_run_no_input}
+use Rattle.rohcfn_tool.specs.Printed.Answered.{checked as answers_checked, lined as answers_lined, no_profile as answers_no_profile, proved as answers_proved, ran as answers_ran, shown as answers_shown}
+use Rattle.rohcfn_tool.specs.Lined.{PrintsSent, PrintsReceived, AnsweredEvents, AnsweredHex, AnsweredEnd, LinedBy, Lined}
+use Rattle.rohcfn_tool.specs.Lined.PrintsSent.{all_sent as prints_sent_all_sent, one_refused as prints_sent_one_refused}
+use Rattle.rohcfn_tool.specs.Lined.PrintsReceived.{all_received as prints_received_all_received, up_to_fault as prints_received_up_to_fault}
+use Rattle.rohcfn_tool.specs.Lined.AnsweredEvents.{bad_event as answered_events_bad_event, sent_events as answered_events_sent_events}
+use Rattle.rohcfn_tool.specs.Lined.AnsweredHex.{bad_hex as answered_hex_bad_hex, received_octets as answered_hex_received_octets}
+use Rattle.rohcfn_tool.specs.Lined.LinedBy.{not_accepted as lined_by_not_accepted, with_profile as lined_by_with_profile}
+use Rattle.rohcfn_tool.specs.Lined.Lined.{by_part as lined_by_part, no_part as lined_no_part}
+use Rattle.rohcfn_tool.specs.Program.{Fails, ForInput, Gives, RefusesBy, Replies, RunPrints, large_line}
+use Rattle.rohcfn_tool.specs.Program.RunPrints.{answered as run_prints_answered, bad_part as run_prints_bad_part, large as run_prints_large, no_words as run_prints_no_words}
+use Rattle.rohcfn_tool.specs.declared.program.Reply.{Reply}
+use Rattle.rohcfn_tool.specs.declared.program.Reply.TheVariants.{Print, Tell}
+use Rattle.rohcfn_tool.proofs.ProgramReplies.{large_refused}
+
+-- ---- the status of what is printed
+
+abbrev MayPrint : Status → Type 0
+MayPrint Done = Unit {0}
+MayPrint Refused = Unit {0}
+MayPrint Usage = ⊥
+MayPrint (Failed why) = ⊥
+
+prints_end : (X : Type 0) (says : Entries → X → Filling → List ℕ → Type 0) (faults : Entries → ℕ → X → List ℕ → Type 0) (shows : Bool) (ctx : Entries) (n : ℕ) (xs : List X) (s : Status) (text : List ℕ) → Prints says faults shows ctx n xs s text → MayPrint s
+prints_end X says faults shows ctx n _ _ _ (prints_done h) = tt
+prints_end X says faults shows ctx n _ s _ (prints_line {xs = xs} f text rest said more) = prints_end X says faults shows (next ctx f) (n + 1) xs s rest more
+prints_end X says faults shows ctx n _ _ _ (prints_fault text h single) = tt
+
+input_ends : (direction : Direction) (shows : Bool) (a : Accepting) (ctx : Entries) (octets : List ℕ) (s : Status) (output : List ℕ) → PrintsInput direction shows a ctx octets s output → MayPrint s
+input_ends Pack shows a ctx octets s output h = prints_end Item (IsItemLine a) (FaultsItem a) shows ctx 1 h.0 s output h.2
+input_ends Unpack shows a ctx octets s output h = prints_end (List Bool) (IsPacketLine a) (FaultsPacket a) shows ctx 1 h.0 s output h.2
+
+in_ends : (direction : Direction) (shows : Bool) (a : Accepting) (ctx : Entries) (octets : List ℕ) (s : Status) (output : List ℕ) → AnsweredIn direction shows a ctx octets s output → MayPrint s
+in_ends direction shows a ctx octets _ _ (answered_in_bad_line n h) = tt
+in_ends direction shows a ctx octets s output (answered_in_answered h) = input_ends direction shows a ctx octets s output h
+
+for_ends : (direction : Direction) (shows : Bool) (a : Accepting) (context : Option (Bor (List ℕ))) (octets : List ℕ) (s : Status) (output : List ℕ) → AnsweredFor direction shows a context octets s output → MayPrint s
+for_ends direction shows a context octets _ _ (answered_for_bad_context given n is bad) = tt
+for_ends direction shows a context octets s output (answered_for_from_context ctx starts h) = in_ends direction shows a ctx octets s output h
+
+by_ends : (direction : Direction) (order : Order) (profile : List ℕ) (parts : Parts) (octets : List ℕ) (s : Status) (output : List ℕ) → AnsweredBy direction order profile parts octets s output → MayPrint s
+by_ends direction order profile parts octets _ _ (answered_by_unaccepted text h) = tt
+by_ends direction order profile parts octets s output (answered_by_by_profile a accepts h) = for_ends direction order.shows_context a parts.context octets s output h
+
+run_ends : (direction : Direction) (order : Order) (profile : List ℕ) (parts : Parts) (s : Status) (output : List ℕ) → AnsweredRun direction order profile parts s output → MayPrint s
+run_ends direction order profile parts _ _ (answered_run_no_input is) = tt
+run_ends direction order profile parts s output (answered_run_both given is h) = by_ends direction order profile parts given.now s output h
+
+sent_ends : (a : Accepting) (events : List Event) (s : Status) (output : List ℕ) → PrintsSent a events s output → MayPrint s
+sent_ends a events _ _ (prints_sent_all_sent octets found items ran are) = tt
+sent_ends a events _ _ (prints_sent_one_refused n e text stopped is single) = tt
+
+events_ends : (a : Accepting) (octets : List ℕ) (s : Status) (output : List ℕ) → AnsweredEvents a octets s output → MayPrint s
+events_ends a octets _ _ (answered_events_bad_event n h) = tt
+events_ends a octets s output (answered_events_sent_events events has h) = sent_ends a events s output h
+
+received_ends : (a : Accepting) (octets : List ℕ) (s : Status) (output : List ℕ) → PrintsReceived a octets s output → MayPrint s
+received_ends a octets _ _ (prints_received_all_received found items got are) = tt
+received_ends a octets _ _ (prints_received_up_to_fault found items e text got are is) = tt
+
+hex_ends : (a : Accepting) (octets : List ℕ) (s : Status) (output : List ℕ) → AnsweredHex a octets s output → MayPrint s
+hex_ends a octets _ _ (answered_hex_bad_hex h) = tt
+hex_ends a octets s output (answered_hex_received_octets read are h) = received_ends a read s output h
+
+end_ends : (end : End) (a : Accepting) (octets : List ℕ) (s : Status) (output : List ℕ) → AnsweredEnd end a octets s output → MayPrint s
+end_ends Sending a octets s output h = events_ends a octets s output h
+end_ends Receiving a octets s output h = hex_ends a octets s output h
+
+lined_by_ends : (end : End) (top profile : List ℕ) (origin : Origin) (octets : List ℕ) (s : Status) (output : List ℕ) → LinedBy end top profile origin octets s output → MayPrint s
+lined_by_ends end top profile origin octets _ _ (lined_by_not_accepted text h) = tt
+lined_by_ends end top profile origin octets s output (lined_by_with_profile a accepts h) = end_ends end a octets s output h
+
+lined_ends : (end : End) (order : Order) (profile : List ℕ) (parts : Parts) (s : Status) (output : List ℕ) → Lined end order profile parts s output → MayPrint s
+lined_ends end order profile parts _ _ (lined_no_part is) = tt
+lined_ends end order profile parts s output (lined_by_part given is h) = lined_by_ends end order.top.now profile (origin_of order.version parts.certificate) given.now s output h
+
+shown_ends : (top octets : List ℕ) (s : Status) (output : List ℕ) → ShownBy top octets s output → MayPrint s
+shown_ends top octets _ _ (shown_by_no_listing text h) = tt
+shown_ends top octets _ _ (shown_by_listed p reads) = tt
+
+checked_ends : (top profile : List ℕ) (origin : Origin) (s : Status) (output : List ℕ) → CheckedOctets top profile origin s output → MayPrint s
+checked_ends top profile origin _ _ (checked_octets_refused text h) = tt
+checked_ends top profile origin _ _ (checked_octets_accepted a accepts) = tt
+
+proved_by_ends : (order : Order) (p : Resolved) (s : Status) (output : List ℕ) → ProvedBy order.version p s output → MayPrint s
+proved_by_ends order p _ _ (proved_by_unproved why text is says single) = tt
+proved_by_ends order p _ _ (proved_by_printed cert is kept) = tt
+
+proved_ends : (order : Order) (octets : List ℕ) (s : Status) (output : List ℕ) → ProvedOctets order.version order.top.now octets s output → MayPrint s
+proved_ends order octets _ _ (proved_octets_none_proved text h) = tt
+proved_ends order octets s output (proved_octets_proved_by p reads h) = proved_by_ends order p s output h
+
+answer_ends : (order : Order) (parts : Parts) (s : Status) (output : List ℕ) → Answered order parts s output → MayPrint s
+answer_ends order parts _ _ (answers_no_profile is) = tt
+answer_ends order parts s output (answers_shown profile is asks h) = shown_ends order.top.now profile.now s output h
+answer_ends order parts s output (answers_checked profile is asks h) = checked_ends order.top.now profile.now (origin_of order.version parts.certificate) s output h
+answer_ends order parts s output (answers_proved profile is asks h) = proved_ends order profile.now s output h
+answer_ends order parts s output (answers_ran profile direction is asks h) = run_ends direction order profile.now parts s output h
+answer_ends order parts s output (answers_lined profile end is asks h) = lined_ends end order profile.now parts s output h
+
+print_ends : (given : List (List ℕ)) (input : List ℕ) (s : Status) (output : List ℕ) → RunPrints given input s output → MayPrint s
+print_ends given input _ _ (run_prints_large h) = tt
+print_ends given input _ _ (run_prints_bad_part bad short blames) = tt
+print_ends given input _ _ (run_prints_no_words short bundle none) = tt
+print_ends given input s output (run_prints_answered words order parts short bundle is asks holds h) = answer_ends order parts s output h
+
+-- ---- some input
+
+for_input : (known : Option (List ℕ)) (P Q : List ℕ → Type 0) → ((input : List ℕ) → P input → Q input) → ForInput known P → ForInput known Q
+for_input None P Q f h = (h.0, f h.0 h.1)
+for_input (Some input) P Q f h = f input h
+
+-- the reply to it
+pub replied_as : (known : Option (List ℕ)) (given : List (List ℕ)) (r : Result Reply Failure) (reply : Reply) → ForInput known (λ i. IfOk r (Replies given i)) → r ≡ Ok reply → ForInput known (λ i. Replies given i reply)
+replied_as known given r reply h is = for_input known (λ i. IfOk r (Replies given i)) (λ i. Replies given i reply) (λ i p. subst (λ q. IfOk q (Replies given i)) is p) h
+
+longer : (n : ℕ) → (xs : List ℕ) × (n < length xs)
+longer zero = (0 ∷ [], omega arith)
+longer (suc n) = let h = longer n in (0 ∷ h.0, omega (arith, h.1))
+
+-- the reply to an input that is too long
+pub large_replied : (known : Option (List ℕ)) (given : List (List ℕ)) (r : Result Input Failure) (input : Input) (reply : Reply) → IfSome known (λ all. IfOk r (λ i. IsInput all i)) → r ≡ Ok input → input ≡ Large → RefusesBy large_line reply → ForInput known (λ i. Replies given i reply)
+large_replied None given r input reply all is large says = let h = longer most_octets in (h.0, large_refused given h.0 reply h.1 says)
+large_replied (Some i) given r input reply all is large says =
+    let got : IsInput i input = subst (λ q. IfOk q (λ z. IsInput i z)) is all in
+    large_refused given i reply (subst (λ z. IsInput i z) large got) says
+
+-- ---- what a run does to its writer
+
+gives_print : (Told : Type 0) (given : List (List ℕ)) (input : List ℕ) (s : Status) (output : List ℕ) (old new : Option (List ℕ)) → RunPrints given input s output → Appends old new output → Gives {Told = Told} given input s None old new
+gives_print Told given input Done output old new p a = (output, p, a)
+gives_print Told given input Refused output old new p a = (output, p, a)
+gives_print Told given input Usage output old new p a = absurd (print_ends given input Usage output p)
+gives_print Told given input (Failed why) output old new p a = absurd (print_ends given input (Failed why) output p)
+
+-- all of a print is written
+pub printed : (Told : Type 0) (known : Option (List ℕ)) (given : List (List ℕ)) (s : Status) (output : String Global) (bytes : List ℕ) (old new : Option (List ℕ)) → ForInput known (λ i. Replies given i (Print s output)) → bytes ≡ string_bytes output → Appends old new bytes →
+    ForInput known (λ i. Gives {Told = Told} given i s None old new)
+printed Told known given s output bytes old new h same sent =
+    for_input known (λ i. Replies given i (Print s output)) (λ i. Gives {Told = Told} given i s None old new) (λ i p. gives_print Told given i s (string_bytes output) old new p (subst (Appends old new) same sent)) h
+
+-- the front of a print is written
+pub unwritten : (Told : Type 0) (known : Option (List ℕ)) (given : List (List ℕ)) (s : Status) (output : String Global) (bytes : List ℕ) (old new : Option (List ℕ)) → ForInput known (λ i. Replies given i (Print s output)) → bytes ≡ string_bytes output →
+    (sent : List ℕ) × (rest : List ℕ) × (bytes ≡ sent ++ rest) × Appends old new sent → ForInput known (λ i. Gives {Told = Told} given i (Failed Writing) None old new)
+unwritten Told known given s output bytes old new h same front =
+    for_input known (λ i. Replies given i (Print s output)) (λ i. Gives {Told = Told} given i (Failed Writing) None old new)
+    (λ i p. (front.0, inr (s, front.1, subst (RunPrints given i s) (sym same ∙ front.2) p), front.3)) h
+
+keeps_all : (known : Option (List ℕ)) → Keeps known known
+keeps_all None = tt
+keeps_all (Some xs) = refl
+
+-- nothing is written
+pub told_alone : (Told : Type 0) (known : Option (List ℕ)) (given : List (List ℕ)) (s : Status) (text : String Global) (told : Told) (old : Option (List ℕ)) → ForInput known (λ i. Replies given i (Tell s text)) → ForInput known (λ i. Gives {Told = Told} given i s (Some told) old old)
+told_alone Told known given s text told old h =
+    for_input known (λ i. Replies given i (Tell s text)) (λ i. Gives {Told = Told} given i s (Some told) old old) (λ i t. (t, keeps_all old)) h
+
+never_fails : (given : List (List ℕ)) (input : List ℕ) (s : Status) (output : List ℕ) (account : Option Account) (is_over : Option Bool) → RunPrints given input s output → Fails s account is_over
+never_fails given input Done output account is_over p = tt
+never_fails given input Refused output account is_over p = tt
+never_fails given input Usage output account is_over p = tt
+never_fails given input (Failed why) output account is_over p = absurd (print_ends given input (Failed why) output p)
+
+-- a print doesn't fail
+pub print_never_fails : (known : Option (List ℕ)) (given : List (List ℕ)) (s : Status) (output : String Global) (account : Option Account) (is_over : Option Bool) → ForInput known (λ i. Replies given i (Print s output)) → Fails s account is_over
+print_never_fails None given s output account is_over h = never_fails given h.0 s (string_bytes output) account is_over h.1
+print_never_fails (Some i) given s output account is_over h = never_fails given i s (string_bytes output) account is_over h
