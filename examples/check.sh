@@ -1,7 +1,7 @@
 #!/usr/bin/env bash
 # Runs each example and each step of the tutorial through the built program and compares what it prints; then what the pages show, headers of an operating system and
 # back, the cases of cases/ and of built.py, certificates with a slip and with drawn trees against a second reading, round trips and lines of flows against a slow
-# search, and what bin/rohcfn and bin/prove do where no program stands.
+# search, what bin/rohcfn and bin/prove do where no program stands, and what bin/rohcfn does with files.
 set -u
 cd "$(dirname "$0")"
 program=../crates/rohcfn/out/rohcfn
@@ -29,4 +29,5 @@ echo "examples: $passed passed, $failed failed"
 ./roundtrip.py || failed=1
 ./lines.py || failed=1
 ./first_call.py "$program" || failed=1
+./front.py "$program" || failed=1
 [ "$failed" -eq 0 ]

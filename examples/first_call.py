@@ -17,6 +17,7 @@ HEADING = re.compile(r"^=== (\w+)\n", re.MULTILINE)
 COMMANDS = "pack unpack show check prove line".split()
 SIGNALS = (signal.SIGINT, signal.SIGTERM, signal.SIGHUP)
 TOOLS = "bash env sh dirname readlink awk grep sed head tail cat tee mktemp rm nproc sleep touch chmod mkdir".split()
+CALL = "try|--seconds|3600|--"
 
 # The folder `told` beside it has what it is to do: `slow`, not to end by itself; `fault`, to end with that status and no answer; `status`, that of the program.
 FAKE = r"""#!/usr/bin/env bash
@@ -163,10 +164,10 @@ def unproved(place):
         check("standard output is the program's own, its input a file", seen[1] == b"a file\n" + given, seen)
         check("one line of ours, which names bin/prove", line.startswith("rohcfn: nothing is proved") and "bin/prove" in line, seen)
         check("then the program's own words, and no more", rest == ["error: as told", "run=ended status=9 proved=no", ""], seen)
-        check("all words, as they are", seen[3] == ["try|--seconds|3600|--|pack|--top|a  b||*|--|-x"], seen)
+        check("all words, as they are", seen[3] == [CALL + "|pack|--top|a  b||*|--|-x"], seen)
     place.tell("status", "0")
     seen = place.call(place.program, given=given)
-    check("no words: those of the bundle", seen[:2] == (0, b"a file\n" + given) and seen[3] == ["try|--seconds|3600|--"], seen)
+    check("no words: those of the bundle", seen[:2] == (0, b"a file\n" + given) and seen[3] == [CALL], seen)
     check("no more than the program reads", len(place.call(place.program, given=bytes(5_000_000))[1]) == len("a file\n") + 4_194_305)
     check("nothing is left", not list(place.temporary.iterdir()))
     for fault in "1236":
@@ -192,37 +193,51 @@ def links(place):
     (place.tools / "third").symlink_to(far.parent / "second")
     for word in ("./first", far.parent / "second", "../second", "third"):
         seen = place.call("env", word, "show", "--top", "plain", cwd=far)
-        check("a link: %s" % word, seen[0] == 0 and seen[3] == ["try|--seconds|3600|--|show|--top|plain"], seen)
+        check("a link: %s" % word, seen[0] == 0 and seen[3] == [CALL + "|show|--top|plain"], seen)
     seen = place.call("env", "../../bin/rohcfn", "help", cwd=far)
     check("from another folder", seen[0] == 0 and seen[2].startswith("Packs"), seen)
 
 
 def at_once(place, texts):
     """What is answered with no build, even with no rt."""
-    no_command = [["foo"], [""], ["--version"], ["--"], ["--top", "plain", "pack"], ["-x"], ["pac"], ["--help=x"], ["foo", "--help"], ["each"]]
+    no_command = [["foo"], [""], ["--"], ["--top", "plain", "pack"], ["-x"], ["pac"], ["--help=x"], ["foo", "--help"], ["each"]]
     due = [(words, 0, "", "rohcfn") for words in (["--help"], ["-h"], ["help"], ["-hx"], ["--help", "foo"])]
     due += [(words, 2, "error: '%s' is no command\n\n" % words[0], "rohcfn") for words in no_command]
+    due += [(["help", "foo"], 2, "error: 'foo' is no command\n\n", "rohcfn"), (["help", "pack", "x"], 2, "error: 'x' is no command\n\n", "rohcfn")]
     due += [([it, "--help"], 0, "", it) for it in COMMANDS]
-    due += [(words, 0, "", "pack") for words in (["help", "pack"], ["pack", "-h", "foo"], ["pack", "--top", "plain", "--help"])]
-    due += [(words, 2, "error: --top NAME is needed\n\n", words[0]) for words in (["unpack"], ["check", "--v2"], ["line", "--receive", "--context"])]
+    due += [(words, 0, "", "pack") for words in (["help", "pack"], ["pack", "-h", "foo"], ["pack", "foo", "--help"], ["pack", "--top", "plain", "--help"])]
+    due += [(words, 2, "error: --top NAME is needed\n\n", words[0]) for words in (["unpack"], ["check", "--v2"], ["line", "--receive", "--v2"])]
+    due += [(["pack", "--top", *rest], 2, "error: a value is required for '--top <NAME>' but none was supplied\n\n", "pack") for rest in ([], ["--v2", "--help"])]
+    due += [(["pack", "--top", "--help"], 2, "error: a value is required for '--top <NAME>' but none was supplied\n\n", "pack")]
+    due += [(words, 2, "error: the argument '%s' cannot be used multiple times\n\n" % words[1].partition("=")[0], "pack")
+            for words in (["pack", "--v2", "--v2", "--top", "x"], ["pack", "--top=x", "--top", "y"])]
+    due += [(words, 2, "error: unexpected argument '%s' found\n\n" % words[-1], words[0])
+            for words in (["show", "--top", "x", "--v2"], ["line", "--context"], ["pack", "--receive"], ["prove", "--top=x", "-v"], ["pack", "--v2=3"])]
     for words, status, error, name in due:
         seen = place.call(place.program, *words, given=b"junk")
-        check("at once: %s" % words, seen == (status, b"", error + texts[name] + texts["each"], []), seen)
+        more = "" if status else texts["files"]
+        check("at once: %s" % words, seen == (status, b"", error + texts[name] + texts["each"] + more, []), seen)
     above, below = pty.openpty()
+    os.write(above, b"\x04")
     seen = place.call(place.program, stdin=below)
     os.close(above)
     os.close(below)
-    check("no words and a terminal", seen[:2] == (2, b"") and seen[2].endswith(texts["rohcfn"] + texts["each"]) and not seen[3], seen)
-    others = ["pack --top --help", "pack --top --v2 --help", "pack --top=plain", "pack foo --help", "show foo", "help foo", "help pack x"]
-    for words in map(str.split, others):
+    check("no words and a terminal: it says what it waits for, and goes on", seen[2].startswith("rohcfn: a bundle is awaited") and seen[3] == [CALL], seen)
+    for words in map(str.split, ["pack --top=plain", "pack --top -", "pack --top plain --", "show --top plain -- x"]):
         seen = place.call(place.program, *words)
-        check("left to the program: %s" % words, seen[3] == ["try|--seconds|3600|--|" + "|".join(words)], seen)
+        check("left to the program: %s" % words, seen[3] == [CALL + "|" + "|".join(words)], seen)
+    seen = place.call(place.program, "--", "pack", "foo", "--help")
+    check("untouched", seen[3] == [CALL + "|pack|foo|--help"], seen)
+    seen = place.call(place.program, "show", "foo")
+    check("files with no python3", seen == (3, b"", "rohcfn: files are read by python3, which is not on the PATH\n", []), seen)
+    seen = place.call(place.program, "--version")
+    check("no commit and no kit is known", seen == (0, b"rohcfn\n", "", ["--version|"]), seen)
     place.rt.rename(place.tools / "no rt")
     for words in ([place.program, "pack", "--top", "plain"], [place.program], [place.prove]):
         seen = place.call(*words)
         check("no rt: one line and status 3", seen[:2] == (3, b"") and re.fullmatch(r"\w+: rt, .* is not on the PATH\n", seen[2]), seen)
     seen = place.call(place.program, "pack", "--help")
-    check("help with no rt", seen == (0, b"", texts["pack"] + texts["each"], []), seen)
+    check("help with no rt", seen == (0, b"", texts["pack"] + texts["each"] + texts["files"], []), seen)
     (place.tools / "no rt").rename(place.rt)
 
 
@@ -250,8 +265,10 @@ def proving(place):
     check("by two calls of rt", [it.rstrip("0123456789") for it in seen[3]] == ["all|check|--jobs|", "run|--|--help"], seen)
     check("each crate was proved once", (place.told / "proofs").read_text() == "fn_bits\nfn_source\nfn_tree\n")
     check("no log is left", not log.exists())
-    seen = place.call(place.program, "a b", "--help", given=b"in")
-    check("then the program answers, without rt", seen == (1, b"proved[a b][--help]in", "", []), seen)
+    seen = place.call(place.program, "pack", "--top", "a b", "--v2", given=b"in")
+    check("then the program answers, without rt", seen == (1, b"proved[pack][--top][a b][--v2]in", "", []), seen)
+    seen = place.call(place.program, "a b", "--v2", given=b"in")
+    check("and of usage faults without input", seen == (1, b"proved[a b][--v2]", "", []), seen)
 
 
 def current(texts, program):
