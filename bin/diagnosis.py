@@ -1,11 +1,100 @@
-"""Shows a fault of a profile at its place."""
+"""Shows the faults of a profile at their places: file, line and column, the line itself, and what helps."""
+import os
+import re
 import subprocess
 import sys
 
+import advice
+import mending
+
+LINE = re.compile(r"profile:(\d+):(\d+): (E\d\d) (.*)")
+RED, BLUE, PLAIN = "\033[1;31m", "\033[1;34m", "\033[0m"
+GREATEST = 10  # faults of one text that are shown
+
+
+def places(text):
+    """The offsets at which the lines of a text begin."""
+    return [0] + [it.end() for it in re.finditer("\n", text)]
+
+
+def fault_of(printed, text):
+    """The fault of a profile that the program prints, or None."""
+    found = LINE.fullmatch(printed.decode(errors="replace").rstrip("\n").rpartition("\n")[2])
+    if found is None:
+        return None
+    begins, line, column = places(text), int(found.group(1)), int(found.group(2))
+    if line > len(begins):
+        return None
+    return advice.Fault(text, begins[line - 1] + column - 1, found.group(3), found.group(4))
+
+
+def place_of(fault):
+    """The line and the column of a fault, and the line's text."""
+    before = fault.text[:fault.start]
+    line, begin = before.count("\n") + 1, before.rfind("\n") + 1
+    return line, fault.start - begin + 1, fault.text[begin:].partition("\n")[0].rstrip("\r")
+
+
+def lines_of(fault, name, paint):
+    """What is shown of a fault."""
+    line, column, shown = place_of(fault)
+    margin, blank = "%d |" % line, re.sub(r"[^\t]", " ", shown[:column - 1])
+    carets = "^" * max(1, min(fault.width(), len(shown) - column + 1))
+    yield paint(RED, "%s:%d:%d: %s %s" % (name, line, column, fault.code, fault.words))
+    yield paint(BLUE, margin) + (" " + shown if shown else "")
+    yield paint(BLUE, " " * (len(margin) - 1) + "|") + " " + blank + paint(RED, carets)
+    for it in advice.hints(fault):
+        yield paint(BLUE, "help: ") + it
+    said, pages = advice.page(fault.code)
+    if said:
+        yield paint(BLUE, "help: ") + said
+    yield "see " + pages
+
+
+def painter(stream):
+    """What gives words a colour: on a terminal, and where NO_COLOR is empty."""
+    if stream.isatty() and not os.environ.get("NO_COLOR") and os.environ.get("TERM") != "dumb":
+        return lambda colour, words: colour + words + PLAIN
+    return lambda _, words: words
+
+
+def faults(first, again):
+    """The first fault of a text, and those that are found on copies of it in which the ones before are mended. `again` is what the program prints for a copy."""
+    copy, found, told = mending.Copy(first.text), first, set()
+    while found is not None and len(told) < GREATEST:
+        start = copy.origin(found.start)
+        if told and (found.code not in mending.SAFE or start in told):
+            return
+        yield advice.Fault(first.text, start, found.code, found.words)
+        told.add(start)
+        found = fault_of(again(copy.text), copy.text) if copy.mend(found) else None
+
+
+def show(printed, name, text, again):
+    """Shows what there is to show of what the program printed."""
+    first = fault_of(printed, text)
+    if first is None:
+        return
+    paint = painter(sys.stderr)
+    for it in faults(first, again):
+        print("\n".join(lines_of(it, name, paint)), file=sys.stderr)
+
 
 def shown(call, file, name, text):
-    """Runs the program and prints what it prints; its status."""
+    """Runs the program, prints what it prints, and shows a fault of the profile besides; its status."""
     ran = subprocess.run(call, stdin=file, stdout=subprocess.PIPE, check=False)
     sys.stdout.buffer.write(ran.stdout)
     sys.stdout.flush()
+    def again(copy):
+        """What the program prints for a copy of the text. (An unproved build takes its time, so it isn't asked.)"""
+        if not os.access(program_of(call[0]), os.X_OK):
+            return b""
+        words = [call[0], "--", "show", "--top", call[call.index("--top") + 1]]
+        return subprocess.run(words, input=b"=== profile\n" + copy.encode(), stdout=subprocess.PIPE, stderr=subprocess.DEVNULL, check=False).stdout
+    show(ran.stdout, name, text.decode(errors="replace"), again)
     return ran.returncode if ran.returncode >= 0 else 128 - ran.returncode
+
+
+def program_of(command):
+    """The path at which the proved program stands."""
+    return os.path.join(os.path.dirname(os.path.dirname(command)), "crates", "rohcfn", "out", "rohcfn")

@@ -136,15 +136,31 @@ def in_brackets(tokens):
     return tokens
 
 
+def heads(body):
+    """The words with which the sections of a method begin."""
+    found, place = [], 0
+    while place < len(body):
+        if body[place].text in SECTIONS:
+            found.append(body[place])
+        place = after_brackets(body, after_mark(body, place, "{") - 1)
+    return found
+
+
+def format_names(body):
+    """The name of each COMPRESSED section of a method, or None."""
+    after = [body[body.index(it) + 1:][:1] for it in heads(body) if it.text == "COMPRESSED"]
+    return [it[0].text if it and it[0].kind == "name" else None for it in after]
+
+
 def statements(body, word):
     """The statements of a method's sections of a kind."""
     found, place = [], 0
     while place < len(body):
         begin = after_mark(body, place, "{") - 1
-        after = after_brackets(body, begin) if begin < len(body) else len(body)
+        after = after_brackets(body, begin)
         if body[place].text == word:
             found += [it for it in split(body[begin + 1:after - 1], ";") if it]
-        place = max(after, place + 1)
+        place = after
     return found
 
 

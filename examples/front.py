@@ -5,9 +5,11 @@ usage faults, and what it shows of a fault. With the path of a program the worke
 What is due follows from the worked inputs, the cases, headers.py and the pages; nothing is taken from the program."""
 import concurrent.futures
 import contextlib
+import importlib
 import os
 import pathlib
 import pty
+import re
 import select
 import shutil
 import struct
@@ -16,10 +18,13 @@ import sys
 import tempfile
 import threading
 
+import cases
 import headers
 
 HERE = pathlib.Path(__file__).resolve().parent
 ROOT = HERE.parent
+sys.path.append(str(ROOT / "bin"))
+diagnosis, grammar = (importlib.import_module(it) for it in ("diagnosis", "grammar"))
 TOLD = '#!/bin/sh\nprintf "[%s]" "$@"\necho\ncat\nexit 7\n'
 PARTS = {"items": "--items", "packets": "--packets", "events": "--events", "octets": "--octets", "context": "--from-context", "certificate": "--certificate"}
 PROFILE = "one(a, b) { }\nK = 2 * (3 + 1); // last { }\n/* four { */ two { UNCOMPRESSED { x [8]; } }"
@@ -381,9 +386,78 @@ def closed(place):
     check("a full disk is news", (ran.returncode, ran.stderr) == (3, b"error: writing the output failed\n"), ran)
 
 
+def told_faults():
+    """For each fault that is told: its name, the words and the profile that have it, what the program prints, and what is shown of it besides."""
+    text = (HERE / "diagnosed.cases").read_text()
+    stored = {"%s: %s" % (path.name, name): it for path in HERE.glob("cases/E*.cases") for name, *it in cases.stored(path)}
+    for block in ("\n" + text).split("\n=== case ")[1:]:
+        name, due = block.partition("\n=== profile ")[0].split("\n", 1)
+        bundle, status, output = stored[name]
+        words, parts = parted(bundle.decode())
+        yield name, words, parts["profile"], (status, output.decode()), due
+    for block in ("\n" + text).split("\n=== profile ")[1:]:
+        name, rest = block.split("\n", 1)
+        profile, due = rest.split("=== told\n")
+        first = due.partition("\n")[0].replace("p.fn:", "profile:")
+        yield name, ["show", "--top", "q"], profile, (1, first + "\n"), due
+
+
+def without_pages(said):
+    """What is shown of faults, without the lines that are those of docs/FAULTS.md."""
+    page = " ".join((ROOT / "docs" / "FAULTS.md").read_text().split())
+    return "\n".join(it for it in said.splitlines() if not (it.startswith("help: ") and it[6:] in page))
+
+
+def diagnosed(place):
+    """What is shown of faults of a profile: by --diagnose, in a terminal, and not in a pipe."""
+    folders = []
+    for at, told_fault in enumerate(told_faults()):
+        folders.append((place.files / ("fault %d" % at), *told_fault))
+        folders[-1][0].mkdir()
+        (folders[-1][0] / "p.fn").write_text(told_fault[2])
+    with concurrent.futures.ThreadPoolExecutor(max_workers=4) as pool:
+        calls = [pool.submit(place.call, "show", "p.fn", *words[1:], "--diagnose", cwd=folder) for folder, _, words, *_ in folders]
+        for (_, name, _, _, printed, due), called in zip(folders, calls):
+            status, out, said = called.result()
+            check("a fault: %s" % name, (status, out) == printed and without_pages(said) == due.rstrip("\n"), (status, out, said))
+            codes = {it.split(" ")[1] for it in said.splitlines() if it.startswith("p.fn:")}
+            check("with what the page says: %s" % name, len([it for it in said.splitlines() if it not in without_pages(said).splitlines()]) >= len(codes), said)
+    place.write("p.fn", "q { } ;;\n")
+    line = "profile:1:8: E10 unexpected token\n"
+    check("nothing more in a pipe", place.call("show", "p.fn") == (1, line, ""), place.call("show", "p.fn"))
+    plain = line + "p.fn:1:8: E10 unexpected token\n1 | q { } ;;\n  |        ^\nhelp: expected a constant or a method\n"
+    for more, coloured in (({"TERM": "xterm"}, True), ({"TERM": "xterm", "NO_COLOR": "1"}, False), ({"TERM": "dumb"}, False)):
+        status, seen = place.on_terminal("show", "p.fn", **more)
+        check("in a terminal: %s" % more, status == 1 and ("\033[" in seen) == coloured and re.sub("\033\\[[0-9;]*m", "", seen).startswith(plain), seen)
+    (place.root / "docs" / "FAULTS.md").unlink()
+    due = plain.removeprefix(line) + "see docs/FAULTS.md, E10; docs/FORMATS.md\n"
+    check("where there are no pages", place.call("show", "p.fn", "--diagnose") == (1, line, due), place.call("show", "p.fn", "--diagnose"))
+
+
+def all_faults(_):
+    """Each stored fault of a profile is shown at its place, and the grammar stops where the program does."""
+    for path in sorted(HERE.glob("cases/*.cases")):
+        for name, bundle, _, output in cases.stored(path):
+            if output.rstrip(b"\n").rpartition(b"\n")[2].startswith(b"profile:") and not bundle.endswith(b"=== "):
+                place, line, column = shown_of(bundle, output)
+                lines = place.text.split("\n")
+                seen = list(diagnosis.lines_of(place, "p.fn", lambda _, words: words))
+                check("shown: %s: %s" % (path.name, name), seen[0].startswith("p.fn:%d:%d: E" % (line, column)) and seen[1].rstrip() == ("%d | %s" % (line, lines[line - 1])).rstrip()
+                      and len(seen[2].partition("^")[0]) == len("%d | " % line) + column - 1, seen)
+                stopped = grammar.stops(place.tokens)
+                check("stops: %s: %s" % (path.name, name), place.code != "E10" or stopped is not None and stopped[0] == place.place, stopped)
+
+
+def shown_of(bundle, output):
+    """The fault of a stored case, and its line and column."""
+    parts = dict((it + b"\n").split(b"\n", 1) for it in (b"\n" + bundle.removesuffix(b"\n")).split(b"\n=== ")[1:])
+    line, column = map(int, output.rstrip(b"\n").rpartition(b"\n")[2].split(b":")[1:3])
+    return diagnosis.fault_of(output, parts[b"profile"].decode(errors="replace")), line, column
+
+
 def main():
-    trials = [(it, None) for it in (composed, paths, untouched, usage, captures, by_hand)]
-    trials += [(it, program) for program in sys.argv[1:] for it in (worked, there_and_back, closed)]
+    trials = [(it, None) for it in (composed, paths, untouched, usage, captures, by_hand, all_faults)]
+    trials += [(it, program) for program in sys.argv[1:] for it in (worked, there_and_back, closed, diagnosed)]
     with tempfile.TemporaryDirectory() as folder, concurrent.futures.ThreadPoolExecutor(max_workers=4) as pool:
         done = [pool.submit(lambda at, it, program: it(Place(folder, "a copy %d" % at, program)), at, *them) for at, them in enumerate(trials)]
         for it in done:
