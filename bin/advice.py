@@ -47,7 +47,7 @@ def either(words):
 
 
 def near(word, other):
-    """Whether two words differ by one letter (another, one more, one less, or two exchanged), and are long enough for that to say something; or by their case."""
+    """Whether two words differ by their case, or by one letter (another, one more, one less, or two exchanged) where they are long enough to tell."""
     if word == other or min(len(word), len(other)) < SHORTEST:
         return word != other and word.lower() == other.lower()
     if abs(len(word) - len(other)) > 1:

@@ -1,6 +1,7 @@
 """Reads captures of the classic pcap format, and cuts the headers of IPv4, IPv6, UDP, RTP and ESP out of their packets.
 
-It doesn't know the format pcapng, other links than LINKS, options of IPv4, extension headers of IPv6, fragments, TCP, contributing sources and extensions of RTP."""
+It doesn't know the format pcapng, other links than LINKS, options of IPv4, extension headers of IPv6, fragments, TCP, and of RTP contributing sources and the
+extension."""
 import collections
 import struct
 
@@ -123,7 +124,7 @@ def bits_of(kind):
 
 
 def kind_of(lengths):
-    """The kind of a header that has fields of these lengths: of those that are as long, the one whose fields end at the most similar places. None where none is."""
+    """The kind of a header with fields of these lengths: of those that are as long, the one whose fields end at the most similar places. None where none is."""
     due = ends(lengths)
     def strangeness(kind):
         return len(due ^ ends([bits for it in kind for bits in LAYERS[it]]))

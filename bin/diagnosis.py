@@ -8,6 +8,7 @@ import advice
 import mending
 
 LINE = re.compile(r"profile:(\d+):(\d+): (E\d\d) (.*)")
+UNSEEN = re.compile("[\x00-\x08\x0b-\x1f\x7f-\x9f]")  # what a terminal might take for a command
 RED, BLUE, PLAIN = "\033[1;31m", "\033[1;34m", "\033[0m"
 GREATEST = 10  # faults of one text that are shown
 
@@ -38,6 +39,7 @@ def place_of(fault):
 def lines_of(fault, name, paint):
     """What is shown of a fault."""
     line, column, shown = place_of(fault)
+    shown = UNSEEN.sub("?", shown)
     margin, blank = "%d |" % line, re.sub(r"[^\t]", " ", shown[:column - 1])
     carets = "^" * max(1, min(fault.width(), len(shown) - column + 1))
     yield paint(RED, "%s:%d:%d: %s %s" % (name, line, column, fault.code, fault.words))
@@ -59,7 +61,7 @@ def painter(stream):
 
 
 def faults(first, again):
-    """The first fault of a text, and those that are found on copies of it in which the ones before are mended. `again` is what the program prints for a copy."""
+    """The first fault of a text, and those found on copies in which the ones before are mended. `again` gives what the program prints for a copy."""
     copy, found, told = mending.Copy(first.text), first, set()
     while found is not None and len(told) < GREATEST:
         start = copy.origin(found.start)
@@ -80,11 +82,24 @@ def show(printed, name, text, again):
         print("\n".join(lines_of(it, name, paint)), file=sys.stderr)
 
 
+def is_written(octets):
+    """Writes octets to standard output; whether all of them went out."""
+    rest = memoryview(octets)
+    try:
+        while rest:
+            rest = rest[os.write(1, rest):]
+    except OSError:
+        return False
+    return True
+
+
 def shown(call, file, name, text):
     """Runs the program, prints what it prints, and shows a fault of the profile besides; its status."""
     ran = subprocess.run(call, stdin=file, stdout=subprocess.PIPE, check=False)
-    sys.stdout.buffer.write(ran.stdout)
-    sys.stdout.flush()
+    if not is_written(ran.stdout):
+        print("error: writing the output failed", file=sys.stderr)
+        return 3
+
     def again(copy):
         """What the program prints for a copy of the text. (An unproved build takes its time, so it isn't asked.)"""
         if not os.access(program_of(call[0]), os.X_OK):

@@ -72,6 +72,8 @@ def order_of(words):
             order.take(name, True)
         elif order.profile is None and (word == "-" or not word.startswith("-")):
             order.profile = word
+        elif order.context and order.profile is not None and not word.startswith("-"):
+            raise Usage("unexpected argument '%s' found; --context has no value, --from-context FILE gives the context to begin with" % word)
         else:
             raise Usage("unexpected argument '%s' found" % word)
     judge(order)
@@ -96,8 +98,8 @@ def judge(order):
         raise Usage("--flow goes with --pcap, and is a number from 0")
     if order.receive and order.octets is None:
         raise Usage("--receive needs --octets")
-    paths = [order.profile, order.from_context, order.certificate, order.events, order.octets, order.pcap] + [it for name, it in order.given if name.endswith("s")]
-    if paths.count("-") > 1:
+    paths = [order.profile, order.from_context, order.certificate, order.events, order.octets, order.pcap]
+    if [*paths, *[it for name, it in order.given if name == LINES[name]]].count("-") > 1:
         raise Usage("standard input can be one file alone")
 
 
@@ -147,7 +149,7 @@ def captured(order, profile, top):
     if kind is None:
         raise parts.BadInput("%s: %s's header has %d bits, and --pcap cuts none of that length" % (order.profile, top, sum(it.bits for it in fields)), 2)
     try:
-        found = captures.packets(parts.read(order.pcap))
+        found = captures.packets(parts.read(order.pcap, -1))
         flows, asked = flows_of(order, kind, found), profile.asked(top)
         if order.command == "pack":
             return {"items": lines(inferred.items(kind, asked, chosen(order, flows)))}
@@ -176,8 +178,8 @@ def events(order, kind, asked, flows, found):
 def call_of(order):
     """The words of the program, the bundle, and the profile's text."""
     text = parts.part_of("profile", order.profile)
-    profile = notation.Profile(text.decode(errors="replace"))
-    top = order.top or profile.top() or "top"
+    profile = notation.Profile(text.decode(errors="replace")) if order.top is None or order.has("pcap") else None
+    top = profile.top() or "top" if order.top is None else order.top
     found = lines_given(order)
     for name, path in (("context", order.from_context), ("certificate", order.certificate), ("events", order.events), ("octets", order.octets)):
         if path is not None:
@@ -190,7 +192,7 @@ def call_of(order):
 
 def is_shown(order):
     """Whether a fault is to be shown besides: by --diagnose, or where all that is printed goes to a terminal."""
-    return order.diagnose or sys.stdout.isatty() and sys.stderr.isatty()
+    return sys.stdout is not None and (order.diagnose or sys.stdout.isatty() and sys.stderr.isatty())
 
 
 def answer(order):
@@ -208,6 +210,8 @@ def answer(order):
 
 
 def main(words):
+    if sys.stderr is None:  # (it is closed)
+        sys.stderr = open(os.devnull, "w", encoding="utf-8")
     signal.signal(signal.SIGPIPE, signal.SIG_DFL)
     signal.signal(signal.SIGINT, signal.SIG_DFL)
     try:

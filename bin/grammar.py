@@ -160,7 +160,7 @@ def stops(tokens):
     reader = Reader(tokens)
     try:
         reader.file()
-    except Stop:
+    except (Stop, RecursionError):
         return reader.place, reader.expected
     return None
 

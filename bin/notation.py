@@ -1,5 +1,6 @@
 """What a profile's text says of its methods, its constants, and the header of a method: as much as is read without judging it. The program alone judges."""
 import collections
+import operator
 import re
 
 TOKEN = re.compile(r"(?P<space>[ \t\r\n\f]+|//[^\n]*|/\*.*?\*/)|(?P<name>[A-Za-z]\w*)|(?P<number>0x[0-9a-fA-F]+|0b[01]+|[0-9]+)|(?P<bits>'[01]*')"
@@ -8,6 +9,7 @@ SECTIONS = ("UNCOMPRESSED", "CONTROL", "INITIAL", "DEFAULT", "COMPRESSED")
 RESERVED = (*SECTIONS, "ENFORCE", "THIS", "VARIABLE", "UVALUE", "ULENGTH", "CVALUE", "CLENGTH", "true", "false")
 LIBRARY = ("uncompressed_value", "compressed_value", "irregular", "static", "lsb", "crc")
 GREATEST_EXPONENT = 127
+COMPUTED = {"+": operator.add, "-": operator.sub, "*": operator.mul, "/": operator.floordiv, "%": operator.mod}
 OPEN, CLOSED = "([{", ")]}"
 
 Token = collections.namedtuple("Token", "kind text start")
@@ -54,7 +56,7 @@ def methods_and_constants(tokens):
             place = after_brackets(tokens, after)
             methods.append(Method(name.text, parameters, tokens[after + 1:place - 1]))
         else:
-            place += 1
+            place = after
     return methods, constants
 
 
@@ -79,7 +81,7 @@ class Number:
         value = self.level(depth + 1)
         while mark := self.next_is(tuple(self.LEVELS[depth])):
             other = self.level(depth + 1)
-            value = {"+": lambda x, y: x + y, "-": lambda x, y: x - y, "*": lambda x, y: x * y, "/": lambda x, y: x // y, "%": lambda x, y: x % y}[mark](value, other)
+            value = COMPUTED[mark](value, other)
         return value
 
     def power(self):

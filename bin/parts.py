@@ -16,15 +16,15 @@ class BadInput(Exception):
         self.status = status
 
 
-def read(path):
-    """The octets of a file, or of standard input where it is `-`."""
+def read(path, most=GREATEST):
+    """The octets of a file, or of standard input where it is `-`, but no more than a count; all where that is -1."""
     try:
         if path == "-":
             if sys.stdin is None:
                 raise BadInput("standard input is closed", 3)
-            return sys.stdin.buffer.read(GREATEST)
+            return sys.stdin.buffer.read(most)
         with open(path, "rb") as file:
-            return file.read()
+            return file.read(most)
     except OSError as why:
         raise BadInput("%s: %s" % (path, why.strerror), 3) from None
 

@@ -207,8 +207,8 @@ def at_once(place, texts):
     due += [([it, "--help"], 0, "", it) for it in COMMANDS]
     due += [(words, 0, "", "pack") for words in (["help", "pack"], ["pack", "-h", "foo"], ["pack", "foo", "--help"], ["pack", "--top", "plain", "--help"])]
     due += [(words, 2, "error: --top NAME is needed\n\n", words[0]) for words in (["unpack"], ["check", "--v2"], ["line", "--receive", "--v2"])]
-    due += [(["pack", "--top", *rest], 2, "error: a value is required for '--top <NAME>' but none was supplied\n\n", "pack") for rest in ([], ["--v2", "--help"])]
-    due += [(["pack", "--top", "--help"], 2, "error: a value is required for '--top <NAME>' but none was supplied\n\n", "pack")]
+    no_value = "error: a value is required for '--top <NAME>' but none was supplied\n\n"
+    due += [(["pack", "--top", *rest], 2, no_value, "pack") for rest in ([], ["--help"], ["--v2", "--help"])]
     due += [(words, 2, "error: the argument '%s' cannot be used multiple times\n\n" % words[1].partition("=")[0], "pack")
             for words in (["pack", "--v2", "--v2", "--top", "x"], ["pack", "--top=x", "--top", "y"])]
     due += [(words, 2, "error: unexpected argument '%s' found\n\n" % words[-1], words[0])

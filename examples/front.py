@@ -1,6 +1,7 @@
 #!/usr/bin/env python3
-"""Tries bin/rohcfn with files, in a copy where a program that is told stands: the bundles that it puts together, captures that are written here from data/, help,
-usage faults, and what it shows of a fault. With the path of a program the worked inputs go through that by files, and captures there and back.
+"""Tries bin/rohcfn with files, in a copy with a program that prints its words and its input: the bundles, captures that are written here from data/, help,
+usage faults, and where the grammar stops. With the path of a program the worked inputs go through that by files, captures there and back, and the calls of
+docs/USAGE.md; and what is shown of a fault is compared with diagnosed.cases.
 
 What is due follows from the worked inputs, the cases, headers.py and the pages; nothing is taken from the program."""
 import concurrent.futures
@@ -137,7 +138,7 @@ def composed(place):
     check("a profile of standard input", seen == (7, told("prove", *top, **rest), ""), seen)
     seen = place.call("show", "--diagnose", "a profile.fn")
     check("a program that names no fault", seen == (7, told("show", *top, **rest), ""), seen)
-    for name, text, last in (("none", "", "top"), ("cut", "a { } b {", "b"), ("bits", "a { x =:= '0}'; } }", "a")):
+    for name, text, last in (("none", "", "top"), ("cut", "a { } b {", "b"), ("bad", "a { } ? c(d { {", "a"), ("bits", "a { x =:= '0}'; } }", "a")):
         place.write(name, text)
         check("the top of %s" % name, place.call("show", name) == (7, told("show", "--top", last, profile=text), ""), place.call("show", name))
 
@@ -147,8 +148,8 @@ def paths(place):
     (place.files / "link.fn").symlink_to("a profile.fn")
     (place.files / "door").symlink_to("../bin/rohcfn")
     due = (7, told("prove", "--top", "two", profile=PROFILE), "")
-    for words, how in ((("prove", "link.fn"), {}), (("prove", str(place.files / "link.fn")), {"cwd": "/"}), (("prove", "my files/link.fn"), {"cwd": place.root})):
-        check("a link: %s" % (words,), place.call(*words, command=place.files / "door", **how) == due)
+    for path, how in (("link.fn", {}), (str(place.files / "link.fn"), {"cwd": "/"}), ("my files/link.fn", {"cwd": place.root})):
+        check("a link: %s" % path, place.call("prove", path, command=place.files / "door", **how) == due)
     (place.files / "-x.fn").write_text(PROFILE)
     check("a name that begins with a dash", place.call("prove", "./-x.fn") == due)
     for words, status, text in (
@@ -164,8 +165,9 @@ def untouched(place):
     for words in (["pack", "--top", "two"], ["pack", "--top", "two", "--context", "--v2"], ["show", "--top=two"], [], ["line", "--top", "two", "--receive"]):
         seen = place.call(*words, given=b"\x00 any\n")
         check("the filter: %s" % words, seen == (7, "%s\n\x00 any\n" % ("".join("[%s]" % it for it in words) or "[]"), ""), seen)
-    for words, due in ((["--", "pack", "x", "--item"], "[pack][x][--item]"), (["pack", "x", "--", "--item"], "[pack][x][--][--item]"), (["--", "--help"], "[--help]")):
-        check("untouched: %s" % words, place.call(*words) == (7, due + "\n", ""), place.call(*words))
+    due = {("--", "pack", "x", "--item"): "[pack][x][--item]", ("pack", "x", "--", "--item"): "[pack][x][--][--item]", ("--", "--help"): "[--help]"}
+    for words, due in due.items():
+        check("untouched: %s" % (words,), place.call(*words) == (7, due + "\n", ""), place.call(*words))
 
 
 def usage(place):
@@ -188,6 +190,8 @@ def usage(place):
         ("show", "a profile.fn", "--top"): "--top needs a value",
         ("show", "a profile.fn", "--top", "a", "--top=b"): "--top stands twice",
         ("pack", "a profile.fn", "--pcap", "x", "--flow=-1"): "--flow goes with --pcap, and is a number from 0",
+        ("pack", "a profile.fn", "--context", "items"):
+        "unexpected argument 'items' found; --context has no value, --from-context FILE gives the context to begin with",
         ("show", "a profile.fn", "--tip"): "unexpected argument '--tip' found",
     }
     with open("/dev/zero", "rb") as endless:
@@ -195,22 +199,21 @@ def usage(place):
             ran = subprocess.run([place.command, *words], stdin=endless, capture_output=True, cwd=place.files, env=place.environment, timeout=20, check=False)
             seen = ran.returncode, ran.stdout, ran.stderr.decode()
             check("a usage fault: %s" % (words,), seen == (2, b"", "error: %s\n\nFor more information, try '--help'.\n" % text), seen)
-        for words, part in ((["--help"], "rohcfn"), (["help"], "rohcfn"), (["pack", "--help"], "pack"), (["help", "line"], "line"), (["pack", "x.fn", "-h"], "pack")):
+        for words, part in ((["--help"], ""), (["help"], ""), (["pack", "--help"], " pack"), (["help", "line"], " line"), (["pack", "x.fn", "-h"], " pack")):
             ran = subprocess.run([place.command, *words], stdin=endless, capture_output=True, env=place.environment, timeout=20, check=False)
             text = ran.stderr.decode()
-            check("help: %s" % words, ran.returncode == 0 and "Usage: rohcfn%s" % ("" if part == "rohcfn" else " " + part) in text and "--from-context FILE" in text, text)
+            check("help: %s" % words, ran.returncode == 0 and "Usage: rohcfn%s " % part in text and "--from-context FILE" in text, text)
     check("the program's own usage faults, with no input", place.call("pack", "--tip", given=b"input") == (7, "[pack][--tip]\n", ""))
     seen = place.call("--version")
     check("the kit", seen == (0, "rohcfn, kit kit of --version\n", ""), seen)
-    for name, words in (("user.name", "a"), ("user.email", "a@example.org")):
-        place.environment.update({"GIT_CONFIG_COUNT": "2", "GIT_CONFIG_KEY_%d" % (name == "user.email"): name, "GIT_CONFIG_VALUE_%d" % (name == "user.email"): words})
     for words in (["init", "-q"], ["add", "bin"], ["commit", "-q", "-m", "one"]):
-        subprocess.run(["git", *words], cwd=place.root, env=place.environment, check=True, stdout=subprocess.DEVNULL)
+        settings = [it for one in ("user.name=a", "user.email=a@example.org", "commit.gpgsign=false") for it in ("-c", one)]
+        subprocess.run(["git", *settings, *words], cwd=place.root, env=place.environment, check=True, stdout=subprocess.DEVNULL)
     commit = subprocess.run(["git", "rev-parse", "--short", "HEAD"], cwd=place.root, capture_output=True, check=True).stdout.decode().strip()
     seen = place.call("--version")
     check("the commit", seen == (0, "rohcfn, commit %s, kit kit of --version\n" % commit, ""), seen)
-    seen = place.on_terminal()
-    check("a bare call in a terminal", seen[0] == 7 and seen[1].partition("\n")[0].endswith("--help says more") and "a bundle is awaited on standard input" in seen[1], seen)
+    status, seen = place.on_terminal()
+    check("a bare call in a terminal", status == 7 and seen.startswith("rohcfn: a bundle is awaited on standard input"), seen)
 
 
 def capture(link, frames, order="<", magic=0xA1B2C3D4):
@@ -239,7 +242,7 @@ def captures(place):
         shutil.copy(HERE / "profiles" / (kind + ".profile"), place.files)
         profile = kind + ".profile"
         due = headers.bundle(kind, "line", "events", headers.events(kind, every))
-        for name, (link, front) in LINKED.items():
+        for name, (link, front) in list(LINKED.items())[:None if kind == "udp" else 2]:
             order, magic = ("<", 0xA1B2C3D4) if len(name) % 2 else (">", 0xA1B23C4D)
             place.write(name, capture(link, [front + it + payload(kind) for it in every], order, magic))
             seen = place.call("line", profile, "--pcap", name)
@@ -251,7 +254,7 @@ def captures(place):
             due = headers.bundle(kind, "pack", "items", headers.items(kind, flow))
             told_of = "rohcfn: others: 4 of %d packets have no header of %s\n" % (len(every) + 4, "ipv4 and udp" + " and rtp" * (kind == "rtp"))
             check("a flow: %s %d" % (kind, at), seen[0] == 7 and spelled(seen[1]) == spelled(due) and seen[2] == told_of, seen[2])
-    seen = place.call("pack", "udp.profile", "--pcap", "cooked")
+    seen = place.call("pack", "udp.profile", "--pcap", "ethernet")
     check("no flow is chosen", seen[:2] == (2, "") and "choose one flow by --flow\nflow 0, 127.0.0.22:40002 to 127.0.0.31:5006: 100 headers\n" in seen[2], seen)
 
 
@@ -279,10 +282,11 @@ def by_hand(place):
     esp = "i [32]; n [A * 2 + 0x10];"
     due = [
         ("esp", esp, "", [ESP4[20:28], ESP6[40:48]], "", 0),
-        ("four_esp", V4 + esp, "CONTROL { msn [16]; q =:= static [1]; r [4]; ENFORCE(2 == 2 && (r.UVALUE) == msn.UVALUE + 1); }", [ESP4[:28]], " msn=16:0007", 0),
+        ("four_esp", V4 + esp, "CONTROL { msn [16]; q =:= static [1]; r [4]; ENFORCE(2 == 2 && (r.UVALUE) == msn.UVALUE + 1); }", [ESP4[:28]],
+         " msn=16:0007", 0),
         ("six", LONG.replace("=:= irregular(64)", "=:= uncompressed_value(64, 2)"), "CONTROL { msn [8]; }", [six], " msn=8:00", 1),
-        ("six_udp", LONG.replace("=:= irregular(64)", "[64]") + "sp [16]; dp [16]; ul [16]; us [16];", "CONTROL { msn [8]; udp_checksum_used [1]; }", [six + udp],
-         " msn=8:00 udp_checksum_used=1:00", 0),
+        ("six_udp", LONG.replace("=:= irregular(64)", "[64]") + "sp [16]; dp [16]; ul [16]; us [16];", "CONTROL { msn [8]; udp_checksum_used [1]; }",
+         [six + udp], " msn=8:00 udp_checksum_used=1:00", 0),
         ("rtp", "v [2]; p [1]; x [1]; c [4]; m [1]; t [7]; n [16]; ts [32]; s [32];", "CONTROL { msn [4]; ts_stride [32]; }", [rtp],
          " msn=4:e0 ts_stride=32:00000001", 0),
     ]
@@ -312,7 +316,8 @@ def by_hand(place):
     for words, status, text in (
             (["pack", "width.fn", "--pcap", "mixed"], 2, "width.fn: w's header has 7 bits, and --pcap cuts none of that length"),
             (["pack", "open.fn", "--pcap", "mixed"], 2, "open.fn: the fields of w's header have no constant lengths, so --pcap doesn't know what to cut"),
-            (["pack", "asks.fn", "--pcap", "zero"], 2, "--pcap can't infer other: of an asked field it knows msn, ip_id_behaviour, udp_checksum_used and ts_stride alone"),
+            (["pack", "asks.fn", "--pcap", "zero"], 2,
+             "--pcap can't infer other: of an asked field it knows msn, ip_id_behaviour, udp_checksum_used and ts_stride alone"),
             (["pack", "narrow.fn", "--pcap", "zero"], 2, "--pcap infers 3 for ip_id_behaviour, which has 1 bits"),
             (["pack", "esp.fn", "--pcap", "items"], 3, "items: this is no capture of the classic pcap format"),
             (["pack", "esp.fn", "--pcap", "next"], 3, "next: this is a pcapng capture; `editcap -F pcap IN OUT` makes a classic one of it"),
@@ -377,13 +382,19 @@ def closed(place):
     place.write("plain.fn", parted((HERE / "plain.bundle").read_text())[1]["profile"])
     place.write("many", "16:5abc\n" * 60000)
     place.write("bundle", "=== profile\n%s=== items\n%s" % ((place.files / "plain.fn").read_text(), "16:5abc\n" * 60000))
+    how = {"cwd": place.files, "env": place.environment, "timeout": 30, "check": False}
     for call in ('"$0" pack plain.fn --items many', '"$0" pack plain.fn --items many --diagnose', '"$0" pack --top plain <bundle', '"$0" --help 2>&1'):
-        ran = subprocess.run(["bash", "-c", call + " | head -n 1", place.command], cwd=place.files, env=place.environment, capture_output=True, timeout=30, check=False)
+        ran = subprocess.run(["bash", "-c", call + " | head -n 1", place.command], capture_output=True, **how)
         due = (b"18:96af00\n", b"") if "--help" not in call else (ran.stdout[:6] and ran.stdout, b"")
         check("a closed pipe: %s" % call, (ran.stdout, ran.stderr) == due, (ran.stdout, ran.stderr))
-    with open("/dev/full", "wb") as full:
-        ran = subprocess.run([place.command, "pack", "plain.fn", "--items", "many"], cwd=place.files, stdout=full, stderr=subprocess.PIPE, check=False)
-    check("a full disk is news", (ran.returncode, ran.stderr) == (3, b"error: writing the output failed\n"), ran)
+    for more in ([], ["--diagnose"]):
+        with open("/dev/full", "wb") as full:
+            ran = subprocess.run([place.command, "pack", "plain.fn", "--items", "many", *more], stdout=full, stderr=subprocess.PIPE, **how)
+        check("a full disk is news %s" % more, (ran.returncode, ran.stderr) == (3, b"error: writing the output failed\n"), ran)
+    for shut, due in ((">&-", 3), ("2>&-", 1), ("--diagnose >&-", 3), ("--diagnose 2>&-", 1)):
+        ran = subprocess.run(["bash", "-c", '"$0" pack plain.fn --item 16:5abc --item none ' + shut, place.command], capture_output=True, **how)
+        printed = b"items:2: I1 bad item\n" if due == 1 else b""
+        check("a stream that is closed: %s" % shut, (ran.returncode, ran.stdout) == (due, printed) and b"Traceback" not in ran.stderr, ran)
 
 
 def told_faults():
@@ -434,6 +445,22 @@ def diagnosed(place):
     check("where there are no pages", place.call("show", "p.fn", "--diagnose") == (1, line, due), place.call("show", "p.fn", "--diagnose"))
 
 
+def usage_page(place):
+    """The calls that docs/USAGE.md shows, in a folder with the files that it shows."""
+    text = (ROOT / "docs" / "USAGE.md").read_text()
+    (place.files / "bin").symlink_to("../bin")
+    shutil.copy(HERE / "profiles" / "udp.profile", place.files)
+    every = headers.headers_of("udp", (HERE / "data" / "udp-headers.hex").read_text().splitlines())
+    place.write("trace.pcap", capture(1, [ETHERNET + it + b"body" for it in every]))
+    for name, content in re.findall(r"^`(\S+)`:\n\n```\n(.*?)^```$", text, re.MULTILINE | re.DOTALL):
+        place.write(name, content)
+    for block in re.findall(r"^```sh\n(.*?)^```$", text, re.MULTILINE | re.DOTALL):
+        for call in block.removeprefix("$ ").split("\n$ "):
+            words, _, due = call.partition("\n")
+            seen = place.call("-c", words, command="bash")
+            check("docs/USAGE.md: %s" % words, (seen[1] + seen[2]).rstrip("\n") == due.rstrip("\n"), seen)
+
+
 def all_faults(_):
     """Each stored fault of a profile is shown at its place, and the grammar stops where the program does."""
     for path in sorted(HERE.glob("cases/*.cases")):
@@ -442,8 +469,9 @@ def all_faults(_):
                 place, line, column = shown_of(bundle, output)
                 lines = place.text.split("\n")
                 seen = list(diagnosis.lines_of(place, "p.fn", lambda _, words: words))
-                check("shown: %s: %s" % (path.name, name), seen[0].startswith("p.fn:%d:%d: E" % (line, column)) and seen[1].rstrip() == ("%d | %s" % (line, lines[line - 1])).rstrip()
-                      and len(seen[2].partition("^")[0]) == len("%d | " % line) + column - 1, seen)
+                due = "p.fn:%d:%d: E" % (line, column), ("%d | %s" % (line, lines[line - 1])).rstrip(), len("%d | " % line) + column - 1
+                found = seen[0][:len(due[0])], seen[1].rstrip(), len(seen[2].partition("^")[0])
+                check("shown: %s: %s" % (path.name, name), found == due, seen)
                 stopped = grammar.stops(place.tokens)
                 check("stops: %s: %s" % (path.name, name), place.code != "E10" or stopped is not None and stopped[0] == place.place, stopped)
 
@@ -457,7 +485,7 @@ def shown_of(bundle, output):
 
 def main():
     trials = [(it, None) for it in (composed, paths, untouched, usage, captures, by_hand, all_faults)]
-    trials += [(it, program) for program in sys.argv[1:] for it in (worked, there_and_back, closed, diagnosed)]
+    trials += [(it, program) for program in sys.argv[1:] for it in (worked, there_and_back, closed, diagnosed, usage_page)]
     with tempfile.TemporaryDirectory() as folder, concurrent.futures.ThreadPoolExecutor(max_workers=4) as pool:
         done = [pool.submit(lambda at, it, program: it(Place(folder, "a copy %d" % at, program)), at, *them) for at, them in enumerate(trials)]
         for it in done:
