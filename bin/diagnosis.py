@@ -10,6 +10,7 @@ import mending
 LINE = re.compile(r"profile:(\d+):(\d+): (E\d\d) (.*)")
 UNSEEN = re.compile("[\x00-\x08\x0b-\x1f\x7f-\x9f]")  # what a terminal might take for a command
 RED, BLUE, PLAIN = "\033[1;31m", "\033[1;34m", "\033[0m"
+WIDTH = 160  # characters of a line that are shown
 GREATEST = 10  # faults of one text that are shown
 
 
@@ -38,10 +39,11 @@ def place_of(fault):
 
 def lines_of(fault, name, paint):
     """What is shown of a fault."""
-    line, column, shown = place_of(fault)
-    shown = UNSEEN.sub("?", shown)
-    margin, blank = "%d |" % line, re.sub(r"[^\t]", " ", shown[:column - 1])
-    carets = "^" * max(1, min(fault.width(), len(shown) - column + 1))
+    line, column, whole = place_of(fault)
+    cut = max(0, column - 1 - WIDTH // 2) if len(whole) > WIDTH else 0
+    shown, before = UNSEEN.sub("?", whole[cut:cut + WIDTH]), column - 1 - cut
+    margin, blank = "%d |" % line, re.sub(r"[^\t]", " ", shown[:before])
+    carets = "^" * max(1, min(fault.width(), len(shown) - before))
     yield paint(RED, "%s:%d:%d: %s %s" % (name, line, column, fault.code, fault.words))
     yield paint(BLUE, margin) + (" " + shown if shown else "")
     yield paint(BLUE, " " * (len(margin) - 1) + "|") + " " + blank + paint(RED, carets)

@@ -195,12 +195,22 @@ def is_shown(order):
     return sys.stdout is not None and (order.diagnose or sys.stdout.isatty() and sys.stderr.isatty())
 
 
+def file_of(octets):
+    """An open file with these octets, at its begin, in no folder."""
+    if hasattr(os, "memfd_create"):
+        file = os.fdopen(os.memfd_create("bundle"), "w+b")
+    else:
+        import tempfile  # (it takes a while to load)
+        file = tempfile.TemporaryFile()
+    file.write(octets)
+    file.seek(0)
+    return file
+
+
 def answer(order):
     """Runs the program; its status. Where nothing is to be shown besides, the program takes the place of this one."""
     words, bundle, text = call_of(order)
-    with os.fdopen(os.memfd_create("bundle"), "w+b") as file:
-        file.write(bundle)
-        file.seek(0)
+    with file_of(bundle) as file:
         call = [FILTER, "--", *words]
         if not is_shown(order):
             os.dup2(file.fileno(), 0)

@@ -206,14 +206,16 @@ def usage(place):
     check("the program's own usage faults, with no input", place.call("pack", "--tip", given=b"input") == (7, "[pack][--tip]\n", ""))
     seen = place.call("--version")
     check("the kit", seen == (0, "rohcfn, kit kit of --version\n", ""), seen)
+    status, seen = place.on_terminal()
+    check("a bare call in a terminal", status == 7 and seen.startswith("rohcfn: a bundle is awaited on standard input"), seen)
+    if shutil.which("git") is None:
+        return
     for words in (["init", "-q"], ["add", "bin"], ["commit", "-q", "-m", "one"]):
         settings = [it for one in ("user.name=a", "user.email=a@example.org", "commit.gpgsign=false") for it in ("-c", one)]
         subprocess.run(["git", *settings, *words], cwd=place.root, env=place.environment, check=True, stdout=subprocess.DEVNULL)
     commit = subprocess.run(["git", "rev-parse", "--short", "HEAD"], cwd=place.root, capture_output=True, check=True).stdout.decode().strip()
     seen = place.call("--version")
     check("the commit", seen == (0, "rohcfn, commit %s, kit kit of --version\n" % commit, ""), seen)
-    status, seen = place.on_terminal()
-    check("a bare call in a terminal", status == 7 and seen.startswith("rohcfn: a bundle is awaited on standard input"), seen)
 
 
 def capture(link, frames, order="<", magic=0xA1B2C3D4):
@@ -469,7 +471,8 @@ def all_faults(_):
                 place, line, column = shown_of(bundle, output)
                 lines = place.text.split("\n")
                 seen = list(diagnosis.lines_of(place, "p.fn", lambda _, words: words))
-                due = "p.fn:%d:%d: E" % (line, column), ("%d | %s" % (line, lines[line - 1])).rstrip(), len("%d | " % line) + column - 1
+                cut = max(0, column - 81) if len(lines[line - 1]) > 160 else 0
+                due = "p.fn:%d:%d: E" % (line, column), ("%d | %s" % (line, lines[line - 1][cut:cut + 160])).rstrip(), len("%d | " % line) + column - 1 - cut
                 found = seen[0][:len(due[0])], seen[1].rstrip(), len(seen[2].partition("^")[0])
                 check("shown: %s: %s" % (path.name, name), found == due, seen)
                 stopped = grammar.stops(place.tokens)
