@@ -194,6 +194,9 @@ def usage(place):
         "unexpected argument 'items' found; --context has no value, --from-context FILE gives the context to begin with",
         ("show", "a profile.fn", "--tip"): "unexpected argument '--tip' found",
     }
+    for command, names in (("pack", "item items from-context certificate pcap flow"), ("unpack", "packet packets"), ("line", "events octets")):
+        due.update({(command, "--%s=1" % name): "the file of a profile is needed" for name in names.split()})
+    due["show", "--diagnose"] = "the file of a profile is needed"
     with open("/dev/zero", "rb") as endless:
         for words, text in due.items():
             ran = subprocess.run([place.command, *words], stdin=endless, capture_output=True, cwd=place.files, env=place.environment, timeout=20, check=False)
@@ -238,7 +241,6 @@ def payload(kind):
 
 def captures(place):
     """Captures of the headers of data/, in each kind of link and order of octets, against headers.py."""
-    others = [bytes(12) + b"\x08\x06" + bytes(28), ETHERNET + b"\x46" + bytes(60), ETHERNET + b"\x45" + bytes(5) + b"\x20" + bytes(40), b""]
     for kind in headers.TOPS:
         every = headers.headers_of(kind, (HERE / "data" / (kind + "-headers.hex")).read_text().splitlines())
         shutil.copy(HERE / "profiles" / (kind + ".profile"), place.files)
@@ -249,12 +251,16 @@ def captures(place):
             place.write(name, capture(link, [front + it + payload(kind) for it in every], order, magic))
             seen = place.call("line", profile, "--pcap", name)
             check("a capture: %s %s" % (kind, name), seen[0] == 7 and spelled(seen[1]) == spelled(due) and seen[2] == "", seen[2])
+        whole = every[0] + bytes(20)
+        others = [bytes(12) + b"\x08\x06" + bytes(28), ETHERNET + b"\x46" + whole[1:], b""]
+        others += [ETHERNET + whole[:6] + it + whole[8:] for it in (b"\x20\x00", b"\x00\x01")] + [ETHERNET + whole[:9] + b"\x06" + whole[10:]]
         place.write("others", capture(1, others + [ETHERNET + it + payload(kind) for it in every]))
         flows = list(headers.by_flow(every).values())
         for at, flow in enumerate(flows):
             seen = place.call("pack", profile, "--pcap", "others", "--flow", str(at))
             due = headers.bundle(kind, "pack", "items", headers.items(kind, flow))
-            told_of = "rohcfn: others: 4 of %d packets have no header of %s\n" % (len(every) + 4, "ipv4 and udp" + " and rtp" * (kind == "rtp"))
+            layers = "ipv4 and udp" + " and rtp" * (kind == "rtp")
+            told_of = "rohcfn: others: %d of %d packets have no header of %s\n" % (len(others), len(every) + len(others), layers)
             check("a flow: %s %d" % (kind, at), seen[0] == 7 and spelled(seen[1]) == spelled(due) and seen[2] == told_of, seen[2])
     seen = place.call("pack", "udp.profile", "--pcap", "ethernet")
     check("no flow is chosen", seen[:2] == (2, "") and "choose one flow by --flow\nflow 0, 127.0.0.22:40002 to 127.0.0.31:5006: 100 headers\n" in seen[2], seen)
@@ -313,6 +319,7 @@ def by_hand(place):
     place.write("next", b"\x0a\x0d\x0d\x0a" + bytes(40))
     place.write("short", capture(101, [ESP4])[:-1])
     place.write("cut", capture(101, [ESP4]) + bytes(9))
+    place.write("control", capture(101, [six + udp + b"\x80\xc8" + rtp[2:]]))
     place.write("link", capture(105, [ESP4]))
     place.write("nothing", capture(101, []))
     for words, status, text in (
@@ -327,6 +334,7 @@ def by_hand(place):
             (["pack", "esp.fn", "--pcap", "cut"], 3, "cut: the capture ends inside packet 2"),
             (["pack", "esp.fn", "--pcap", "link"], 3, "link: packets of the link type 105 can't be read"),
             (["pack", "esp.fn", "--pcap", "nothing"], 2, "nothing: no packet has a header of esp"),
+            (["pack", "rtp.fn", "--pcap", "control"], 2, "control: 1 of 1 packets have no header of rtp\nrohcfn: control: no packet has a header of rtp"),
             (["pack", "esp.fn", "--pcap", "no capture"], 3, "no capture: No such file or directory")):
         seen = place.call(*words)
         check("refused: %s" % words, seen == (status, "", "rohcfn: %s\n" % text), seen)
