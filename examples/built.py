@@ -150,18 +150,12 @@ def checked():
 
 
 def lines():
-    """A line without events, items of the greatest header and one more, and each front of the octets of two flows: the items of the whole packets."""
+    """A line without events, and items of the greatest header and one more."""
     tick = TICK.encode()
     yield "a line without events", bundle(b"line --top tick", tick, b"=== events\n"), 0, b"\n"
     for bits, answer in [(4096, b"event 2: F3 NoFormat\n"), (4097, b"event 2: F1 HeaderLength\n")]:
         event = b"reset 0\nsend 0 %d:%s\n" % (bits, b"00" * ((bits + 7) // 8))
         yield "an event of %d bits" % bits, bundle(b"line --top wide", WIDE, b"=== events\n" + event), 1, answer
-    octets, items, ends = b"0080800180800014", b"0 8:01\n1 8:01\n0 8:02\n", [0, 3, 6, 8]
-    for count in range(9):
-        whole = sum(1 for end in ends[1:] if end <= count)
-        found = b"".join(items.splitlines(True)[:whole])
-        due = (0, found) if count in ends else (1, found + b"line: L4 ended inside a packet\n")
-        yield "%d octets of two flows" % count, bundle(b"line --receive --top tick", tick, b"=== octets\n" + octets[: 2 * count] + b"\n"), *due
 
 
 def crowded():

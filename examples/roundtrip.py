@@ -12,7 +12,7 @@ import samples
 import small
 from searching import Search
 
-PROGRAM = pathlib.Path(__file__).parent.parent / "bin" / "rohcfn"
+PROGRAM = pathlib.Path(__file__).parent.parent / "crates" / "rohcfn" / "out" / "rohcfn"
 INITIAL = {"tick": {}, "opt": {}, "seq": {"msn": "00000000"}, "wrap": {}, "mode": {"m": "0"}, "turn": {}, "nest": {"m": "1"}}
 CONTEXTS = {"tick": [{}, {"sn": "00000000"}, {"sn": "11111010"}], "opt": [{}, {"ttl": "01000000", "ttl.field": "01000000"}], "seq": [{}, {"msn": "00000101"}], "wrap": [{}],
             "mode": [{}, {"m": "1", "x": "00101000"}], "turn": [{}], "nest": [{}, {"f.m": "0", "f.s": "011"}, {"f.m": "0" * 65, "f.s": "110"}]}
@@ -62,9 +62,11 @@ def line_of(header, asked):
     return " ".join([text(header)] + ["%s=%s" % (name, text(bits)) for name, bits in asked.items()])
 
 
-def answered(command, subject, context, part, lines):
+def answered(command, subject, context, part, lines, certificate=None):
+    """What the program prints, and its status; without a certificate it makes one."""
     entries = "".join("%s %s\n" % (path, text(bits)) for path, bits in context.items())
-    data = "=== words\n%s\n=== profile\n%s=== context\n%s=== %s\n%s" % (subject.words(command + " --context"), subject.profile, entries, part, "".join(it + "\n" for it in lines))
+    given = "=== certificate\n%s\n" % certificate if certificate is not None else ""
+    data = "=== words\n%s\n=== profile\n%s%s=== context\n%s=== %s\n%s" % (subject.words(command + " --context"), subject.profile, given, entries, part, "".join(it + "\n" for it in lines))
     run = subprocess.run([PROGRAM], input=data.encode(), stdout=subprocess.PIPE, check=False)
     return run.stdout.decode(), run.returncode
 
@@ -73,10 +75,10 @@ def shown(lines, context):
     return "".join(it + "\n" for it in lines + ["=== context"] + ["%s %s" % (path, text(bits)) for path, bits in context.items()])
 
 
-def trials(subject, start, draw, alone=40):
-    """Command, context, part, lines and what is due: all items that have a filling in one run, back again, and each of some others alone."""
+def trials(subject, start, draw, alone=40, most=None):
+    """Command, context, part, lines and what is due: all items that have a filling, or the first ones, in one run, back again, and each of some others alone."""
     context, fitting, packets, refused = dict(start), [], [], []
-    for header, asked in items(subject, draw):
+    for header, asked in items(subject, draw)[:most]:
         found = subject.fillings(context, header, asked)
         if not found:
             refused.append((dict(context), line_of(header, asked)))

@@ -1,0 +1,168 @@
+#!/usr/bin/env python3
+"""Through the built program: worked rows in which memory is refused, each growth in turn, alone and with all that come after it.
+
+A library that is loaded before the program stands in for malloc and realloc. A run in which a growth was refused must end with status 3, say that memory
+is out, and have printed no more than a front of the row's output. At last no growth is left to refuse, and the row's own output must come.
+
+One thing more may be: a list that is made with a hint of its size asks for one place where the hint is refused. So where one growth alone is refused, the
+row's own output and status may come as well; but then the run must end with status 3 where the next growth is refused too, and there is at most one such
+growth for each line of the bundle. How many there were is told."""
+import concurrent.futures
+import itertools
+import os
+import pathlib
+import shutil
+import subprocess
+import sys
+import tempfile
+
+from built import PLAIN
+from samples import CERTIFICATES, OPT, SEQ, TICK
+
+HERE = pathlib.Path(__file__).parent
+PROGRAM = HERE.parent / "crates" / "rohcfn" / "out" / "rohcfn"
+ALL = 1 << 62
+
+LIBRARY = r"""
+typedef unsigned long size;
+extern void *__libc_malloc(size);
+extern void *__libc_realloc(void *, size);
+extern char *getenv(const char *);
+extern long write(int, const void *, size);
+
+static long growths, refused, first, last;
+
+static long number(const char *digits) {
+  long value = 0;
+  while (digits && *digits >= '0' && *digits <= '9') value = value * 10 + (*digits++ - '0');
+  return value;
+}
+
+static int is_refused(void) {
+  if (growths++ == 0) {
+    first = number(getenv("FIRST_REFUSED"));
+    last = number(getenv("LAST_REFUSED"));
+  }
+  if (growths < first || growths > last) return 0;
+  refused++;
+  return 1;
+}
+
+void *malloc(size octets) { return is_refused() ? 0 : __libc_malloc(octets); }
+
+void *realloc(void *old, size octets) { return is_refused() ? 0 : __libc_realloc(old, octets); }
+
+__attribute__((destructor)) static void tell(void) {
+  if (refused) write(2, "refused\n", 8);
+  else write(2, "whole\n", 6);
+}
+"""
+
+
+def compilers():
+    """Commands that may compile C: that of the kit, then those of the system."""
+    found = shutil.which("rt")
+    if found:
+        tools = pathlib.Path(found).resolve().parent.parent / "toolchain" / "bin"
+        yield [tools / "clang", "--target=x86_64-unknown-linux-gnu", "-fuse-ld=lld", "-B", tools]
+    for name in ("cc", "gcc", "clang"):
+        if shutil.which(name):
+            yield [name]
+
+
+def build(library):
+    """Whether some compiler made the library."""
+    flags = ["-O1", "-fPIC", "-shared", "-nostdlib", "-ffreestanding", "-x", "c", "-", "-o", library]
+    for compiler in compilers():
+        try:
+            if subprocess.run([*compiler, *flags], input=LIBRARY.encode(), stderr=subprocess.DEVNULL, check=False).returncode == 0:
+                return True
+        except OSError:
+            pass
+    return False
+
+
+def bundle(words, profile, **parts):
+    return "=== words\n%s\n=== profile\n%s" % (words, profile) + "".join("=== %s\n%s" % it for it in parts.items())
+
+
+def rows():
+    """Name, bundle, output and status of each row; the outputs were written by hand."""
+    tick, opt, exchanged = CERTIFICATES["tick"], CERTIFICATES["opt"], CERTIFICATES["tick"].replace("leaf short\nleaf full", "leaf full\nleaf short")
+    yield "plain packed", bundle("pack --top plain", PLAIN.decode(), items="16:5abc\n"), "18:96af00\n", 0
+    parts = {"context": "sn 8:00\n", "items": "8:01\n"}
+    yield "tick packed", bundle("pack --top tick", TICK, **parts), "8:0b\n", 0
+    yield "tick packed by a certificate", bundle("pack --top tick", TICK, certificate=tick, **parts), "8:0b\n", 0
+    yield "tick proved", bundle("prove --top tick", TICK), tick, 0
+    yield "tick shown", bundle("show --top tick", TICK), (HERE / "tick-show.expected").read_text(), 0
+    yield "tick checked", bundle("check --top tick", TICK, certificate=tick), "accepted\n", 0
+    yield "tick with its leaves exchanged", bundle("check --top tick", TICK, certificate=exchanged), "check: V4 tick node 1 short\n", 1
+    parts = {"context": "ttl.field 8:40\n", "items": "8:40\n8:41\n"}
+    packets = "1:00\n9:a080\n=== context\nttl.field 8:41\nttl 8:41\n"
+    yield "opt packed", bundle("pack --top opt --context", OPT, **parts), packets, 0
+    yield "opt packed by a certificate", bundle("pack --top opt --context", OPT, certificate=opt, **parts), packets, 0
+    yield "seq packed", bundle("pack --top seq", SEQ, items="8:06 msn=8:03\n"), "4:30\n", 0
+    yield "seq unpacked", bundle("unpack --top seq", SEQ, packets="4:30\n"), "8:06 msn=8:03 took 4\n", 0
+    yield "seq without what is asked", bundle("pack --top seq", SEQ, items="8:06\n"), "item 1: F2 Asked msn\n", 1
+    yield "seq without a filling", bundle("pack --top seq", SEQ, items="8:07 msn=8:03\n"), "item 1: F3 NoFormat\n", 1
+    events, items = "send 0 8:01\nsend 1 8:01\nsend 0 8:02\n", "0 8:01\n1 8:01\n0 8:02\n"
+    yield "two flows", bundle("line --top tick", TICK, events=events), "0080800180800014\n" + items, 0
+    yield "two flows received", bundle("line --receive --top tick", TICK, octets="0080800180800014\n"), items, 0
+    yield "a flow that is reset", bundle("line --top tick", TICK, events="send 0 8:01\nreset 0\nsend 0 8:01\n"), "00808010008080\n0 8:01\n0 8:01\n", 0
+
+
+class Row:
+    """A row that the program runs with the library, which refuses growths."""
+
+    def __init__(self, library, name, text, output, status):
+        self.library, self.name, self.text = library, name, text.encode()
+        self.output, self.status = output.encode(), status
+
+    def run(self, first, last):
+        """The end of a run in which the growths from the first to the last are refused: as ever with none refused, `whole`, or with some, `row`; `out` of memory; `wrong`."""
+        limits = {"LD_PRELOAD": self.library, "FIRST_REFUSED": str(first), "LAST_REFUSED": str(last)}
+        run = subprocess.run([PROGRAM], input=self.text, capture_output=True, env=limits, check=False)
+        if (run.stdout, run.returncode) == (self.output, self.status):
+            return {b"whole\n": "whole", b"refused\n": "row"}.get(run.stderr, "wrong")
+        is_out = run.returncode == 3 and run.stderr == b"error: out of memory\nrefused\n" and self.output.startswith(run.stdout)
+        return "out" if is_out else "wrong"
+
+    def ends(self, is_alone):
+        """Whether each run ended as it may, growth by growth, and how many refused hints were asked again."""
+        if self.run(0, 0) != "whole":
+            return [False], 0
+        ends, again = [], 0
+        for place in itertools.count(1):
+            found = self.run(place, place if is_alone else ALL)
+            if found == "whole":
+                return ends + [place > 1 and again <= self.text.count(b"\n")], again
+            if found == "row" and is_alone:
+                again += 1
+                found = self.run(place, place + 1)
+            ends.append(found == "out")
+
+
+def sweep(library, row, is_alone):
+    """How many runs of the row were right and how many wrong, and how many refused hints were asked again."""
+    ends, again = Row(library, *row).ends(is_alone)
+    for place, is_right in enumerate(ends, 1):
+        if not is_right:
+            print("%s: wrong where growth %d is refused %s" % (row[0], place, "alone" if is_alone else "with all after it"))
+    return ends.count(True), ends.count(False), again
+
+
+def main():
+    with tempfile.TemporaryDirectory() as folder:
+        library = os.path.join(folder, "refuse.so")
+        if not build(library):
+            print("refusals: no compiler makes the library that refuses growths, neither the kit's nor the system's")
+            return 1
+        jobs = [(library, row, is_alone) for row in rows() for is_alone in (True, False)]
+        with concurrent.futures.ProcessPoolExecutor() as pool:
+            passed, failed, again = map(sum, zip(*pool.map(sweep, *zip(*jobs))))
+    print("refusals: %d passed, %d failed; %d refused hints were asked again" % (passed, failed, again))
+    return 1 if failed or not passed else 0
+
+
+if __name__ == "__main__":
+    sys.exit(main())
