@@ -179,7 +179,96 @@ def tabled():
         yield "a packet of %s bits for 64 formats" % line[:1].decode(), bundle(b"unpack --top six", profile, b"=== packets\n%s\n" % line), status, answer
 
 
+def ones(count):
+    """So many one bits: their octets in hex, filled with zero bits."""
+    size = (count + 7) // 8
+    return b"%0*x" % (2 * size, (1 << 8 * size) - (1 << 8 * size - count))
+
+
+def widths():
+    """A header of each width from 1 to 64 bits, all ones, packed to a bit more and read back; on a line it is filled to whole octets."""
+    for width in range(1, 65):
+        profile = b"gen { UNCOMPRESSED { x [%d]; } COMPRESSED { d =:= '1' [1]; x =:= irregular(%d) [%d]; } }\n" % (width, width, width)
+        item, packet = b"%d:%s" % (width, ones(width)), b"%d:%s" % (width + 1, ones(width + 1))
+        octets = b"00%s" % ones(width + 1)
+        yield "%d ones packed" % width, bundle(b"pack --top gen", profile, b"=== items\n%s\n" % item), 0, packet + b"\n"
+        yield "%d ones read" % width, bundle(b"unpack --top gen", profile, b"=== packets\n%s\n" % packet), 0, b"%s took %d\n" % (item, width + 1)
+        yield "%d ones on a line" % width, bundle(b"line --top gen", profile, b"=== events\nsend 0 %s\n" % item), 0, b"%s\n0 %s\n" % (octets, item)
+        yield "%d ones received" % width, bundle(b"line --receive --top gen", profile, b"=== octets\n%s\n" % octets), 0, b"0 %s\n" % item
+
+
+def pick(width):
+    """A header that is a local field of so many bits, and a certificate that chooses it. Its choice is step 5 of the plan to write."""
+    profile = "pick { UNCOMPRESSED { x [%d]; } COMPRESSED { c =:= irregular(%d) [%d]; x =:= uncompressed_value(%d, c.UVALUE); } }\n" % (width, width, width, width)
+    read = "length x C method;length c C method;take c;take x;library c up;library x up"
+    write = "library x down;length x U method;take x;length c U method;length c C method;choose c;library c down"
+    certificate = "rohcfn-certificate 1;method pick;leaf -;format -;read;%s;write;%s;end;" % (read, write)
+    return profile.encode(), certificate.replace(";", "\n").encode()
+
+
+def choices():
+    """A choice of 12 bits, of which the last value fits, and one of 13 bits, which no step makes."""
+    profile, certificate = pick(12)
+    item = b"=== items\n12:fff0\n"
+    yield "a choice of 12 bits", bundle(b"pack --top pick", profile, item), 0, b"12:fff0\n"
+    yield "a choice of 12 bits by a certificate", bundle(b"pack --top pick", profile, b"=== certificate\n" + certificate + item), 0, b"12:fff0\n"
+    yield "a choice of 12 bits proved", bundle(b"prove --top pick", profile), 0, certificate
+    profile, certificate = pick(13)
+    yield "a choice of 13 bits", bundle(b"prove --top pick", profile), 1, b"prove: P1 NoPlan pick - write c U c C\n"
+    yield "a choice of 13 bits by a certificate", bundle(b"check --top pick", profile, b"=== certificate\n" + certificate), 1, b"check: V2 pick - write step 5\n"
+
+
+def top(formats, before=""):
+    """A method of these formats with a header of 13 bits, after other methods."""
+    return (before + "top {\n  UNCOMPRESSED { x [13]; }\n%s}\n" % formats).encode()
+
+
+def by_choices(width):
+    """A choice of so many bits and one of 6, which are the header's number."""
+    return top("  COMPRESSED { a =:= irregular(%d) [%d]; b =:= irregular(6) [6]; x =:= uncompressed_value(13, a.UVALUE * 64 + b.UVALUE); }\n" % (width, width))
+
+
+def by_formats(first, second):
+    """Two formats, each with a choice of so many bits; the headers of the second come after those of the first."""
+    line = "  COMPRESSED %s { d =:= '%d' [1]; c =:= irregular(%d) [%d]; x =:= uncompressed_value(13, c.UVALUE + %d); }\n"
+    return top(line % ("a", 0, first, first, 0) + line % ("b", 1, second, second, 1 << first))
+
+
+def by_call(width):
+    """A choice of so many bits, and one of 6 in the method that is called with it."""
+    inner = "inner(k) {\n  UNCOMPRESSED { x [13]; }\n  COMPRESSED { b =:= irregular(6) [6]; x =:= uncompressed_value(13, k * 64 + b.UVALUE); }\n}\n"
+    return top("  COMPRESSED { a =:= irregular(%d) [%d]; x =:= inner(a.UVALUE) [6]; }\n" % (width, width), inner)
+
+
+def candidates():
+    """Profiles of 4,096 candidates, whose headers are the numbers up to 4,095, the last one by the last candidate, and profiles of more."""
+    for name, profile in [("two choices", by_choices(6)), ("two formats", by_formats(11, 11)), ("a call", by_call(6))]:
+        yield "4096 candidates by %s" % name, bundle(b"check --top top", profile), 0, b"accepted\n"
+        yield "the last of 4096 candidates by %s" % name, bundle(b"pack --top top", profile, b"=== items\n13:7ff8\n"), 0, b"12:fff0\n"
+        yield "none of 4096 candidates by %s" % name, bundle(b"pack --top top", profile, b"=== items\n13:8000\n"), 1, b"item 1: F3 NoFormat\n"
+    for name, profile in [("8192 candidates by two choices", by_choices(7)), ("4097 candidates by two formats", by_formats(12, 0)), ("8192 candidates by a call", by_call(7))]:
+        yield name, bundle(b"check --top top", profile), 1, b"check: V6 candidates\n"
+
+
+def chains():
+    """Sixteen methods, each of which calls the next, and the last takes a header of 4,096 bits; the packed bits, one for each method before and 8 more, are few."""
+    last = "m16 { UNCOMPRESSED { %s} COMPRESSED { %s} }\n" % ("".join("x%d [64]; " % i for i in range(64)), "".join("x%d =:= irregular(64) [64]; " % i for i in range(64)))
+    others = "".join("m%d { UNCOMPRESSED { x [4096]; } COMPRESSED { x =:= m%d [4096]; } }\n" % (i, i + 1) for i in range(15, 0, -1))
+    bits = b"4096:%s\n" % (b"5a" * 512)
+    yield "sixteen methods in a chain", bundle(b"pack --top m1", (last + others).encode(), b"=== items\n" + bits), 0, bits
+
+
+def longest():
+    """A profile of 8,192 packed bits, half of them a header of 4,096, and one of a bit more: 127 fields of 64 bits, and a call for the rest."""
+    header = ["x%d" % number for number in range(64)]
+    fields = "".join("%s =:= irregular(64) [64]; " % it for it in header) + "".join("d%d =:= '%s' [64]; " % (number, "0" * 64) for number in range(63))
+    for rest, status, answer in [(64, 0, b"accepted\n"), (65, 1, b"check: V8 length\n")]:
+        inner = "inner { UNCOMPRESSED { } COMPRESSED { d =:= '%s' [64]; e =:= compressed_value(%d, 0); } }\n" % ("0" * 64, rest - 64)
+        profile = inner + "top { UNCOMPRESSED { %s} COMPRESSED { %sd63 =:= inner; } }\n" % ("".join("%s [64]; " % it for it in header), fields)
+        yield "%d packed bits" % (8128 + rest), bundle(b"check --top top", profile.encode()), status, answer
+
+
 def cases():
     """Name, bundle, status and output of each."""
-    for part in (counts, nestings, in_order, packed, long_inputs, fronts, checked, lines, crowded, tabled):
+    for part in (counts, nestings, in_order, packed, long_inputs, fronts, checked, lines, crowded, tabled, widths, choices, candidates, chains, longest):
         yield from part()
