@@ -1,6 +1,5 @@
 //! Rows on flows and on what is heard of octets, however they are cut. Octets are written as bits, eight each.
 
-use crate::trees::accept;
 use crate::words::{bits, put_bits};
 use anyhow::{Result, ensure};
 use fn_checker::Accepted;
@@ -18,12 +17,12 @@ pub(crate) fn flow(out: &mut String, rest: &str) -> Result<()> {
 }
 
 /// `pieces OCTETS OCTETS ..`: what each piece is answered, and then `finish`; at the end the items.
-pub(crate) fn pieces(alloc: Global, out: &mut String, profile: &str, rest: &str) -> Result<()> {
-    let accepted = accept(alloc, profile)?;
-    fed(alloc, out, &accepted, rest)
-}
-
-fn fed(alloc: Global, out: &mut String, accepted: &Accepted, rest: &str) -> Result<()> {
+pub(crate) fn pieces(
+    alloc: Global,
+    out: &mut String,
+    accepted: &Accepted,
+    rest: &str,
+) -> Result<()> {
     let mut receiver = Receiver::new(alloc, accepted)?;
     let mut items = Vec::new(alloc);
     for word in rest.split(' ') {
@@ -64,12 +63,12 @@ fn put_heard(
 }
 
 /// `cuttings OCTETS`: of how many cuttings into pieces, and of how many of them the same is heard as of all octets at once.
-pub(crate) fn cuttings(alloc: Global, out: &mut String, profile: &str, rest: &str) -> Result<()> {
-    let accepted = accept(alloc, profile)?;
-    cut(alloc, out, &accepted, rest)
-}
-
-fn cut(alloc: Global, out: &mut String, accepted: &Accepted, rest: &str) -> Result<()> {
+pub(crate) fn cuttings(
+    alloc: Global,
+    out: &mut String,
+    accepted: &Accepted,
+    rest: &str,
+) -> Result<()> {
     let octets = octets(alloc, rest)?;
     ensure!(octets.len() <= 12, "too many octets");
     let whole = heard(alloc, accepted, octets.as_slice(), 0)?;

@@ -60,10 +60,8 @@ fn answer(alloc: Global, out: &mut String, profile: &mut String, row: &[u8]) -> 
         "holds" => fillings::judged(alloc, out, profile.as_str(), rest),
         "judged" => fillings::judged_often(alloc, out, profile.as_str(), rest),
         "plan" => planned(alloc, out, profile.as_str(), rest),
-        "tables" => trees::tables(alloc, out, profile.as_str(), rest),
         "flow" => lines::flow(out, rest),
-        "pieces" => lines::pieces(alloc, out, profile.as_str(), rest),
-        "cuttings" => lines::cuttings(alloc, out, profile.as_str(), rest),
+        "pieces" | "cuttings" | "tables" => accepted(alloc, out, profile.as_str(), verb, rest),
         "sides" => fillings::sides(alloc, out, rest),
         "below" => fillings::path(alloc, out, rest),
         "path" => contexts::knows_path(out, rest),
@@ -92,6 +90,16 @@ fn answer(alloc: Global, out: &mut String, profile: &mut String, row: &[u8]) -> 
 fn keep(profile: &mut String, rest: &str) -> Result<()> {
     profile.clear();
     Ok(profile.push_str(rest)?)
+}
+
+/// The answer to a row on the profile, accepted with the certificate that `prove` makes.
+fn accepted(alloc: Global, out: &mut String, profile: &str, verb: &str, rest: &str) -> Result<()> {
+    let accepted = trees::accept(alloc, profile)?;
+    match verb {
+        "pieces" => lines::pieces(alloc, out, &accepted, rest),
+        "cuttings" => lines::cuttings(alloc, out, &accepted, rest),
+        _ => trees::tables(alloc, out, &accepted, rest),
+    }
 }
 
 fn planned(alloc: Global, out: &mut String, profile: &str, rest: &str) -> Result<()> {

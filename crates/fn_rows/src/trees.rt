@@ -27,10 +27,14 @@ pub(crate) fn accept(alloc: Global, profile: &str) -> Result<Accepted> {
 /// `tables METHOD`, the method by its number: how many entries the tables of all trees have together; how many lists of up to eight bits there are, for how many
 /// of them `pick` leads where the walk from node to node leads, also behind three more bits, and for how many they run out. The context is empty, and there are
 /// no arguments.
-pub(crate) fn tables(alloc: Global, out: &mut String, profile: &str, rest: &str) -> Result<()> {
-    let accepted = accept(alloc, profile)?;
+pub(crate) fn tables(
+    alloc: Global,
+    out: &mut String,
+    accepted: &Accepted,
+    rest: &str,
+) -> Result<()> {
     write!(out, "{} entries, ", accepted.table_entries())?;
-    picks(alloc, out, &accepted, count(rest)?)
+    picks(alloc, out, accepted, count(rest)?)
 }
 
 fn picks(alloc: Global, out: &mut String, accepted: &Accepted, method: usize) -> Result<()> {
