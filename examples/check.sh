@@ -23,6 +23,7 @@ for bundle in *.bundle tutorial/*.bundle; do
 done
 echo "examples: $passed passed, $failed failed"
 ./pages.py || failed=1
+./left_out.py || failed=1
 ./flows.py line || failed=1
 ./cases.py || failed=1
 ./prefixes.py || failed=1
