@@ -3,8 +3,8 @@
 profiles/parts/ is accepted, and packs and reads what its comment says.
 
 After a block of the page a text `COMMAND` answers `OUTPUT`, or `pack` of `ITEM` answers `OUTPUT`, is tested, and what is packed is read back. A block marked as
-left out has such a text. In a piece a line `// ITEM -> PACKET` is tested so, all of them in one context. What is due was worked by hand; none is taken from the
-program."""
+left out has such a text. In a piece a line `// ITEM -> PACKET`, or two with the arrow in the second, is tested so, all of them in one context. What is due was
+worked by hand; none is taken from the program."""
 import pathlib
 import re
 import subprocess
@@ -16,7 +16,7 @@ PROGRAM = HERE.parent / "bin" / "rohcfn"
 BLOCK = re.compile(r"^```(rohcfn|rohcfn-left-out)\n(.*?)^```$(.*?)(?=^```|\Z)", re.DOTALL | re.MULTILINE)
 ANSWER = re.compile(r"`(\w+)`(?: of `([^`]+)`)? answers `([^`]+)`")
 METHOD = re.compile(r"^(\w+)(?:\(.*\))?$", re.MULTILINE)
-TRIAL = re.compile(r"^// (\d+:\S*(?: \S+)*) -> (\d+:[0-9a-f]*)$", re.MULTILINE)
+TRIAL = re.compile(r"^// (\d+:\S*(?: \S+=\S+)*)(?:\n//  )? -> (\d+:[0-9a-f]*)$", re.MULTILINE)
 
 
 def answer(command, profile, name="", lines=()):
