@@ -1,14 +1,16 @@
 #!/usr/bin/env python3
 """Whether each profile that docs/FROM_RFC4997.md shows is accepted by the built program, or is answered as the text after it says; and whether each piece of
-profiles/parts/ is accepted, and packs and reads what its comment says.
+profiles/parts/, and each profile of profiles/ that flows.py doesn't try, is accepted, and packs and reads what its comment says.
 
 After a block of the page a text `COMMAND` answers `OUTPUT`, or `pack` of `ITEM` answers `OUTPUT`, is tested, and what is packed is read back. A block marked as
 left out has such a text. In a piece a line `// ITEM -> PACKET`, or two with the arrow in the second, is tested so, all of them in one context. What is due was
-worked by hand; none is taken from the program."""
+worked by hand, the CRCs by the steps of docs/NOTATION.md; none is taken from the program."""
 import pathlib
 import re
 import subprocess
 import sys
+
+import headers
 
 HERE = pathlib.Path(__file__).parent
 PAGE = HERE.parent / "docs" / "FROM_RFC4997.md"
@@ -68,9 +70,9 @@ def page():
 
 
 def parts():
-    """What is wrong with the pieces, and how many there are."""
+    """What is wrong with the pieces and the profiles that flows.py has no headers for, and how many there are."""
     wrong, count = [], 0
-    for path in sorted(HERE.glob("profiles/parts/*.profile")):
+    for path in sorted(it for it in HERE.glob("profiles/**/*.profile") if it.stem not in headers.TOPS):
         profile = path.read_text()
         trials = TRIAL.findall(profile)
         faults = [it for it in answer("check", profile) if it != "accepted"]
@@ -85,7 +87,7 @@ def main():
     faults, pieces = parts()
     for it in wrong + faults:
         print(it)
-    print("left out: %d whole profiles of the page, %d that are left out, %d pieces, %d wrong" % (whole, out, pieces, len(wrong + faults)))
+    print("left out: %d whole profiles of the page, %d that are left out, %d pieces and profiles, %d wrong" % (whole, out, pieces, len(wrong + faults)))
     sys.exit(1 if wrong or faults or not whole or not out else 0)
 
 

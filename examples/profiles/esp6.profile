@@ -1,0 +1,113 @@
+// The headers of IPv6 (40 octets: no extension headers) and ESP (8 octets: the index and the sequence number), in the manner of the ESP profile of RFC
+// 5225. An address is two halves of 64 bits. ESP's sequence number counts the headers of a flow, so the packer is given nothing besides the header. A
+// flow's first header goes as `ir`, with all that the others leave out; each format has a CRC over the whole header.
+//
+// Headers and their packets, one after the other from an empty context on:
+// 384:600000000058324020010db800000000000000000000000120010db80000000000000000000000020000123400000001
+//   -> 392:fdef20010db800000000000000000000000120010db8000000000000000000000002000012340000000100000004000058
+// 384:600000000058324020010db800000000000000000000000120010db80000000000000000000000020000123400000002
+//   -> 8:17
+// 384:600000000058324020010db800000000000000000000000120010db80000000000000000000000020000123400000022
+//   -> 16:9145
+// 384:600000000068324020010db800000000000000000000000120010db80000000000000000000000020000123400000023
+//   -> 32:d18a0068
+// 384:610000000068324020010db800000000000000000000000120010db80000000000000000000000020000123400000024
+//   -> 56:fa720124400068
+
+IP_VERSION = 6;
+PROTOCOL_ESP = 50;
+
+/* A field that is sent or not, with a flag before it (parts/flags.profile says why the flag stands here). */
+flagged(width)
+{
+  UNCOMPRESSED { field [width]; }
+  COMPRESSED same { flag =:= '0' [1]; field =:= static [0]; }
+  COMPRESSED sent { flag =:= '1' [1]; field =:= irregular(width) [width]; }
+}
+
+/* The same field, where it is always sent. */
+whole(width)
+{
+  UNCOMPRESSED { field [width]; }
+  COMPRESSED { field =:= irregular(width) [width]; }
+}
+
+esp_ip6
+{
+  UNCOMPRESSED
+  {
+    version =:= uncompressed_value(4, IP_VERSION) [4];
+    traffic_class [8];
+    flow_label [20];
+    payload_length [16];
+    next_header =:= uncompressed_value(8, PROTOCOL_ESP) [8];
+    hop_limit [8];
+    source_network [64];
+    source_node [64];
+    destination_network [64];
+    destination_node [64];
+    index [32];
+    sequence_number [32];
+  }
+  DEFAULT
+  {
+    traffic_class =:= static [0];
+    flow_label =:= static [0];
+    payload_length =:= static [0];
+    hop_limit =:= static [0];
+    source_network =:= static [0];
+    source_node =:= static [0];
+    destination_network =:= static [0];
+    destination_node =:= static [0];
+    index =:= static [0];
+    crc3 =:= crc(3, 0x06, 0x07, THIS.UVALUE, THIS.ULENGTH) [3];
+    crc7 =:= crc(7, 0x79, 0x7f, THIS.UVALUE, THIS.ULENGTH) [7];
+    crc8 =:= crc(8, 0xe0, 0xff, THIS.UVALUE, THIS.ULENGTH) [8];
+  }
+
+  COMPRESSED pt_0_crc3 // nothing changes but the sequence number, which goes on by up to 14
+  {
+    discriminator =:= '0' [1];
+    sequence_number =:= lsb(4, 1) [4];
+    crc3;
+  }
+  COMPRESSED pt_0_crc7 // the same after a longer gap
+  {
+    discriminator =:= '100' [3];
+    sequence_number =:= lsb(6, 1) [6];
+    crc7;
+  }
+  COMPRESSED pt_2_length // another length
+  {
+    discriminator =:= '110' [3];
+    sequence_number =:= lsb(6, 1) [6];
+    crc7;
+    payload_length =:= irregular(16) [16];
+  }
+  COMPRESSED co_common // what changes now and then
+  {
+    discriminator =:= '11111010' [8];
+    crc7;
+    sequence_number =:= lsb(14, 1) [14];
+    traffic_class =:= flagged(8) [1, 9];
+    flow_label =:= flagged(20) [1, 21];
+    hop_limit =:= flagged(8) [1, 9];
+    payload_length =:= irregular(16) [16];
+  }
+  COMPRESSED ir // all that the other formats need to know
+  {
+    discriminator =:= '11111101' [8];
+    crc8;
+    source_network =:= irregular(64) [64];
+    source_node =:= irregular(64) [64];
+    destination_network =:= irregular(64) [64];
+    destination_node =:= irregular(64) [64];
+    index =:= irregular(32) [32];
+    sequence_number =:= irregular(32) [32];
+    traffic_class =:= whole(8) [8];
+    flow_label =:= whole(20) [20];
+    hop_limit =:= whole(8) [8];
+    padding =:= '0000' [4];
+    payload_length =:= irregular(16) [16];
+  }
+}

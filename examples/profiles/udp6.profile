@@ -1,0 +1,125 @@
+// The headers of IPv6 (40 octets: no extension headers) and UDP (8 octets), in the manner of the UDP profile of RFC 5225. An address is two halves of
+// 64 bits. A flow's first header goes as `ir`, with all that the others leave out; then a master sequence number counts the headers, and each format
+// sends its low bits and a CRC over the whole header. The packer is given the sequence number. The UDP checksum, which IPv6 demands, goes with each
+// header.
+//
+// Headers and their packets, one after the other from an empty context on:
+// 384:600abcde0020114020010db800000000000000000000000120010db8000000000000000000000002c000138c0020beef msn=16:0000
+//   -> 392:fdb920010db800000000000000000000000120010db8000000000000000000000002c000138c00abcde40000200000beef
+// 384:600abcde0020114020010db800000000000000000000000120010db8000000000000000000000002c000138c0020cafe msn=16:0001
+//   -> 24:09cafe
+// 384:600abcde0020114020010db800000000000000000000000120010db8000000000000000000000002c000138c0020caff msn=16:0021
+//   -> 32:90f6caff
+// 384:600abcde0030114020010db800000000000000000000000120010db8000000000000000000000002c000138c00301111 msn=16:0022
+//   -> 48:d11600301111
+// 384:600abcde0030113f20010db800000000000000000000000120010db8000000000000000000000002c000138c00301112 msn=16:0023
+//   -> 64:fa51193f00301112
+
+IP_VERSION = 6;
+PROTOCOL_UDP = 17;
+
+/* A field that is sent or not, with a flag before it (parts/flags.profile says why the flag stands here). */
+flagged(width)
+{
+  UNCOMPRESSED { field [width]; }
+  COMPRESSED same { flag =:= '0' [1]; field =:= static [0]; }
+  COMPRESSED sent { flag =:= '1' [1]; field =:= irregular(width) [width]; }
+}
+
+/* The same field, where it is always sent. */
+whole(width)
+{
+  UNCOMPRESSED { field [width]; }
+  COMPRESSED { field =:= irregular(width) [width]; }
+}
+
+udp_ip6
+{
+  UNCOMPRESSED
+  {
+    version =:= uncompressed_value(4, IP_VERSION) [4];
+    traffic_class [8];
+    flow_label [20];
+    payload_length [16];
+    next_header =:= uncompressed_value(8, PROTOCOL_UDP) [8];
+    hop_limit [8];
+    source_network [64];
+    source_node [64];
+    destination_network [64];
+    destination_node [64];
+    source_port [16];
+    destination_port [16];
+    udp_length =:= uncompressed_value(16, payload_length.UVALUE) [16];
+    udp_checksum [16];
+  }
+  CONTROL { msn [16]; }
+  DEFAULT
+  {
+    traffic_class =:= static [0];
+    flow_label =:= static [0];
+    payload_length =:= static [0];
+    hop_limit =:= static [0];
+    source_network =:= static [0];
+    source_node =:= static [0];
+    destination_network =:= static [0];
+    destination_node =:= static [0];
+    source_port =:= static [0];
+    destination_port =:= static [0];
+    udp_checksum =:= irregular(16) [16];
+    crc3 =:= crc(3, 0x06, 0x07, THIS.UVALUE, THIS.ULENGTH) [3];
+    crc7 =:= crc(7, 0x79, 0x7f, THIS.UVALUE, THIS.ULENGTH) [7];
+    crc8 =:= crc(8, 0xe0, 0xff, THIS.UVALUE, THIS.ULENGTH) [8];
+  }
+
+  COMPRESSED pt_0_crc3 // nothing changes but what goes on in step
+  {
+    discriminator =:= '0' [1];
+    msn =:= lsb(4, 1) [4];
+    crc3;
+    udp_checksum;
+  }
+  COMPRESSED pt_0_crc7 // the same after a longer gap
+  {
+    discriminator =:= '100' [3];
+    msn =:= lsb(6, 1) [6];
+    crc7;
+    udp_checksum;
+  }
+  COMPRESSED pt_2_length // another length
+  {
+    discriminator =:= '110' [3];
+    msn =:= lsb(6, 1) [6];
+    crc7;
+    payload_length =:= irregular(16) [16];
+    udp_checksum;
+  }
+  COMPRESSED co_common // what changes now and then
+  {
+    discriminator =:= '11111010' [8];
+    crc7;
+    msn =:= lsb(6, 1) [6];
+    traffic_class =:= flagged(8) [1, 9];
+    flow_label =:= flagged(20) [1, 21];
+    hop_limit =:= flagged(8) [1, 9];
+    payload_length =:= irregular(16) [16];
+    udp_checksum;
+  }
+  COMPRESSED ir // all that the other formats need to know
+  {
+    discriminator =:= '11111101' [8];
+    crc8;
+    source_network =:= irregular(64) [64];
+    source_node =:= irregular(64) [64];
+    destination_network =:= irregular(64) [64];
+    destination_node =:= irregular(64) [64];
+    source_port =:= irregular(16) [16];
+    destination_port =:= irregular(16) [16];
+    traffic_class =:= whole(8) [8];
+    flow_label =:= whole(20) [20];
+    hop_limit =:= whole(8) [8];
+    padding =:= '0000' [4];
+    payload_length =:= irregular(16) [16];
+    msn =:= irregular(16) [16];
+    udp_checksum;
+  }
+}
