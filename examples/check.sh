@@ -1,8 +1,8 @@
 #!/usr/bin/env bash
-# Runs each example and each step of the tutorial through the built program and compares what it prints; then what the pages show, headers of an operating system and
-# back, the cases of cases/ and of built.py, fronts of texts, certificates with a slip and with drawn trees against a second reading, packets by certificates with a
-# slip, round trips and lines of flows against a slow search, runs that are refused memory, what bin/rohcfn and bin/prove do where no program stands, and what
-# bin/rohcfn does with files.
+# Runs each example and each step of the tutorial through the built program and compares what it prints; then what the pages show, what is left out of RFC
+# 4997 and the pieces of profiles, what editors colour, headers of an operating system and back, the cases of cases/ and of built.py, fronts of texts,
+# certificates with a slip and with drawn trees against a second reading, packets by certificates with a slip, round trips and lines of flows against a slow
+# search, runs that are refused memory, what bin/rohcfn and bin/prove do where no program stands, and what bin/rohcfn does with files.
 set -u
 cd "$(dirname "$0")"
 program=../crates/rohcfn/out/rohcfn
@@ -24,6 +24,7 @@ done
 echo "examples: $passed passed, $failed failed"
 ./pages.py || failed=1
 ./left_out.py || failed=1
+./editors.py || failed=1
 ./flows.py line || failed=1
 ./cases.py || failed=1
 ./prefixes.py || failed=1
