@@ -2,9 +2,9 @@
 """Whether each profile that docs/FROM_RFC4997.md shows is accepted by the built program, or is answered as the text after it says; and whether each piece of
 profiles/parts/, and each profile of profiles/ that flows.py doesn't try, is accepted, and packs and reads what its comment says.
 
-After a block of the page a text `COMMAND` answers `OUTPUT`, or `pack` of `ITEM` answers `OUTPUT`, is tested, and what is packed is read back. A block marked as
-left out has such a text. In a piece a line `// ITEM -> PACKET`, or two with the arrow in the second, is tested so, all of them in one context. What is due was
-worked by hand, the CRCs by the steps of docs/NOTATION.md; none is taken from the program."""
+After a block of the page a text `COMMAND` answers `OUTPUT`, or `pack` of `ITEM` and `ITEM` answers `OUTPUT` and `OUTPUT`, is tested, and what is packed is
+read back. A block marked as left out has such a text. In a piece a line `// ITEM -> PACKET`, or two with the arrow in the second, is tested so, all of them
+in one context. What is due was worked by hand, the CRCs by the steps of docs/NOTATION.md; none is taken from the program."""
 import pathlib
 import re
 import subprocess
@@ -16,7 +16,8 @@ HERE = pathlib.Path(__file__).parent
 PAGE = HERE.parent / "docs" / "FROM_RFC4997.md"
 PROGRAM = HERE.parent / "bin" / "rohcfn"
 BLOCK = re.compile(r"^```(rohcfn|rohcfn-left-out)\n(.*?)^```$(.*?)(?=^```|\Z)", re.DOTALL | re.MULTILINE)
-ANSWER = re.compile(r"`(\w+)`(?: of `([^`]+)`)? answers `([^`]+)`")
+CODES = "(`[^`]+`(?: and `[^`]+`)*)"
+ANSWER = re.compile(r"`(\w+)`(?: of %s)? answers %s" % (CODES, CODES))
 METHOD = re.compile(r"^(\w+)(?:\(.*\))?$", re.MULTILINE)
 TRIAL = re.compile(r"^// (\d+:\S*(?: \S+=\S+)*)(?:\n//  )? -> (\d+:[0-9a-f]*)$", re.MULTILINE)
 
@@ -39,19 +40,18 @@ def packs(profile, trials):
     return [str(it) for it in (packed,) if it != list(packets)] + [str(it) for it in (back,) if it != due]
 
 
-def is_packet(text):
-    return re.fullmatch(r"\d+:[0-9a-f]*", text) is not None
+def codes(text):
+    """What stands in marks, one after the other."""
+    return re.findall("`([^`]+)`", text)
 
 
 def told(profile, answers):
     """What is wrong with the answers that are told of a profile."""
-    for command, item, due in answers:
-        if item and is_packet(due):
-            yield from packs(profile, [(item, due)])
-        else:
-            seen = answer(command, profile, "items", [item] if item else ())
-            if seen != [due]:
-                yield "%s: %s" % (command, seen)
+    for command, items, due in answers:
+        if command == "pack" and all(re.fullmatch(r"\d+:[0-9a-f]*", it) for it in codes(due)):
+            yield from packs(profile, list(zip(codes(items), codes(due), strict=True)))
+        elif (seen := answer(command, profile, "items", codes(items))) != codes(due):
+            yield "%s: %s" % (command, seen)
 
 
 def page():
