@@ -1,0 +1,70 @@
+# Completion of rohcfn in bash: `source` this file. Made by bin/manual.py from bin/help.txt; change that, and make this anew.
+
+# Offers the lines of standard input.
+_rohcfn_offer() {
+  local line
+  while IFS= read -r line; do COMPREPLY+=("$line"); done
+}
+
+# Offers files. Where a word is quoted none is found here, and bash looks for them by itself. (Outside of a completion compopt has no effect.)
+_rohcfn_files() {
+  compopt -o filenames -o default 2>/dev/null
+  _rohcfn_offer < <(compgen -f -- "$1")
+}
+
+# Whether a word before the cursor names the profile. Bash parts words at `=` and `:`.
+_rohcfn_has_profile() {
+  local at
+  for ((at = 2; at < COMP_CWORD; at++)); do
+    case ${COMP_WORDS[at]} in
+      = | : | [\<\>]*) at=$((at + 1)) ;;
+      --top | --item | --items | --packet | --packets | --from-context | --certificate | --events | --octets | --pcap | --flow)
+        at=$((at + 1))
+        if [[ ${COMP_WORDS[at]} == = ]]; then at=$((at + 1)); fi
+        ;;
+      - | [!-]*) return 0 ;;
+    esac
+  done
+  return 1
+}
+
+_rohcfn() {
+  local word=${COMP_WORDS[COMP_CWORD]} before=${COMP_WORDS[COMP_CWORD - 1]} commands='pack unpack show check prove line help' options=''
+  COMPREPLY=()
+  if [[ $before == = ]]; then before=${COMP_WORDS[COMP_CWORD - 2]}; fi
+  case $word in
+    =) word='' ;;
+    : | [\<\>]*) before=$word word='' ;;
+  esac
+  if ((COMP_CWORD == 1)); then
+    if [[ $word == -* ]]; then commands='--help --version'; fi
+    _rohcfn_offer < <(compgen -W "$commands" -- "$word")
+    return
+  fi
+  case $before in
+    [\<\>]* | --items | --packets | --from-context | --certificate | --events | --octets | --pcap)
+      _rohcfn_files "$word"
+      return
+      ;;
+    : | --top | --item | --packet | --flow) return ;;
+  esac
+  case ${COMP_WORDS[1]} in
+    pack) options='--top --v2 --context --help --item --items --from-context --certificate --pcap --flow --diagnose' ;;
+    unpack) options='--top --v2 --context --help --packet --packets --from-context --certificate --diagnose' ;;
+    show) options='--top --help --diagnose' ;;
+    check) options='--top --v2 --help --certificate --diagnose' ;;
+    prove) options='--top --v2 --help --diagnose' ;;
+    line) options='--top --v2 --help --receive --certificate --events --octets --pcap --diagnose' ;;
+    help)
+      if ((COMP_CWORD == 2)); then options=$commands; fi
+      ;;
+    *) return ;;
+  esac
+  if [[ ${COMP_WORDS[1]} == help || $word == -* ]] || _rohcfn_has_profile; then
+    _rohcfn_offer < <(compgen -W "$options" -- "$word")
+  else
+    _rohcfn_files "$word"
+  fi
+}
+
+complete -F _rohcfn rohcfn
