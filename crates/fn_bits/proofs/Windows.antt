@@ -298,6 +298,17 @@ number_in os place n first end w a b c d e =
     ∙ ap (take n) (drop-drop s (8 * first) (bits_of os)) ∙ ap (λ j. take n (drop j (bits_of os))) ep in
     sym (num_low n (w / 2 ^ m)) ∙ ap num (sym (window s n m w) ∙ ap (λ l. take n (drop s l)) word ∙ inside)
 
+-- up to eight bits from a place on, out of the octet that begins there
+pub number_narrow : (bits : List Bool) (place n r : ℕ) → n ≤ 8 → place + n ≤ length bits → r < 256 → enc 8 r ≡ take 8 (drop place (bits ++ replicate 8 false)) → r / 2 ^ (8 - n) ≡ num (take n (drop place bits))
+number_narrow bits place n r h k small e =
+    let size : n + (8 - n) ≡ 8 = omega arith in
+    let parts : enc 8 r ≡ enc n (r / 2 ^ (8 - n)) ++ enc (8 - n) r = ap (λ j. enc j r) (sym size) ∙ enc_split n (8 - n) r in
+    let low : take n (enc 8 r) ≡ enc n (r / 2 ^ (8 - n)) = ap (take n) parts ∙ take_at (enc n (r / 2 ^ (8 - n))) (enc (8 - n) r) n (length-enc n _) in
+    let inside : take n (take 8 (drop place (bits ++ replicate 8 false))) ≡ take n (drop place bits) =
+    take-take n 8 (drop place (bits ++ replicate 8 false)) h ∙ ap (take n) (drop-append-le place bits (replicate 8 false) (omega arith)) ∙ take-append-le n (drop place bits) (replicate 8 false) (omega (arith, length-drop place bits)) in
+    let fits : r / 2 ^ (8 - n) < 2 ^ n = shr_below r n (8 - n) (let P : ℕ → Type 0 = λ j. r < 2 ^ j in subst P (sym size) small) in
+    sym (num-enc n (r / 2 ^ (8 - n)) fits) ∙ ap num (sym low ∙ ap (take n) e ∙ inside)
+
 -- the same, as a mask gives it
 pub number_masked : (os : List ℕ) (place n first end w : ℕ) → n ≤ 64 → 8 * first ≤ place → place + n ≤ 8 * end → first ≤ end → end ≤ length os → w ≡ num (bits_of (slice_range os first end))
     → bit_and (w / 2 ^ (8 * end - place - n)) (1 * 2 ^ n % 2 ^ 128 - 1) ≡ num (take n (drop place (bits_of os)))

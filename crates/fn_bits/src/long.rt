@@ -160,6 +160,16 @@ impl Long {
         Some(number(self.octets.as_slice(), place, count))
     }
 
+    /// The number of up to eight bits from a place on.
+    #[tactic(auto, using(crate::proofs::Kept::numbers))]
+    pub(crate) fn narrow_number_at(&self, place: usize, count: usize) -> u64
+        requires most { count ≤ 8 }
+        requires within { place + count ≤ length self.now }
+        ensures { result ≡ num (slice_range self.now place (place + count)) }
+    {
+        narrow_number(self.octets.as_slice(), place, count)
+    }
+
     /// The bits from one place up to another, which is left out, or `None` where the first is above the second or the
     /// second is above the count of bits.
     #[tactic(auto, using(crate::proofs::Kept::cutting))]
@@ -330,6 +340,17 @@ fn spell(alloc: Global, len: usize, value: u64) -> SmallVec<u8, 8>
         octets.push_reserved(((word >> (8 * (many - 1 - i))) % 256) as u8);
     }
     octets
+}
+
+/// The number of up to eight bits from a place on: two octets are looked at, whatever the place.
+#[tactic(auto, using(crate::proofs::Windows::octets))]
+fn narrow_number(octets: &[u8], place: usize, count: usize) -> u64
+    requires most { count ≤ 8 }
+    requires within { place + count ≤ 8 * length octets.now }
+    requires small { place + count < 2 ^ 32 }
+    ensures { result ≡ num (take count (drop place (bits_of octets.now))) }
+{
+    u64::from(octet_at(octets, place)) >> (8 - count)
 }
 
 /// The number of so many bits from a place on.

@@ -127,7 +127,7 @@ fn encoded_sizes(
 ) -> Sizes
     ensures { result ≡ spec.encoded_sizes methods.now format.now index field.now }
 {
-    let listed = lists(format.listing.as_slice(), index);
+    let listed = lists(format.listing.get().as_slice(), index);
     where_listed(listed, encoding_sizes(alloc, methods, field.encoding.get()))
 }
 

@@ -80,7 +80,7 @@ fn whole_sizes(format: &Format, fields: &[Sizes]) -> Sizes
 {
     Sizes {
         uncompressed: header_total(fields, format.fields.as_slice()),
-        compressed: packed_total(fields, format.listing.as_slice()),
+        compressed: packed_total(fields, format.listing.get().as_slice()),
     }
 }
 

@@ -1,7 +1,7 @@
 //! The types of fillings and items.
 
 use fn_bits::Bits;
-use fn_normal::{Declared, Name};
+use fn_normal::{Declared, Name, Shared};
 use sqlite_items::Items;
 
 /// A format of a method, by its index, with both sides of each of its fields in field order.
@@ -10,7 +10,7 @@ use sqlite_items::Items;
 pub struct Filling {
     pub format: usize,
     /// The listed fields in the order of the packet, by their indices.
-    pub listing: Items<usize>,
+    pub listing: Shared<Items<usize>>,
     pub fields: Items<FilledField>,
 }
 

@@ -34,7 +34,7 @@ impl Filling {
         ensures { MatchResult result (λ b. b ≡ packed self.now) (λ e. FailsAbove e (packed self.now)) }
     {
         let mut packed = Bits::new(alloc);
-        for i in self.listing.as_slice() {
+        for i in self.listing.get().as_slice() {
             if let Some(field) = self.fields.get(*i) {
                 packed.append(&field.compressed)?;
             }

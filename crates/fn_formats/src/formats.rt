@@ -12,7 +12,7 @@ ghost use Rattle.fn_formats.specs.Worded as worded;
 use crate::drafts::{Setting, draft_format};
 use crate::fields::joined_fields;
 use crate::kept::Kept;
-use fn_normal::{Format, Name, ProfileFault, word};
+use fn_normal::{Format, Name, ProfileFault, Shared, word};
 use fn_source::Span;
 use fn_tree::{Section, SectionKind};
 use std::alloc::{AllocError, Global};
@@ -51,7 +51,7 @@ pub fn section_format<'t>(
         format: Format {
             name,
             fields,
-            listing: draft.listing,
+            listing: Shared::new(alloc, draft.listing)?,
             constraints: draft.constraints,
         },
         fault: draft.fault,

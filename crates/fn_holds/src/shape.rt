@@ -15,7 +15,7 @@ use fn_normal::{Bounds, Declared, Field, Format, FormatSizes, Sizes};
 pub(crate) fn is_shaped(format: &Format, filling: &Filling) -> bool
     ensures { IsTrue result ↔ IsShaped format.now filling.now }
 {
-    filling.listing.as_slice() == format.listing.as_slice()
+    filling.listing.get().as_slice() == format.listing.get().as_slice()
         && are_declared(format.fields.as_slice(), filling.fields.as_slice())
 }
 

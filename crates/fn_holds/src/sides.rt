@@ -62,7 +62,7 @@ pub(crate) fn is_packed(bits: &Bits, filling: &Filling) -> bool
     ensures { IsTrue result ↔ (bits.now ≡ packed filling.now) }
 {
     let mut cursor = Cursor::new(bits);
-    for i in filling.listing.as_slice() {
+    for i in filling.listing.get().as_slice() {
         if let Some(field) = filling.fields.get(*i) {
             if !cursor.skip(&field.compressed) {
                 return false;

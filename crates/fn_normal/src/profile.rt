@@ -93,7 +93,7 @@ pub enum Constraint {
 pub struct Format {
     pub name: Option<Name>,
     pub fields: Items<Field>,
-    pub listing: Items<usize>,
+    pub listing: Shared<Items<usize>>,
     pub constraints: Items<Shared<Constraint>>,
 }
 

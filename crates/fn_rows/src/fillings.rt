@@ -10,7 +10,7 @@ use fn_context::Context;
 use fn_filling::{FilledField, Filling, advance, below};
 use fn_holds::holds;
 use fn_names::read;
-use fn_normal::{Declared, Name, Part};
+use fn_normal::{Declared, Name, Part, Shared};
 use fn_profile::Profile;
 use sqlite_items::Items;
 use std::alloc::Global;
@@ -143,7 +143,7 @@ struct Open {
 fn read_filling(alloc: Global, text: &str) -> Result<Filling> {
     let mut open = Open {
         outer: Vec::new(alloc),
-        filling: empty(alloc),
+        filling: empty(alloc)?,
     };
     for part in text.split(" | ") {
         open.add(alloc, part)?;
@@ -151,12 +151,12 @@ fn read_filling(alloc: Global, text: &str) -> Result<Filling> {
     Ok(open.filling)
 }
 
-fn empty(alloc: Global) -> Filling {
-    Filling {
+fn empty(alloc: Global) -> Result<Filling> {
+    Ok(Filling {
         format: 0,
-        listing: Items::new(alloc),
+        listing: Shared::new(alloc, Items::new(alloc))?,
         fields: Items::new(alloc),
-    }
+    })
 }
 
 impl Open {
@@ -166,25 +166,20 @@ impl Open {
         }
         let (first, rest) = parted(part, " ")?;
         match first {
-            "=" => self.begin(rest),
+            "=" => self.begin(alloc, rest),
             "(" => {
-                let around = mem::replace(&mut self.filling, empty(alloc));
+                let around = mem::replace(&mut self.filling, empty(alloc)?);
                 self.outer.push(around)?;
-                self.begin(rest)
+                self.begin(alloc, rest)
             }
             name => Ok(self.filling.fields.push(read_field(alloc, name, rest)?)?),
         }
     }
 
-    fn begin(&mut self, rest: &str) -> Result<()> {
+    fn begin(&mut self, alloc: Global, rest: &str) -> Result<()> {
         let (format, listing) = parted(rest, " ")?;
         self.filling.format = count(format)?;
-        if listing == "-" {
-            return Ok(());
-        }
-        for index in listing.split(',') {
-            self.filling.listing.push(count(index)?)?;
-        }
+        self.filling.listing = Shared::new(alloc, read_listing(alloc, listing)?)?;
         Ok(())
     }
 
@@ -195,6 +190,17 @@ impl Open {
         field.inner = Some(inner);
         Ok(self.filling.fields.push(field)?)
     }
+}
+
+/// Indices with a comma between them; none is `-`.
+fn read_listing(alloc: Global, text: &str) -> Result<Items<usize>> {
+    let mut listing = Items::new(alloc);
+    if text != "-" {
+        for index in text.split(',') {
+            listing.push(count(index)?)?;
+        }
+    }
+    Ok(listing)
 }
 
 fn read_field(alloc: Global, name: &str, rest: &str) -> Result<FilledField> {

@@ -113,7 +113,7 @@ fn draw(
             _ => act(alloc, desk, &mut sheet, next, &mut digits, source)?,
         }
     }
-    Ok(sheet.into_filling(alloc, start.index)?)
+    Ok(sheet.into_filling(start.index)?)
 }
 
 /// The goal of the filling inside the field: in writing the next digit is its number. The error is Nowhere.

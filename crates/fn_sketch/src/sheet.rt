@@ -20,10 +20,10 @@ pub(crate) struct Sheet<'a> {
 
 impl<'a> Sheet<'a> {
     /// The filling that was drawn, of the format by its index. The error is want of memory.
-    pub(crate) fn into_filling(self, alloc: Global, index: usize) -> Result<Filling, AllocError> {
+    pub(crate) fn into_filling(self, index: usize) -> Result<Filling, AllocError> {
         Ok(Filling {
             format: index,
-            listing: Items::from_slice(alloc, self.format.listing.as_slice())?,
+            listing: self.format.listing.share()?,
             fields: Items::from_vec(self.fields),
         })
     }

@@ -85,7 +85,7 @@ fn length_of(sheet: &Sheet<'_>, side: Side) -> usize {
             }
         }
         Side::Compressed => {
-            for field in sheet.format.listing.as_slice() {
+            for field in sheet.format.listing.get().as_slice() {
                 count = count.saturating_add(sheet.length(*field, side));
             }
         }
@@ -105,7 +105,7 @@ pub(crate) fn whole_of(alloc: Global, sheet: &Sheet<'_>, side: Side) -> Option<B
             }
         }
         Side::Compressed => {
-            for field in sheet.format.listing.as_slice() {
+            for field in sheet.format.listing.get().as_slice() {
                 whole
                     .append(sheet.bits(*field, Side::Compressed).ok()?)
                     .ok()?;

@@ -193,11 +193,8 @@ fn window(cursor: &Cursor<'_>, from: usize, offset: usize, width: u8) -> Option<
 fn number_of(cursor: &Cursor<'_>, from: usize, offset: usize, count: usize) -> Option<u64>
     ensures { IfSome result (λ v. (from + offset + count ≤ length cursor.now.left) × (v ≡ num (slice_range cursor.now.left (from + offset) (from + offset + count)))) }
 {
-    let left = cursor.rest().saturating_sub(from);
-    if left < offset || left - offset < count {
-        return None;
-    }
-    cursor.peek(from + offset, count)
+    let ahead = from.checked_add(offset)?;
+    cursor.peek_narrow(ahead, count)
 }
 
 /// The place of the first or the second subtree of the test at a place.
