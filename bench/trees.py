@@ -1,9 +1,9 @@
 #!/usr/bin/env python3
 """What trees cost in instructions, by callgrind, on the built program or on another that is given as an argument; beside it those of a second one, if that is given.
 
-A packet of `unpack` in a tree of up to 4,096 nodes, bushy or with one long way over offsets that rise one by one, may cost at most twice one in a tree of 63; `check` of a big profile (check.py) may
-cost at most 1.1 times that of the second program. Without a bound: a long way whose tests are so far apart that a table takes one alone, a packet of `six` (packing.py), and `check` of these trees, and
-of one whose tables would go beyond the limit of entries."""
+A packet of `unpack` in a tree of up to 4,096 nodes may cost at most twice one in a tree of 63: in a bushy tree, in one with a long way over offsets that rise one by one, and in one with a long way
+whose tests are so far apart that a table takes one alone. `check` of a big profile (check.py) may cost at most 1.1 times that of the second program, and a packet of `six` (packing.py) no more than by
+it. Without a bound: `check` of these trees, and of one whose tables would go beyond the limit of entries."""
 import random
 import sys
 
@@ -75,14 +75,14 @@ def main():
         return costs
 
     packets = {name: row("a packet, " + name, len(nodes), lambda it: packet_of(it, nodes, are_ones))[0] for name, (nodes, are_ones) in TREES.items()}
-    row("a packet of `six`", 127, lambda it: (counted(it, "unpack", "six", MANY) - counted(it, "unpack", "six", FEW)) // (MANY - FEW))
+    six = row("a packet of `six`", 127, lambda it: (counted(it, "unpack", "six", MANY) - counted(it, "unpack", "six", FEW)) // (MANY - FEW))
     big = whole(120, 8, 6)
     costs = row("check of a big profile", "", lambda it: of_run(it, big[1], big[3]))
     for name, nodes in [*[(it, TREES[it][0]) for it in ("63 nodes", "4,095 nodes", "a way of 127 offsets")], ("the limit of entries", paired(9))]:
         row("check, " + name, len(nodes), lambda it: checked_of(it, nodes))
     bushy_ratio, rising, apart = packets["4,095 nodes"] / packets["63 nodes"], *[packets[it] / packets["63 nodes, one bits"] for it in list(TREES)[3:]]
-    print("a packet over one in a tree of 63 nodes: %.2f and %.2f, at most 2; %.2f by tests far apart, without a bound" % (bushy_ratio, rising, apart))
-    report("trees", max(bushy_ratio, rising) <= 2 and costs[0] <= 1.1 * costs[-1])
+    print("a packet over one in a tree of 63 nodes, at most 2: bushy %.2f, a way of rising offsets %.2f, by tests far apart %.2f" % (bushy_ratio, rising, apart))
+    report("trees", max(bushy_ratio, rising, apart) <= 2 and costs[0] <= 1.1 * costs[-1] and six[0] <= six[-1])
 
 
 if __name__ == "__main__":
