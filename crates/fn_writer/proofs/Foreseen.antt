@@ -1,31 +1,16 @@
 -- Why candidates fail where the filling inside the first call of their plan can't have its digit.
-use Rattle.std.proofs.Common.{◌≡◌, refl, sym, ◌∙◌, ap, subst, ℕ, suc, ◌+◌, ◌*◌, ◌^◌, ◌<◌, ◌≤◌, Bool, true, false, List, [], ◌∷◌, ◌++◌, length, take, drop, arith}
-use Rattle.std.specs.Prelude.{ℤ, pos, nat_eq, Option, Some, None, slice_get, option_map, option_and_then, if◌then◌else◌}
+use Rattle.std.proofs.Common.{◌≡◌, refl, sym, ◌∙◌, ap, subst, ℕ, suc, ◌+◌, ◌*◌, ◌^◌, ◌<◌, ◌≤◌, Bool, true, List, [], ◌∷◌, ◌++◌, length, take, drop, arith}
+use Rattle.std.specs.Prelude.{ℤ, Some, None, slice_get, option_map, option_and_then}
 use Rattle.std.specs.Option.{unwrap_or}
-use Rattle.std.proofs.lemmas.Bool.{eqb-true}
 use Rattle.std.proofs.lemmas.Option.{same_Some}
 use Rattle.std.proofs.Math.Nat.{mul-le-mul_right}
 use Rattle.fn_bits.specs.Number.{num}
 use Rattle.fn_context.specs.Entries.{bits_at}
-use Rattle.fn_expr.specs.declared.expr.Attribute.{Attribute}
 use Rattle.fn_expr.specs.declared.expr.Expr.{Expr}
-use Rattle.fn_expr.specs.declared.expr.Expr.TheVariants as expr
-use Rattle.fn_expr.specs.declared.expr.Expr.TheVariants.{Number, Parameter, Binary'}
-use Rattle.fn_expr.specs.declared.expr.Measure.{Measure}
-use Rattle.fn_expr.specs.declared.expr.Measure.TheVariants as measure
-use Rattle.fn_expr.specs.declared.expr.Side.{Side}
-use Rattle.fn_expr.specs.declared.expr.Side.TheVariants.{Uncompressed, Compressed}
-use Rattle.fn_expr.specs.declared.expr.Subject.{Subject}
-use Rattle.fn_expr.specs.declared.expr.Subject.TheVariants.{This}
-use Rattle.fn_expr.specs.declared.expr.Subject.TheVariants as subject
-use Rattle.fn_expr.specs.Values.{Assignment, both, val, apply}
-use Rattle.fn_lib.specs.Methods as lib
-use Rattle.fn_lib.specs.Methods.{Lib}
+use Rattle.fn_expr.specs.declared.expr.Side.TheVariants.{Uncompressed}
 use Rattle.fn_normal.specs.declared.profile.Constraint.TheVariants.{Enforce}
 use Rattle.fn_normal.specs.declared.profile.Declared.{Declared}
-use Rattle.fn_normal.specs.declared.profile.Encoding.{Encoding}
 use Rattle.fn_normal.specs.declared.profile.Encoding.TheVariants as encoding
-use Rattle.fn_normal.specs.declared.profile.Library.TheVariants as library
 use Rattle.fn_normal.specs.declared.profile.Field.{Field}
 use Rattle.fn_normal.specs.declared.profile.Format.{Format}
 use Rattle.fn_normal.specs.declared.profile.FormatSizes.{FormatSizes}
@@ -33,16 +18,14 @@ use Rattle.fn_normal.specs.declared.profile.Method.{Method}
 use Rattle.fn_profile.specs.Resolved.{IsSound}
 use Rattle.fn_filling.specs.declared.filling.AskedValue.{AskedValue}
 use Rattle.fn_filling.specs.declared.filling.Filling.{Filling, out-Filling}
-use Rattle.fn_filling.specs.declared.filling.FilledField.{FilledField}
 use Rattle.fn_filling.specs.Entries.{below}
-use Rattle.fn_filling.specs.Fillings.{sides_of, inner_at, fields_of, level, asked_values, header, header_bits, is_header}
-use Rattle.fn_filling.proofs.Unique.{also_at}
+use Rattle.fn_filling.specs.Fillings.{inner_at, level, asked_values, header, header_bits, is_header}
 use Rattle.fn_fits.specs.Bounded.{sizes_at}
-use Rattle.fn_fits.specs.Fits.{Context, Fits, field_side, format_at, assigned, side_of, measured, vals}
+use Rattle.fn_fits.specs.Fits.{Context, Fits, field_side, format_at, assigned, vals}
 use Rattle.fn_fits.proofs.Bounding.{lie-in-bounds}
-use Rattle.fn_fits.proofs.Inverted.{FitsParts, parts, coded_parts, called_parts, length-fields}
+use Rattle.fn_fits.proofs.Inverted.{FitsParts, parts, called_parts}
 use Rattle.fn_fits.proofs.Sides.{header_splits}
-use Rattle.fn_fits.proofs.Sized.{one_value, and_then_some, map_some}
+use Rattle.fn_fits.proofs.Sized.{one_value, and_then_some}
 use Rattle.fn_cert.specs.declared.certificate.Plans.{Plans}
 use Rattle.fn_cert.specs.declared.certificate.Step.{Step}
 use Rattle.fn_cert.specs.declared.certificate.Step.TheVariants.{Take, Call, LibraryUp, LibraryDown, MethodLength, ConstraintLength, Solve, Choose, Ask}
@@ -63,32 +46,23 @@ use Rattle.fn_checker.specs.Accepted.{Accepting}
 use Rattle.fn_walk.specs.declared.place.Place.{Place}
 use Rattle.fn_writing.specs.Writing.{Begins as StandsIn}
 use Rattle.fn_writing.proofs.Steps.{parted, stands}
-use Rattle.fn_writer.specs.declared.foreseeing.Chosen.{Chosen}
-use Rattle.fn_writer.specs.Foreseeing.{HasChosen, HasSeen, StandsBefore, SeesOn, digit_of, is_irregular, shows_choice, seen_value, seen_numbers, IsRefutedInside, by_values, by_start, AreRefutedInside}
+use Rattle.fn_writer.specs.declared.told.Chosen.{Chosen}
+use Rattle.fn_writer.specs.Foreseeing.{HasSeen, StandsBefore, SeesOn, IsRefutedInside, by_values, by_start, AreRefutedInside}
 use Rattle.fn_writer.specs.Going.{Begins}
-use Rattle.fn_writer.specs.Refuting.{HasFalse, HaveBefore, operand}
+use Rattle.fn_writer.specs.Refuting.{HasFalse, HaveBefore, Differs, operand}
+use Rattle.fn_writer.specs.Told.{HasChosen, told_numbers}
 use Rattle.fn_writer.specs.Walking.{site_of, Fails}
 use Rattle.fn_writer.proofs.Called.{is_method}
 use Rattle.fn_writer.proofs.Inner.{moved}
 use Rattle.fn_writer.proofs.Passing.{room_next}
-use Rattle.fn_writer.proofs.Never.{false_is, counted, never_begins}
+use Rattle.fn_writer.proofs.Never.{false_is, counted, never_begins, no_other}
+use Rattle.fn_writer.proofs.Telling.{field_p, filled, values_are}
 
 -- ---- choices
 
 more_chosen : (f : Filling) (xs : List Chosen) (x : Chosen) → HasChosen f xs → num (side_at (view f) x.field Uncompressed) ≡ x.digit → HasChosen f (xs ++ x ∷ [])
 more_chosen f [] x h e = (e, tt)
 more_chosen f (y ∷ ys) x h e = (h.0, more_chosen f ys x h.1 e)
-
-digit_is : (f : Filling) (xs : List Chosen) → HasChosen f xs → (i digit : ℕ) → digit_of xs i ≡ Some digit → num (side_at (view f) i Uncompressed) ≡ digit
-digit_is f [] h i digit e = absurd (cc)
-digit_is f (x ∷ xs) h i digit e = by (nat_eq x.field i) refl (λ e. digit_is f xs h.1 i digit e) e
-  where
-    by : (b : Bool) → nat_eq x.field i ≡ b → (digit_of xs i ≡ Some digit → num (side_at (view f) i Uncompressed) ≡ digit) → (if b then Some x.digit else digit_of xs i) ≡ Some digit →
-        num (side_at (view f) i Uncompressed) ≡ digit
-    by true is later e =
-        let same : x.digit ≡ digit = cc in
-        ap (λ j. num (side_at (view f) j Uncompressed)) (sym (eqb-true x.field i is)) ∙ (h.0 ∙ same)
-    by false is later e = later e
 
 -- ---- steps before a call
 
@@ -158,43 +132,6 @@ sees place c start b plans plans_are format format_is =
 
 -- ---- the values that are known
 
-both_more : {A B : Type 0} (f : A → A → Option B) (x y x' y' : Option A) (z : B) → ((v : A) → x ≡ Some v → x' ≡ Some v) → ((v : A) → y ≡ Some v → y' ≡ Some v) → both f x y ≡ Some z → both f x' y' ≡ Some z
-both_more f None y x' y' z h k e = absurd (cc)
-both_more f (Some v) None x' y' z h k e = absurd (cc)
-both_more f (Some v) (Some w) x' y' z h k e = (λ i. both f (h v refl i) (k w refl i)) ∙ e
-
-module _ (a b : Assignment) (attributes : (t : Attribute) (v : ℤ) → a.attribute t ≡ Some v → b.attribute t ≡ Some v) (parameters : (i : ℕ) (v : ℤ) → a.parameter i ≡ Some v → b.parameter i ≡ Some v) where
-  val_more : (e : Expr) (v : ℤ) → val a e ≡ Some v → val b e ≡ Some v
-  val_more (Number s n) v e = e
-  val_more (Parameter s i) v e = parameters i v e
-  val_more (expr.Attribute s t) v e = attributes t v e
-  val_more (Binary' s op p x q y) v e = both_more (apply op) (val a x) (val a y) (val b x) (val b y) v (val_more x) (val_more y) e
-
-  vals_more : (es : List Expr) (vs : List ℤ) → vals a es ≡ Some vs → vals b es ≡ Some vs
-  vals_more [] vs h = h
-  vals_more (e ∷ es) vs h =
-      let t = and_then_some (λ v. option_map (λ ws. v ∷ ws) (vals a es)) (val a e) vs h in
-      let s = map_some (λ ws. t.0 ∷ ws) (vals a es) vs t.2 in
-      let first = val_more e t.0 t.1 in
-      let rest = vals_more es s.0 s.1 in
-      (λ i. option_and_then (λ v. option_map (λ ws. v ∷ ws) (rest i)) (first i)) ∙ ap Some s.2
-
-irregular_is : (e : Encoding) → is_irregular e ≡ true → (len : Expr) × (e ≡ encoding.Library (library.Irregular len))
-irregular_is (encoding.Library (library.Irregular len)) e = (len, refl)
-irregular_is (encoding.Library (library.UncompressedValue len v)) e = absurd (cc)
-irregular_is (encoding.Library (library.CompressedValue len v)) e = absurd (cc)
-irregular_is (encoding.Library library.Static) e = absurd (cc)
-irregular_is (encoding.Library (library.Lsb k offset)) e = absurd (cc)
-irregular_is (encoding.Library (library.Crc crc)) e = absurd (cc)
-irregular_is encoding.Bare e = absurd (cc)
-irregular_is (encoding.Call k es) e = absurd (cc)
-
--- its sides are equal
-carried : (m : lib.Method) (o : Option ℤ) (ref : Option (List Bool)) (u c : List Bool) → option_map lib.irregular o ≡ Some m → Lib m ref u c → u ≡ c
-carried m o ref u c e h =
-    let t = map_some lib.irregular o m e in
-    (subst (λ z. Lib z ref u c) (sym t.2) h).0
-
 -- ---- the filling inside
 
 -- the filling inside a field that calls a method, under these values
@@ -205,46 +142,11 @@ record Inside (ctx : Context) (methods : List Method) (path : List ℕ) (i : ℕ
   header_is : side_at (view f) i Uncompressed ≡ header inner
 
 module _ (methods : List Method) (ctx : Context) (k : ℕ) (args : List ℤ) (path : List ℕ) (format : Format) (choices : List Chosen) (f : Filling) (p : FitsParts methods ctx k args path f) (one : p.format ≡ format) (chosen : HasChosen f choices) where
-  field_p : (i : ℕ) (d : Field) → slice_get format.fields i ≡ Some d → slice_get p.format.fields i ≡ Some d
-  field_p i d at = ap (λ (z : Format). slice_get z.fields i) one ∙ at
-
-  filled : (i : ℕ) (d : Field) → slice_get format.fields i ≡ Some d → (g : FilledField) × (slice_get (fields_of f) i ≡ Some g)
-  filled i d at = also_at p.format.fields (fields_of f) i d (sym (length-fields p.format f p.level_fits.shaped)) (field_p i d at)
-
-  sides_equal : (i : ℕ) (d : Field) → slice_get format.fields i ≡ Some d → is_irregular d.encoding ≡ true → side_at (view f) i Compressed ≡ side_at (view f) i Uncompressed
-  sides_equal i d at is =
-      let g = filled i d at in
-      let x = irregular_is d.encoding is in
-      let coded = coded_parts methods ctx (p.each i d g.0 (field_p i d at) g.1) (library.Irregular x.0) x.1 in
-      let same = carried coded.method _ _ (sides_of g.0).uncompressed (sides_of g.0).compressed coded.is_method coded.holds in
-      side_is f i g.0 Compressed g.1 ∙ (sym same ∙ sym (side_is f i g.0 Uncompressed g.1))
-
-  shown : (i : ℕ) (o : Option Field) → slice_get format.fields i ≡ o → (side : Side) → shows_choice o side ≡ true → side_at (view f) i side ≡ side_at (view f) i Uncompressed
-  shown i o at Uncompressed is = refl
-  shown i None at Compressed is = absurd (cc)
-  shown i (Some d) at Compressed is = sides_equal i d at is
-
-  attribute_at : (s : Subject) (m : Measure) (side : Side) (v : ℤ) → seen_value format choices s m side ≡ Some v → Some (measured m (side_of p.format.listing (level f) s side)) ≡ Some v
-  attribute_at This m side v e = absurd (cc)
-  attribute_at (subject.Field i) measure.Length side v e = absurd (cc)
-  attribute_at (subject.Field i) measure.Value side v e = by (shows_choice (slice_get format.fields i) side) refl e
-    where
-      by : (b : Bool) → shows_choice (slice_get format.fields i) side ≡ b → (if b then option_map pos (digit_of choices i) else None) ≡ Some v → Some (pos (num (side_at (view f) i side))) ≡ Some v
-      by false is e = absurd (cc)
-      by true is e =
-          let t = map_some pos (digit_of choices i) v e in
-          let number_is = ap num (shown i (slice_get format.fields i) refl side is) ∙ digit_is f choices chosen i t.0 t.1 in
-          ap (λ z. Some (pos z)) number_is ∙ ap Some t.2
-
-  values_are : (es : List Expr) (vs : List ℤ) → vals (seen_numbers format args choices) es ≡ Some vs → vals (assigned p.format.listing (level f) args) es ≡ Some vs
-  values_are es vs e =
-      vals_more (seen_numbers format args choices) (assigned p.format.listing (level f) args) (λ t v e. attribute_at t.subject t.measure t.side v e) (λ i v e. e) es vs e
-
-  inside : (i : ℕ) (d : Field) (j : ℕ) (es : List Expr) → slice_get format.fields i ≡ Some d → d.encoding ≡ encoding.Call j es → (vs : List ℤ) → vals (seen_numbers format args choices) es ≡ Some vs → Inside ctx methods path i d j vs f
+  inside : (i : ℕ) (d : Field) (j : ℕ) (es : List Expr) → slice_get format.fields i ≡ Some d → d.encoding ≡ encoding.Call j es → (vs : List ℤ) → vals (told_numbers format args choices) es ≡ Some vs → Inside ctx methods path i d j vs f
   inside i d j es at is vs told =
-      let g = filled i d at in
-      let called = called_parts methods ctx (p.each i d g.0 (field_p i d at) g.1) j es is in
-      let same : called.args ≡ vs = same_Some called.args vs (sym called.is_args ∙ values_are es vs told) in
+      let g = filled methods ctx k args path format choices f p one chosen i d at in
+      let called = called_parts methods ctx (p.each i d g.0 (field_p methods ctx k args path format choices f p one chosen i d at) g.1) j es is in
+      let same : called.args ≡ vs = same_Some called.args vs (sym called.is_args ∙ values_are methods ctx k args path format choices f p one chosen es vs told) in
       record {
         inner = called.inner;
         inner_is = inner_is f i g.0 g.1 ∙ called.is_inner;
@@ -361,7 +263,7 @@ module _ (place : Place) (n : ℕ) (format : Format) (c i : ℕ) (old : Digits) 
       room_inside : digit + many ≤ radix
       room_inside = are.within radix radix_is
 
-      pub call_fails : vals (seen_numbers format place.arguments.now choices) es ≡ Some vs → (skipped : ℕ) → skipped + next.rest ≡ many * next.span → ShareUpTo many next skipped → (asked : List AskedValue) → Fails place bits asked c skipped
+      pub call_fails : vals (told_numbers format place.arguments.now choices) es ≡ Some vs → (skipped : ℕ) → skipped + next.rest ≡ many * next.span → ShareUpTo many next skipped → (asked : List AskedValue) → Fails place bits asked c skipped
       call_fails values skipped sum up_to asked =
           let rest = next.rest in
           let span = next.span in
@@ -392,3 +294,22 @@ module _ (place : Place) (n : ℕ) (format : Format) (c i : ℕ) (old : Digits) 
               let tried_inside = is_candidate all place.accepted.now.profile.sizes place.accepted.now.profile.top base.version kept base.are_sizes base.valid told (bits_at place.context.now) x.fits in
               let x_format = are.of_format x.inner tried_inside (subst (λ z. digit ≤ z) numbered s.1) (subst (λ z. z < digit + many) numbered s.2) in
               not_inside place n format i d j vs are.their bits w.seen.sound w.seen.format_is field_is asked f begins f_format x x_format are.refuted
+
+-- ---- a choice
+
+-- where the header has other bits than the choices give it, those that share the digits fail
+pub choice_fails : (place : Place) (n : ℕ) (format : Format) (steps : List Step) (c : ℕ) (digits : Digits) (choices : List Chosen) → HasSeen place n format steps c digits choices →
+    (sizes : FormatSizes) → sizes_at place.accepted.now.profile.sizes place.method n ≡ Some sizes → (bits : List Bool) → Differs place (told_numbers format place.arguments.now choices) format.fields sizes.fields bits →
+    (alike : ℕ) → alike + digits.rest ≡ digits.span → ShareDigits digits alike → (asked : List AskedValue) → Fails place bits asked c alike
+choice_fails place n format steps c digits choices seen sizes sizes_are bits differs alike count share asked = record {
+  some = let below = seen.reading.below in omega (arith, below, count);
+  within = λ m at. let room = seen.room m at in omega (arith, room, count);
+  none = λ f begins from to.
+      let methods = place.accepted.now.profile.methods in
+      let entries = place.accepted.now.certificate.methods in
+      let counts = place.accepted.now.counts in
+      let base = seen.checked in
+      let tried = is_candidate methods place.accepted.now.profile.sizes place.accepted.now.profile.top base.version entries base.are_sizes base.valid counts (bits_at place.context.now) begins.fits in
+      let s = share methods entries counts place.method n format steps c seen.reading f tried from to in
+      no_other place seen.sound n bits asked f begins s.read.format_is format choices (seen.told f tried s.within) sizes seen.format_is sizes_are differs;
+}

@@ -1,44 +1,32 @@
--- What tells that the filling inside the first call of a plan can't have its digit, before the plan is followed.
-use Rattle.std.specs.Prelude.{◌≡◌, ℕ, ◌+◌, ◌<◌, ◌≤◌, ℤ, pos, Bool, true, false, List, [], ◌∷◌, drop, nat_eq, slice_get, Option, Some, None, option_map, if◌then◌else◌}
-use Rattle.fn_bits.specs.Number.{num}
+-- What the choices and the first call of a plan tell, before the plan is followed.
+use Rattle.std.specs.Prelude.{◌≡◌, ℕ, ◌+◌, ◌<◌, ◌≤◌, ℤ, Bool, true, List, ◌∷◌, drop, slice_get, Some}
 use Rattle.fn_cert.specs.declared.certificate.Step.{Step}
-use Rattle.fn_expr.specs.declared.expr.Attribute.{Attribute}
-use Rattle.fn_expr.specs.declared.expr.Measure.{Measure}
-use Rattle.fn_expr.specs.declared.expr.Measure.TheVariants as measure
-use Rattle.fn_expr.specs.declared.expr.Side.{Side}
-use Rattle.fn_expr.specs.declared.expr.Side.TheVariants.{Uncompressed, Compressed}
-use Rattle.fn_expr.specs.declared.expr.Subject.{Subject}
-use Rattle.fn_expr.specs.declared.expr.Subject.TheVariants.{This}
-use Rattle.fn_expr.specs.declared.expr.Subject.TheVariants as subject
-use Rattle.fn_expr.specs.Values.{Assignment}
-use Rattle.fn_normal.specs.declared.profile.Encoding.{Encoding}
-use Rattle.fn_normal.specs.declared.profile.Encoding.TheVariants as encoding
-use Rattle.fn_normal.specs.declared.profile.Library.TheVariants as library
+use Rattle.fn_cert.specs.declared.certificate.Step.TheVariants as steps
 use Rattle.fn_normal.specs.declared.profile.Field.{Field}
 use Rattle.fn_normal.specs.declared.profile.Format.{Format}
 use Rattle.fn_normal.specs.declared.profile.FormatSizes.{FormatSizes}
+use Rattle.fn_normal.specs.declared.profile.Sizes.{Sizes}
 use Rattle.fn_profile.specs.Resolved.{IsSound}
+use Rattle.fn_filling.specs.declared.filling.AskedValue.{AskedValue}
 use Rattle.fn_filling.specs.declared.filling.Filling.{Filling, out-Filling}
 use Rattle.fn_filling.specs.Entries.{below}
 use Rattle.fn_filling.specs.Fillings.{is_header}
 use Rattle.fn_fits.specs.Bounded.{sizes_at}
 use Rattle.fn_fits.specs.Fits.{format_at}
-use Rattle.fn_rules.specs.Views.{view, side_at}
 use Rattle.fn_best.specs.declared.digits.Digits.{Digits}
 use Rattle.fn_best.specs.Codes.{number, IsCandidate}
 use Rattle.fn_best.specs.Digits.{InSpan}
 use Rattle.fn_best.specs.Reading.{IsReading}
 use Rattle.fn_walk.specs.declared.place.Place.{Place}
 use Rattle.fn_writing.specs.Writing.{IsChecked}
-use Rattle.fn_writer.specs.declared.foreseeing.Chosen.{Chosen}
+use Rattle.fn_writer.specs.declared.foreseeing.Ahead.{Ahead}
+use Rattle.fn_writer.specs.declared.foreseeing.Ahead.TheVariants as ahead
+use Rattle.fn_writer.specs.declared.told.Chosen.{Chosen}
+use Rattle.fn_writer.specs.Told.{HasChosen}
+use Rattle.fn_writer.specs.Walking.{Fails}
 use Rattle.fn_writer.specs.Refuting.{HasFalse, HaveBefore, IsRefuted, operand}
 
--- ---- choices
-
--- the number of the uncompressed bits of each of these fields is its digit
-abbrev pub HasChosen : Filling → List Chosen → Type 0
-HasChosen f [] = Unit {0}
-HasChosen f (x ∷ xs) = (num (side_at (view f) x.field Uncompressed) ≡ x.digit) × HasChosen f xs
+-- ---- the digits that are read
 
 -- Of the number c, of the format n, the digits are read up to these steps; each candidate that has read the same has the choices.
 pub record HasSeen (place : Place) (n : ℕ) (format : Format) (steps : List Step) (c : ℕ) (digits : Digits) (choices : List Chosen) : Type 0 where
@@ -59,36 +47,17 @@ pub record StandsBefore (place : Place) (n : ℕ) (format : Format) (one : Step)
 abbrev pub SeesOn : Place → ℕ → Format → Step → ℕ → Digits → List Chosen → Digits → List Chosen → Type 0
 SeesOn place n format one c digits choices next more = (later : List Step) → HasSeen place n format (one ∷ later) c digits choices → HasSeen place n format later c next more
 
--- ---- the values that choices tell
+-- the sizes of the fields of the format n
+pub record HasSizes (place : Place) (n : ℕ) (sizes : List Sizes) : Type 0 where
+  pub whole : FormatSizes
+  pub whole_is : sizes_at place.accepted.now.profile.sizes place.method n ≡ Some whole
+  pub fields_are : whole.fields ≡ sizes
 
--- the digit of a field, that of the first choice of it
-abbrev pub digit_of : List Chosen → ℕ → Option ℕ
-digit_of [] i = None
-digit_of (x ∷ xs) i = (if nat_eq x.field i then Some x.digit else digit_of xs i)
-
--- the two sides are equal under it
-abbrev pub is_irregular : Encoding → Bool
-is_irregular (encoding.Library (library.Irregular len)) = true
-is_irregular _ = false
-
--- the side is the uncompressed one, or equal to it
-abbrev pub shows_choice : Option Field → Side → Bool
-shows_choice o Uncompressed = true
-shows_choice None Compressed = false
-shows_choice (Some d) Compressed = is_irregular d.encoding
-
--- the value of a side that shows a choice
-abbrev pub seen_value : Format → List Chosen → Subject → Measure → Side → Option ℤ
-seen_value format choices (subject.Field i) measure.Value side = (if shows_choice (slice_get format.fields i) side then option_map pos (digit_of choices i) else None)
-seen_value format choices (subject.Field i) measure.Length side = None
-seen_value format choices This m side = None
-
-abbrev pub seen_attribute : Format → List Chosen → Attribute → Option ℤ
-seen_attribute format choices t = seen_value format choices t.subject t.measure t.side
-
--- the numbers that are known before a plan is followed: these, and the parameters
-abbrev pub seen_numbers : Format → List ℤ → List Chosen → Assignment
-seen_numbers format args choices = record { attribute = seen_attribute format choices; parameter = λ i. slice_get args i }
+-- what is said of the steps up to the first call
+abbrev pub Foretells : Place → ℕ → Format → ℕ → Digits → List Chosen → List Bool → Ahead → Type 0
+Foretells place n format c digits choices bits (ahead.Call i) = StandsBefore place n format (steps.Call i) c digits choices
+Foretells place n format c digits choices bits (ahead.Fails many) = (asked : List AskedValue) → Fails place bits asked c many
+Foretells place n format c digits choices bits ahead.Nothing = Unit {0}
 
 -- ---- the filling inside
 

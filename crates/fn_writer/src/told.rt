@@ -1,0 +1,112 @@
+//! The values that the arguments and the choices tell, before a plan is followed.
+
+ghost use Rattle.std.specs.Prelude.{◌≡◌, Some, IfSome, slice_get};
+ghost use Rattle.fn_expr.specs.Values.{apply, val};
+ghost use Rattle.fn_writer.specs.Told as spec;
+
+use fn_expr::{Attribute, Expr, Measure, Operator, Side, Subject};
+use fn_normal::{Encoding, Format, Library};
+use sqlite_items::at;
+
+/// A field with the digit that chooses its bits.
+#[derive(Clone, Copy, Default)]
+pub(crate) struct Chosen {
+    pub(crate) field: usize,
+    pub(crate) digit: u64,
+}
+
+/// What is told of a format's fields: by the arguments, and by the choices so far.
+#[derive(Clone, Copy)]
+pub(crate) struct Told<'a> {
+    pub(crate) format: &'a Format,
+    pub(crate) arguments: &'a [i128],
+    pub(crate) choices: &'a [Chosen],
+}
+
+impl<'a> Told<'a> {
+    /// The value of an expression, where what is told is enough for it. It isn't always found where it is.
+    pub(crate) fn value(&self, expr: &Expr) -> Option<i128>
+        ensures { IfSome result (λ v. val (spec.numbers self.now) expr.now ≡ Some v) }
+    {
+        // Most are numbers, for which nothing has to be called.
+        match expr {
+            Expr::Number(_, number) => Some(*number),
+            _ => self.value_of(expr),
+        }
+    }
+
+    #[inline(never)]
+    fn value_of(&self, expr: &Expr) -> Option<i128>
+        ensures { IfSome result (λ v. val (spec.numbers self.now) expr.now ≡ Some v) }
+    {
+        match expr {
+            Expr::Number(_, number) => Some(*number),
+            Expr::Parameter(_, index) => self.arguments.get(*index).copied(),
+            Expr::Attribute(_, attribute) => self.attribute(*attribute),
+            Expr::Binary(_, operator, left, right) => {
+                let left = self.value_of(left)?;
+                let right = self.value_of(right)?;
+                reckoned(*operator, left, right)
+            }
+        }
+    }
+
+    fn attribute(&self, attribute: Attribute) -> Option<i128>
+        ensures { IfSome result (λ v. spec.told_attribute self.now.format.now self.now.choices.now attribute ≡ Some v) }
+    {
+        let Subject::Field(field) = attribute.subject else {
+            return None;
+        };
+        let Measure::Value = attribute.measure else {
+            return None;
+        };
+        if !shows_choice(self.format, field, attribute.side) {
+            return None;
+        }
+        let digit = digit_of(self.choices, field)?;
+        Some(digit as i128)
+    }
+}
+
+/// A sum, difference or product, where it has 128 bits; other operators aren't tried.
+fn reckoned(operator: Operator, left: i128, right: i128) -> Option<i128>
+    ensures { IfSome result (λ v. apply operator left right ≡ Some v) }
+{
+    match operator {
+        Operator::Add => left.checked_add(right),
+        Operator::Subtract => left.checked_sub(right),
+        Operator::Multiply => left.checked_mul(right),
+        Operator::Divide | Operator::Remainder | Operator::Power => None,
+    }
+}
+
+/// Whether the side of a field is its uncompressed one, or is equal to that by its encoding.
+fn shows_choice(format: &Format, field: usize, side: Side) -> bool
+    ensures { result ≡ spec.shows_choice (slice_get format.now.fields field) side }
+{
+    match side {
+        Side::Uncompressed => true,
+        Side::Compressed => match at(format.fields.as_slice(), field) {
+            Some(found) => is_irregular(found.encoding.get()),
+            None => false,
+        },
+    }
+}
+
+fn is_irregular(encoding: &Encoding) -> bool
+    ensures { result ≡ spec.is_irregular encoding.now }
+{
+    matches!(encoding, Encoding::Library(Library::Irregular { .. }))
+}
+
+/// The digit that chooses the bits of the field.
+fn digit_of(choices: &[Chosen], field: usize) -> Option<u64>
+    ensures { result ≡ spec.digit_of choices.now field }
+{
+    for chosen in choices {
+        if chosen.field == field {
+            return Some(chosen.digit);
+        }
+    }
+    None
+}
