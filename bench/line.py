@@ -1,5 +1,5 @@
 #!/usr/bin/env python3
-"""Growth of `line` and `line --receive` over the packets of 16 flows, on the built program, and what a packet costs the receiver by its octets, since it tries after each. What is printed is computed here, by the
+"""Growth of `line` and `line --receive` over the packets of 16 flows, and of 64 on the wide line, on the built program, and what a packet costs the receiver by its octets, since it tries after each. What is printed is computed here, by the
 layout of the two formats of tick."""
 import pathlib
 import sys
@@ -10,7 +10,7 @@ from measure import best_of, grows, report
 from samples import TICK as PROFILE
 
 SIZES = [3750, 7500, 15000, 30000, 60000]
-FLOWS = 16
+FLOWS, WIDE = 16, 64  # of the line, and of the wide one
 
 
 def crc3(octet):
@@ -28,15 +28,19 @@ def packet(header, reference):
     return bytes([0x80 | header >> 1, (header & 1) << 7])
 
 
-def run_of(count):
+def flows_of(command):
+    return WIDE if "--wide" in command else FLOWS
+
+
+def run_of(flows, count):
     """Events, octets and the items' lines of so many packets: a flow's headers rise by 0 to 19, so that both formats come, and each 50th event is a reset."""
-    references, events, octets, items = [None] * FLOWS, [], bytearray(), []
+    references, events, octets, items = [None] * flows, [], bytearray(), []
     for i in range(count):
-        flow = i * 7 % FLOWS
+        flow = i * 7 % flows
         if i % 50 == 49:
             references[flow] = None
             events.append("reset %d\n" % flow)
-            octets.append(FLOWS + flow)
+            octets.append(flows + flow)
             continue
         header = ((references[flow] or 0) + i * 40503 // 256 % 20) % 256
         events.append("send %d 8:%02x\n" % (flow, header))
@@ -48,14 +52,14 @@ def run_of(count):
 
 
 def bundle(command, count):
-    events, octets, _ = run_of(count)
-    part, text = ("octets", octets) if command == "line --receive" else ("events", events)
+    events, octets, _ = run_of(flows_of(command), count)
+    part, text = ("octets", octets) if "--receive" in command else ("events", events)
     return ("=== words\n%s --top tick\n=== profile\n%s=== %s\n%s" % (command, PROFILE, part, text)).encode()
 
 
 def expected(command, count):
-    _, octets, items = run_of(count)
-    return (items if command == "line --receive" else octets + items).encode()
+    _, octets, items = run_of(flows_of(command), count)
+    return (items if "--receive" in command else octets + items).encode()
 
 
 def cases(command):
@@ -89,7 +93,7 @@ def main():
     print()
     print("| command | events | input octets | ms | ns an event | peak MiB | octets beyond 32 MiB an octet |")
     print("|---|---|---|---|---|---|---|")
-    report("line", all([grows(command, cases(command), 64) for command in ("line", "line --receive")]))
+    report("line", all([grows(command, cases(command), 64) for command in ("line", "line --receive", "line --wide", "line --wide --receive")]))
 
 
 if __name__ == "__main__":

@@ -10,7 +10,7 @@ import notation
 import parts
 
 FILTER = os.path.join(os.path.dirname(os.path.realpath(__file__)), "rohcfn")
-FLOWS = 16  # of a line
+FLOWS, WIDE = 16, 64  # of a line, and of the wide one
 # What each command takes: the options of files and words, and the flags that go to the program.
 INPUTS = {
     "pack": ("item", "items", "from_context", "certificate", "pcap", "flow"),
@@ -20,11 +20,11 @@ INPUTS = {
     "prove": (),
     "line": ("events", "octets", "certificate", "pcap"),
 }
-FLAGS = {"pack": ("v2", "context"), "unpack": ("v2", "context"), "show": (), "check": ("v2",), "prove": ("v2",), "line": ("v2", "receive")}
+FLAGS = {"pack": ("v2", "context"), "unpack": ("v2", "context"), "show": (), "check": ("v2",), "prove": ("v2",), "line": ("v2", "receive", "wide")}
 # One of these at least is needed.
 NEEDED = {"pack": ("item", "items", "pcap"), "unpack": ("packet", "packets"), "line": ("events", "octets", "pcap")}
 VALUED = ("top", "item", "items", "packet", "packets", "from_context", "certificate", "events", "octets", "pcap", "flow")
-PLAIN = ("v2", "context", "receive", "diagnose")
+PLAIN = ("v2", "context", "receive", "wide", "diagnose")
 LINES = {"item": "items", "items": "items", "packet": "packets", "packets": "packets"}
 
 
@@ -166,8 +166,9 @@ def lines(texts):
 
 def events(order, kind, asked, flows, found):
     """An event for each packet of a capture, in its order: it is sent on its flow."""
-    if len(flows) > FLOWS:
-        raise parts.BadInput("%s: %d flows, and a line has %d\n%s" % (order.pcap, len(flows), FLOWS, listed(flows)), 2)
+    limit = WIDE if order.wide else FLOWS
+    if len(flows) > limit:
+        raise parts.BadInput("%s: %d flows, and a line has %d\n%s" % (order.pcap, len(flows), limit, listed(flows)), 2)
     waiting = {key: (at, iter(inferred.items(kind, asked, flow))) for at, (key, flow) in enumerate(flows.items())}
     for it in found:
         if captures.header(kind, it) is not None:

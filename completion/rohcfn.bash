@@ -54,7 +54,7 @@ _rohcfn() {
     show) options='--top --help --diagnose' ;;
     check) options='--top --v2 --help --certificate --diagnose' ;;
     prove) options='--top --v2 --help --diagnose' ;;
-    line) options='--top --v2 --help --receive --certificate --events --octets --pcap --diagnose' ;;
+    line) options='--top --v2 --help --receive --wide --certificate --events --octets --pcap --diagnose' ;;
     help)
       if ((COMP_CWORD == 2)); then options=$commands; fi
       ;;

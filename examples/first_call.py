@@ -206,13 +206,13 @@ def at_once(place, texts):
     due += [(["help", "foo"], 2, "error: 'foo' is no command\n\n", "rohcfn"), (["help", "pack", "x"], 2, "error: 'x' is no command\n\n", "rohcfn")]
     due += [([it, "--help"], 0, "", it) for it in COMMANDS]
     due += [(words, 0, "", "pack") for words in (["help", "pack"], ["pack", "-h", "foo"], ["pack", "foo", "--help"], ["pack", "--top", "plain", "--help"])]
-    due += [(words, 2, "error: --top NAME is needed\n\n", words[0]) for words in (["unpack"], ["check", "--v2"], ["line", "--receive", "--v2"])]
+    due += [(words, 2, "error: --top NAME is needed\n\n", words[0]) for words in (["unpack"], ["check", "--v2"], ["line", "--receive", "--v2"], ["line", "--wide"])]
     no_value = "error: a value is required for '--top <NAME>' but none was supplied\n\n"
     due += [(["pack", "--top", *rest], 2, no_value, "pack") for rest in ([], ["--help"], ["--v2", "--help"])]
     due += [(words, 2, "error: the argument '%s' cannot be used multiple times\n\n" % words[1].partition("=")[0], "pack")
             for words in (["pack", "--v2", "--v2", "--top", "x"], ["pack", "--top=x", "--top", "y"])]
     due += [(words, 2, "error: unexpected argument '%s' found\n\n" % words[-1], words[0])
-            for words in (["show", "--top", "x", "--v2"], ["line", "--context"], ["pack", "--receive"], ["prove", "--top=x", "-v"], ["pack", "--v2=3"])]
+            for words in (["show", "--top", "x", "--v2"], ["line", "--context"], ["pack", "--receive"], ["unpack", "--wide"], ["prove", "--top=x", "-v"], ["pack", "--v2=3"])]
     for words, status, error, name in due:
         seen = place.call(place.program, *words, given=b"junk")
         more = "" if status else texts["files"]

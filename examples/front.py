@@ -127,6 +127,8 @@ def composed(place):
         (["line", "a profile.fn", "--events", "events"], ["line", *top], {"events": "reset 0\n"}),
         (["line", "a profile.fn", "--octets", "octets"], ["line", *top, "--receive"], {"octets": "00\n80\n"}),
         (["line", "a profile.fn", "--receive", "--octets", "sent"], ["line", *top, "--receive"], {"octets": "0080\n"}),
+        (["line", "a profile.fn", "--wide", "--events", "events"], ["line", *top, "--wide"], {"events": "reset 0\n"}),
+        (["line", "a profile.fn", "--wide", "--octets", "octets"], ["line", *top, "--receive", "--wide"], {"octets": "00\n80\n"}),
     ]
     for words, asked, parts in due:
         seen = place.call(*words)
@@ -340,6 +342,8 @@ def by_hand(place):
         check("refused: %s" % words, seen == (status, "", "rohcfn: %s\n" % text), seen)
     seen = place.call("line", "esp.fn", "--pcap", "many")
     check("more flows than a line has", seen[0] == 2 and "many: 17 flows, and a line has 16\n" in seen[2], seen)
+    seen = place.call("line", "esp.fn", "--wide", "--pcap", "many")
+    check("as many flows as the wide line has", seen[0] != 2 and seen[2] == "", seen)
 
 
 def parted(bundle):

@@ -1,6 +1,6 @@
 #!/usr/bin/env python3
-"""Through the built program: 2,000 sends and resets of 16 flows, drawn at random, on one line, and fewer of other profiles. The octets and items must be those of the best fillings that a slow search over all fillings finds (searching.py), each flow
-in a context of its own; they must be those of 16 lines of one flow each; and from the octets `line --receive` must give the same items."""
+"""Through the built program: 2,000 sends and resets of 16 flows, drawn at random, on one line, and fewer of other profiles; and of 64 flows on the wide line. The octets and items must be those of the best fillings that a slow search over all fillings
+finds (searching.py), each flow in a context of its own; they must be those of lines of one flow each; and from the octets `line --receive` must give the same items."""
 import pathlib
 import random
 import subprocess
@@ -9,7 +9,7 @@ import sys
 from roundtrip import items, line_of, sample
 
 PROGRAM = pathlib.Path(__file__).parent.parent / "bin" / "rohcfn"
-FLOWS = 16
+FLOWS = {"": 16, " --wide": 64}  # of the line, and of the wide one
 
 
 def run(subject, words, part, text):
@@ -25,14 +25,15 @@ def octets(bits):
 class Events:
     """Events with the octets and the item's line that are due for each; a send that has no filling is left out."""
 
-    def __init__(self, subject, count, draw):
-        self.subject, self.events, self.contexts = subject, [], [{} for _ in range(FLOWS)]
+    def __init__(self, subject, width, count, draw):
+        self.subject, self.width, self.flows = subject, width, FLOWS[width]
+        self.events, self.contexts = [], [{} for _ in range(self.flows)]
         headers, found = items(subject, draw), {}
         while len(self.events) < count:
-            flow = draw.randrange(FLOWS)
+            flow = draw.randrange(self.flows)
             if draw.randrange(20) == 0:
                 self.contexts[flow] = {}
-                self.events.append((flow, "reset %d\n" % flow, "%02x" % (FLOWS + flow), ""))
+                self.events.append((flow, "reset %d\n" % flow, "%02x" % (self.flows + flow), ""))
                 continue
             header, asked = draw.choice(headers)
             if "sn" in self.contexts[flow] and draw.randrange(2):
@@ -48,25 +49,25 @@ class Events:
     def trials(self):
         """What is run, and what is due."""
         yield self.sent(self.events)
-        for flow in range(FLOWS):
+        for flow in range(self.flows):
             yield self.sent([it for it in self.events if it[0] == flow])
         heard = "".join(it[3] for it in self.events)
-        yield run(self.subject, " --receive", "octets", "".join(it[2] for it in self.events) + "\n"), (heard, 0)
+        yield run(self.subject, self.width + " --receive", "octets", "".join(it[2] for it in self.events) + "\n"), (heard, 0)
 
     def sent(self, events):
         due = "".join(it[2] for it in events) + "\n" + "".join(it[3] for it in events)
-        return run(self.subject, "", "events", "".join(it[1] for it in events)), (due, 0)
+        return run(self.subject, self.width, "events", "".join(it[1] for it in events)), (due, 0)
 
 
 def main():
     draw, passed, failed = random.Random(5795), 0, 0
-    for name, count in [("tick", 2000), ("opt", 400), ("seq", 400), ("wrap", 400), ("nest", 400)]:
-        for place, (found, due) in enumerate(Events(sample(name), count, draw).trials()):
+    for name, width, count in [("tick", "", 2000), ("opt", "", 400), ("seq", "", 400), ("wrap", "", 400), ("nest", "", 400), ("tick", " --wide", 1000), ("seq", " --wide", 400)]:
+        for place, (found, due) in enumerate(Events(sample(name), width, count, draw).trials()):
             if found == due:
                 passed += 1
             else:
                 failed += 1
-                print("%s, run %d: wrong" % (name, place))
+                print("%s%s, run %d: wrong" % (name, width, place))
     print("lines of flows: %d passed, %d failed" % (passed, failed))
     sys.exit(1 if failed else 0)
 

@@ -1,17 +1,21 @@
 -- What a sender puts on the line.
-use Rattle.std.proofs.Common.{◌≡◌, ◌∙◌, refl, sym, ap, subst, ℕ, ◌<◌, List, [], ◌∷◌, ◌++◌, length, get_or, arith}
+use Rattle.std.proofs.Common.{◌≡◌, ◌∙◌, refl, sym, ap, subst, ℕ, ◌<◌, ◌≤◌, List, [], ◌∷◌, ◌++◌, length, get_or, arith, ◌⊎◌, inl, inr}
 use Rattle.std.specs.Prelude.{slice_get, slice_set, Some, None, Result, Ok, Err, OnOk, IfErr}
+use Rattle.std.proofs.lemmas.Bool.{cases_lt}
 use Rattle.std.proofs.lemmas.Option.{slice_get-get_or}
 use Rattle.fn_context.specs.Entries.{Entries}
 use Rattle.fn_filling.specs.declared.filling.Item.{Item}
 use Rattle.fn_filling.specs.Entries.{next}
 use Rattle.fn_checker.specs.Accepted.{Accepting}
 use Rattle.fn_engine.specs.declared.writer.PackFault.{PackFault}
+use Rattle.fn_engine.specs.declared.writer.PackFault.TheVariants.{Flow, OutOfMemory}
 use Rattle.fn_engine.specs.Writing as writing
-use Rattle.fn_line.specs.Lines.{Contexts, reset_octet, Puts, Line, sent, emptied, ended, puts_on}
+use Rattle.fn_line.specs.Lines.{Contexts, flow_limit, no_entries, reset_octet, Event, Puts, Line, sent, emptied, ended, puts_on}
 use Rattle.fn_line.specs.Lines.Act.{Send, Reset}
-use Rattle.fn_line.specs.States.{Sending, IsPut, IsUnsent}
+use Rattle.fn_line.specs.States.{Sending, IsNotPut, IsPut, blamed, no_flow}
 use Rattle.fn_line.specs.Steps.{IsPacked}
+use Rattle.fn_line.specs.declared.flow.LineVersion.{LineVersion}
+use Rattle.fn_line.specs.declared.flow.LineVersion.TheVariants.{One, Two}
 
 pub on_ok_more : {A E P Q : Type 0} (r : Result A E) → (P → Q) → OnOk r P → OnOk r Q
 on_ok_more (Ok x) f h = f h
@@ -63,6 +67,24 @@ send_put p s old flow place number ctx new it before after there same numbered i
         (record { accepted_is = refl; packet = record { flow = flow; octets = flow ∷ packed.octets; filling = Some packed.filling }; line = line; octets_are = refl })
 
 pub send_fault : (p : Accepting) (s : Contexts) (old : Sending) (flow place : ℕ) (ctx : Entries) (it : Item) (e : PackFault) → slice_get s place ≡ Some ctx → place ≡ flow → record { accepted = p; contexts = s } ≡ old →
-    writing.Blames e p ctx it → IsUnsent old flow it e
-send_fault p s old flow place ctx it e there same is blames =
-    subst (λ o. IsUnsent o flow it e) is (record { ctx = ctx; context_is = ap (slice_get s) (sym same) ∙ there; blames = blames })
+    writing.Blames e p ctx it → IsNotPut old (record { flow = flow; act = Send it }) e
+send_fault p s old flow place ctx it e there same is says =
+    subst (λ o. IsNotPut o (record { flow = flow; act = Send it }) e) is (blamed ctx (ap (slice_get s) (sym same) ∙ there) says)
+
+-- a reset of a flow that is there is refused for want of memory alone
+pub reset_fault : (p : Accepting) (s : Contexts) (old : Sending) (flow : ℕ) → flow < length s → record { accepted = p; contexts = s } ≡ old → IsNotPut old (record { flow = flow; act = Reset }) OutOfMemory
+reset_fault p s old flow below is =
+    subst (λ o. IsNotPut o (record { flow = flow; act = Reset }) OutOfMemory) is (blamed (get_or s flow []) (slice_get-get_or s flow [] below) refl)
+
+-- there is no such flow
+pub none_there : (old : Sending) (e : Event) → ¬ (e.flow < length old.contexts) → IsNotPut old e Flow
+none_there old e n = by (cases_lt e.flow (length old.contexts))
+  where
+    by : (e.flow < length old.contexts) ⊎ (length old.contexts ≤ e.flow) → IsNotPut old e Flow
+    by (inl l) = absurd (n l)
+    by (inr l) = no_flow l
+
+-- a new line has no more flows than there may be
+pub few_entries : (v : LineVersion) → length (no_entries v) ≤ flow_limit
+few_entries One = omega arith
+few_entries Two = omega arith

@@ -8,25 +8,22 @@ use Rattle.std.proofs.lemmas.Option.{slice_get-map, slice_get-get_or}
 use Rattle.std.proofs.lemmas.Grind.{flat_map-append}
 use Rattle.fn_fits.specs.Fronts.{Det}
 use Rattle.fn_checker.specs.Accepted.{Accepting}
-use Rattle.fn_filling.specs.declared.filling.Item.{Item}
 use Rattle.fn_engine.specs.declared.writer.PackFault.{PackFault}
-use Rattle.fn_engine.specs.declared.writer.PackFault.TheVariants.{HeaderLength, Asked, NoFormat}
+use Rattle.fn_engine.specs.declared.writer.PackFault.TheVariants.{HeaderLength, Asked, NoFormat, Flow}
 use Rattle.fn_engine.specs.declared.writer.PackFault.TheVariants as pack
-use Rattle.fn_engine.specs.Writing as writing
 use Rattle.fn_line.specs.Lines.{Contexts, Packet, Line, ended, octets_of, no_entries}
 use Rattle.fn_line.specs.Lines as lines
-use Rattle.fn_line.specs.Lines.Act.{Send}
 use Rattle.fn_line.specs.Hearing.{Found, Heard}
 use Rattle.fn_line.specs.Laws.{items_sent}
-use Rattle.fn_line.specs.States.{Sending, Receiving, IsPut, IsUnsent, Hears, Stops, Fails, FailsIn, end_of}
+use Rattle.fn_line.specs.States.{Sending, Receiving, BlamesAct, IsNotPut, IsPut, blamed, no_flow, Hears, Stops, Fails, FailsIn, end_of}
 use Rattle.fn_line.specs.declared.fault.LineFault.{LineFault}
 use Rattle.fn_line.specs.declared.fault.LineFault.TheVariants.{FlowOctet, RefusedPacket, Padding, Ended, OutOfMemory}
 use Rattle.fn_line.proofs.Flows.{lines_join, line_is_heard}
 use Rattle.fn_line.proofs.Hearings.{heard_join, heard_once}
 use Rattle.fn_line.proofs.Faults.{no_fault}
 use Rattle.fn_line.specs.declared.runs.Event.{Event}
-use Rattle.fn_line.specs.declared.runs.Event.TheVariants as event
-use Rattle.fn_line.specs.Runs.{event_of, ArePut, IsStopped, BlamesEvent, BlamesRun, run_fault, IsRun, IsWhole, IsCut, IsReceived}
+use Rattle.fn_line.specs.declared.flow.LineVersion.{LineVersion}
+use Rattle.fn_line.specs.Runs.{event_of, ArePut, IsStopped, BlamesRun, run_fault, IsRun, IsWhole, IsCut, IsReceived}
 
 pub none_put : (s : Sending) (before : List ℕ) → ArePut s s [] before before
 none_put s before = record { accepted_is = refl; packets = []; line = ended; after_is = sym (append-nil before) }
@@ -48,123 +45,124 @@ one_put old mid new events i e before here after octets within is puts one after
     }
 
 -- a new sender's octets, heard by a new receiver
-pub is_run : (p : Accepting) → Det p.profile.methods p.profile.top → (old new : Sending) (from to : Receiving) (es : List lines.Event) (octets : List ℕ) (before found items : Found) → old ≡ record { accepted = p; contexts = no_entries } →
-    from ≡ record { accepted = p; contexts = no_entries; rest = []; fault = None } → ArePut old new es [] octets → Hears from to octets found → before ≡ [] → items ≡ before ++ found → IsRun p es octets items
-is_run p d old new from to es octets before found items starts begins puts hears none items_are =
-    let line : Line p no_entries es puts.packets new.contexts = subst (λ (o : Sending). Line o.accepted o.contexts es puts.packets new.contexts) starts puts.line in
-    let heard : Heard p no_entries octets found to.rest to.contexts = subst (λ (r : Receiving). Heard r.accepted r.contexts (r.rest ++ octets) found to.rest to.contexts) begins hears.heard in
-    let whole : Heard p no_entries (octets_of puts.packets) (items_sent es) [] new.contexts = line_is_heard p no_entries new.contexts es puts.packets line in
-    let known : Heard p no_entries (octets_of puts.packets) found to.rest to.contexts = subst (λ o. Heard p no_entries o found to.rest to.contexts) puts.after_is heard in
-    let same = heard_once p d no_entries to.contexts new.contexts (octets_of puts.packets) to.rest [] found (items_sent es) known whole in
+pub is_run : (v : LineVersion) (p : Accepting) → Det p.profile.methods p.profile.top → (old new : Sending) (from to : Receiving) (es : List lines.Event) (octets : List ℕ) (before found items : Found) → old ≡ record { accepted = p; contexts = no_entries v } →
+    from ≡ record { accepted = p; contexts = no_entries v; rest = []; fault = None } → ArePut old new es [] octets → Hears from to octets found → before ≡ [] → items ≡ before ++ found → IsRun p v es octets items
+is_run v p d old new from to es octets before found items starts begins puts hears none items_are =
+    let line : Line p (no_entries v) es puts.packets new.contexts = subst (λ (o : Sending). Line o.accepted o.contexts es puts.packets new.contexts) starts puts.line in
+    let heard : Heard p (no_entries v) octets found to.rest to.contexts = subst (λ (r : Receiving). Heard r.accepted r.contexts (r.rest ++ octets) found to.rest to.contexts) begins hears.heard in
+    let whole : Heard p (no_entries v) (octets_of puts.packets) (items_sent es) [] new.contexts = line_is_heard p (no_entries v) new.contexts es puts.packets line in
+    let known : Heard p (no_entries v) (octets_of puts.packets) found to.rest to.contexts = subst (λ o. Heard p (no_entries v) o found to.rest to.contexts) puts.after_is heard in
+    let same = heard_once p d (no_entries v) to.contexts new.contexts (octets_of puts.packets) to.rest [] found (items_sent es) known whole in
     record { packets = puts.packets; contexts = new.contexts; line = line; octets_are = puts.after_is; items_are = items_are ∙ ap (λ z. z ++ found) none ∙ same.items }
 
 -- no fault but want of memory comes
-pub no_line_fault : (p : Accepting) → Det p.profile.methods p.profile.top → (old new : Sending) (from to : Receiving) (es : List lines.Event) (octets : List ℕ) (found : Found) (e : LineFault) → old ≡ record { accepted = p; contexts = no_entries } →
-    from ≡ record { accepted = p; contexts = no_entries; rest = []; fault = None } → ArePut old new es [] octets → Fails from to octets found e → e ≡ OutOfMemory
-no_line_fault p d old new from to es octets found e starts begins puts fails =
-    let line : Line p no_entries es puts.packets new.contexts = subst (λ (o : Sending). Line o.accepted o.contexts es puts.packets new.contexts) starts puts.line in
-    let whole : Heard p no_entries (octets_of puts.packets) (items_sent es) [] new.contexts = line_is_heard p no_entries new.contexts es puts.packets line in
-    let stops : Stops (record { accepted = p; contexts = no_entries; rest = []; fault = None }) octets found e = subst (λ (r : Receiving). FailsIn r.fault r octets found e) begins fails.comes in
-    no_fault p d no_entries new.contexts stops.contexts (octets_of puts.packets) stops.before stops.rest stops.after stops.octet (items_sent es) found e whole (sym puts.after_is ∙ stops.piece_is) stops.heard stops.blames
+pub no_line_fault : (v : LineVersion) (p : Accepting) → Det p.profile.methods p.profile.top → (old new : Sending) (from to : Receiving) (es : List lines.Event) (octets : List ℕ) (found : Found) (e : LineFault) → old ≡ record { accepted = p; contexts = no_entries v } →
+    from ≡ record { accepted = p; contexts = no_entries v; rest = []; fault = None } → ArePut old new es [] octets → Fails from to octets found e → e ≡ OutOfMemory
+no_line_fault v p d old new from to es octets found e starts begins puts fails =
+    let line : Line p (no_entries v) es puts.packets new.contexts = subst (λ (o : Sending). Line o.accepted o.contexts es puts.packets new.contexts) starts puts.line in
+    let whole : Heard p (no_entries v) (octets_of puts.packets) (items_sent es) [] new.contexts = line_is_heard p (no_entries v) new.contexts es puts.packets line in
+    let stops : Stops (record { accepted = p; contexts = no_entries v; rest = []; fault = None }) octets found e = subst (λ (r : Receiving). FailsIn r.fault r octets found e) begins fails.comes in
+    no_fault p d (no_entries v) new.contexts stops.contexts (octets_of puts.packets) stops.before stops.rest stops.after stops.octet (items_sent es) found e whole (sym puts.after_is ∙ stops.piece_is) stops.heard stops.blames
 
 -- nothing is left at the end
-pub no_end : (p : Accepting) → Det p.profile.methods p.profile.top → (old new : Sending) (from to : Receiving) (es : List lines.Event) (octets : List ℕ) (found : Found) (e : LineFault) → old ≡ record { accepted = p; contexts = no_entries } →
-    from ≡ record { accepted = p; contexts = no_entries; rest = []; fault = None } → ArePut old new es [] octets → Hears from to octets found → end_of to.fault to.rest ≡ Some e → ⊥
-no_end p d old new from to es octets found e starts begins puts hears ends =
-    let line : Line p no_entries es puts.packets new.contexts = subst (λ (o : Sending). Line o.accepted o.contexts es puts.packets new.contexts) starts puts.line in
-    let heard : Heard p no_entries octets found to.rest to.contexts = subst (λ (r : Receiving). Heard r.accepted r.contexts (r.rest ++ octets) found to.rest to.contexts) begins hears.heard in
-    let whole : Heard p no_entries (octets_of puts.packets) (items_sent es) [] new.contexts = line_is_heard p no_entries new.contexts es puts.packets line in
-    let known : Heard p no_entries (octets_of puts.packets) found to.rest to.contexts = subst (λ o. Heard p no_entries o found to.rest to.contexts) puts.after_is heard in
-    let same = heard_once p d no_entries to.contexts new.contexts (octets_of puts.packets) to.rest [] found (items_sent es) known whole in
+pub no_end : (v : LineVersion) (p : Accepting) → Det p.profile.methods p.profile.top → (old new : Sending) (from to : Receiving) (es : List lines.Event) (octets : List ℕ) (found : Found) (e : LineFault) → old ≡ record { accepted = p; contexts = no_entries v } →
+    from ≡ record { accepted = p; contexts = no_entries v; rest = []; fault = None } → ArePut old new es [] octets → Hears from to octets found → end_of to.fault to.rest ≡ Some e → ⊥
+no_end v p d old new from to es octets found e starts begins puts hears ends =
+    let line : Line p (no_entries v) es puts.packets new.contexts = subst (λ (o : Sending). Line o.accepted o.contexts es puts.packets new.contexts) starts puts.line in
+    let heard : Heard p (no_entries v) octets found to.rest to.contexts = subst (λ (r : Receiving). Heard r.accepted r.contexts (r.rest ++ octets) found to.rest to.contexts) begins hears.heard in
+    let whole : Heard p (no_entries v) (octets_of puts.packets) (items_sent es) [] new.contexts = line_is_heard p (no_entries v) new.contexts es puts.packets line in
+    let known : Heard p (no_entries v) (octets_of puts.packets) found to.rest to.contexts = subst (λ o. Heard p (no_entries v) o found to.rest to.contexts) puts.after_is heard in
+    let same = heard_once p d (no_entries v) to.contexts new.contexts (octets_of puts.packets) to.rest [] found (items_sent es) known whole in
     let never : end_of None [] ≡ Some e = ap (λ r. end_of None r) (sym same.rests) ∙ ap (λ f. end_of f to.rest) (sym hears.well) ∙ ends in
     cc
 
 -- ---- the event that is refused
 
-unsent_at : (old : Sending) (mid : Sending) (flow : ℕ) (it : Item) (fault : PackFault) → mid.accepted ≡ old.accepted → IsUnsent mid flow it fault → IsUnsent (record { accepted = old.accepted; contexts = mid.contexts }) flow it fault
-unsent_at old mid flow it fault same u = record { ctx = u.ctx; context_is = u.context_is; blames = subst (λ p. writing.Blames fault p u.ctx it) same u.blames }
+not_put_at : (p : Accepting) (mid : Sending) (e : lines.Event) (fault : PackFault) → mid.accepted ≡ p → IsNotPut mid e fault → IsNotPut (record { accepted = p; contexts = mid.contexts }) e fault
+not_put_at p mid e _ same (no_flow beyond) = no_flow beyond
+not_put_at p mid e fault same (blamed ctx at says) = blamed ctx at (subst (λ a. BlamesAct fault a ctx e.act) same says)
 
-stopped_at : (old mid : Sending) (es : List lines.Event) (n flow : ℕ) (it : Item) (before here : List ℕ) (fault : PackFault) → ArePut old mid (take n es) before here →
-    slice_get es n ≡ Some (record { flow = flow; act = Send it }) → IsUnsent mid flow it fault → IsStopped old.accepted old.contexts es n fault
-stopped_at old mid es n flow it before here fault puts event_is u =
-    record { packets = puts.packets; contexts = mid.contexts; flow = flow; item = it; line = puts.line; event_is = event_is; unsent = unsent_at old mid flow it fault puts.accepted_is u }
+stopped_at : (old mid : Sending) (es : List lines.Event) (n : ℕ) (e : lines.Event) (before here : List ℕ) (fault : PackFault) → ArePut old mid (take n es) before here → slice_get es n ≡ Some e → IsNotPut mid e fault →
+    IsStopped old.accepted old.contexts es n fault
+stopped_at old mid es n e before here fault puts event_is u =
+    record { packets = puts.packets; contexts = mid.contexts; at = e; line = puts.line; event_is = event_is; not_put = not_put_at old.accepted mid e fault puts.accepted_is u }
 
 pub blames_run : (old mid : Sending) (events : List Event) (i : ℕ) (e : Event) (before here : List ℕ) (fault : PackFault) → i < length events → e ≡ get_or events i e → ArePut old mid (map event_of (take i events)) before here →
-    BlamesEvent fault mid e → BlamesRun (run_fault i fault) old.accepted old.contexts (map event_of events)
-blames_run old mid events i e before here fault within is puts b = by e fault is b
+    IsNotPut mid (event_of e) fault → BlamesRun (run_fault i fault) old.accepted old.contexts (map event_of events)
+blames_run old mid events i e before here fault within is puts u = by fault u
   where
     so_far : ArePut old mid (take i (map event_of events)) before here
     so_far = subst (λ l. ArePut old mid l before here) (sym (take-map event_of i events)) puts
 
-    at : (x : Event) → x ≡ get_or events i x → slice_get (map event_of events) i ≡ Some (event_of x)
-    at x same = slice_get-map event_of events i ∙ ap (option_map event_of) (slice_get-get_or events i x within ∙ ap Some (sym same))
+    at : slice_get (map event_of events) i ≡ Some (event_of e)
+    at = slice_get-map event_of events i ∙ ap (option_map event_of) (slice_get-get_or events i e within ∙ ap Some (sym is))
 
-    by : (x : Event) (f : PackFault) → x ≡ get_or events i x → BlamesEvent f mid x → BlamesRun (run_fault i f) old.accepted old.contexts (map event_of events)
-    by (event.Send flow it) HeaderLength same u = stopped_at old mid (map event_of events) i flow it before here HeaderLength so_far (at (event.Send flow it) same) u
-    by (event.Send flow it) (Asked name) same u = stopped_at old mid (map event_of events) i flow it before here (Asked name) so_far (at (event.Send flow it) same) u
-    by (event.Send flow it) NoFormat same u = stopped_at old mid (map event_of events) i flow it before here NoFormat so_far (at (event.Send flow it) same) u
-    by (event.Send flow it) pack.OutOfMemory same u = tt
-    by (event.Reset flow) HeaderLength same u = absurd (cc)
-    by (event.Reset flow) (Asked name) same u = absurd (cc)
-    by (event.Reset flow) NoFormat same u = absurd (cc)
-    by (event.Reset flow) pack.OutOfMemory same u = tt
+    stopped : (f : PackFault) → IsNotPut mid (event_of e) f → IsStopped old.accepted old.contexts (map event_of events) i f
+    stopped f v = stopped_at old mid (map event_of events) i (event_of e) before here f so_far at v
+
+    by : (f : PackFault) → IsNotPut mid (event_of e) f → BlamesRun (run_fault i f) old.accepted old.contexts (map event_of events)
+    by HeaderLength v = stopped HeaderLength v
+    by (Asked name) v = stopped (Asked name) v
+    by NoFormat v = stopped NoFormat v
+    by Flow v = stopped Flow v
+    by pack.OutOfMemory v = tt
 
 -- ---- all octets
 
-whole_is : (p : Accepting) (octets : List ℕ) (items : Found) (e : LineFault) (w : IsWhole p octets items (Some e)) (rest : List ℕ) → end_of None rest ≡ Some e → IsReceived p octets items (Some e)
-whole_is p octets items Ended w rest h = w
-whole_is p octets items FlowOctet w [] h = absurd (cc)
-whole_is p octets items FlowOctet w (x ∷ rest) h = absurd (cc)
-whole_is p octets items RefusedPacket w [] h = absurd (cc)
-whole_is p octets items RefusedPacket w (x ∷ rest) h = absurd (cc)
-whole_is p octets items Padding w [] h = absurd (cc)
-whole_is p octets items Padding w (x ∷ rest) h = absurd (cc)
-whole_is p octets items OutOfMemory w [] h = absurd (cc)
-whole_is p octets items OutOfMemory w (x ∷ rest) h = absurd (cc)
+whole_is : (v : LineVersion) (p : Accepting) (octets : List ℕ) (items : Found) (e : LineFault) (w : IsWhole p v octets items (Some e)) (rest : List ℕ) → end_of None rest ≡ Some e → IsReceived p v octets items (Some e)
+whole_is v p octets items Ended w rest h = w
+whole_is v p octets items FlowOctet w [] h = absurd (cc)
+whole_is v p octets items FlowOctet w (x ∷ rest) h = absurd (cc)
+whole_is v p octets items RefusedPacket w [] h = absurd (cc)
+whole_is v p octets items RefusedPacket w (x ∷ rest) h = absurd (cc)
+whole_is v p octets items Padding w [] h = absurd (cc)
+whole_is v p octets items Padding w (x ∷ rest) h = absurd (cc)
+whole_is v p octets items OutOfMemory w [] h = absurd (cc)
+whole_is v p octets items OutOfMemory w (x ∷ rest) h = absurd (cc)
 
 -- a new receiver heard all octets
-pub received : (p : Accepting) (from to : Receiving) (octets : List ℕ) (before found items : Found) (o : Option LineFault) → from ≡ record { accepted = p; contexts = no_entries; rest = []; fault = None } → Hears from to octets found →
-    before ≡ [] → items ≡ before ++ found → end_of to.fault to.rest ≡ o → IsReceived p octets items o
-received p from to octets before found items o begins hears none items_are ends = by o ends
+pub received : (v : LineVersion) (p : Accepting) (from to : Receiving) (octets : List ℕ) (before found items : Found) (o : Option LineFault) → from ≡ record { accepted = p; contexts = no_entries v; rest = []; fault = None } → Hears from to octets found →
+    before ≡ [] → items ≡ before ++ found → end_of to.fault to.rest ≡ o → IsReceived p v octets items o
+received v p from to octets before found items o begins hears none items_are ends = by o ends
   where
-    heard : Heard p no_entries octets items to.rest to.contexts
+    heard : Heard p (no_entries v) octets items to.rest to.contexts
     heard =
-        subst (λ f. Heard p no_entries octets f to.rest to.contexts) (sym (items_are ∙ ap (λ z. z ++ found) none))
+        subst (λ f. Heard p (no_entries v) octets f to.rest to.contexts) (sym (items_are ∙ ap (λ z. z ++ found) none))
         (subst (λ (r : Receiving). Heard r.accepted r.contexts (r.rest ++ octets) found to.rest to.contexts) begins hears.heard)
 
-    by : (q : Option LineFault) → end_of to.fault to.rest ≡ q → IsReceived p octets items q
+    by : (q : Option LineFault) → end_of to.fault to.rest ≡ q → IsReceived p v octets items q
     by None h = record { rest = to.rest; contexts = to.contexts; heard = heard; end_is = ap (λ f. end_of f to.rest) (sym hears.well) ∙ h }
     by (Some e) h =
         let end_is : end_of None to.rest ≡ Some e = ap (λ f. end_of f to.rest) (sym hears.well) ∙ h in
-        whole_is p octets items e (record { rest = to.rest; contexts = to.contexts; heard = heard; end_is = end_is }) to.rest end_is
+        whole_is v p octets items e (record { rest = to.rest; contexts = to.contexts; heard = heard; end_is = end_is }) to.rest end_is
 
-cut_is : (p : Accepting) (octets : List ℕ) (found items : Found) (e : LineFault) → Stops (record { accepted = p; contexts = no_entries; rest = []; fault = None }) octets found e → items ≡ found → IsCut p octets items e
-cut_is p octets found items e s same = record {
+cut_is : (v : LineVersion) (p : Accepting) (octets : List ℕ) (found items : Found) (e : LineFault) → Stops (record { accepted = p; contexts = no_entries v; rest = []; fault = None }) octets found e → items ≡ found → IsCut p v octets items e
+cut_is v p octets found items e s same = record {
   before = s.before;
   octet = s.octet;
   after = s.after;
   rest = s.rest;
   contexts = s.contexts;
   octets_are = s.piece_is;
-  heard = subst (λ f. Heard p no_entries s.before f s.rest s.contexts) (sym same) s.heard;
+  heard = subst (λ f. Heard p (no_entries v) s.before f s.rest s.contexts) (sym same) s.heard;
   blames = s.blames;
 }
 
 -- a fault came
-pub received_fault : (p : Accepting) (from to : Receiving) (octets : List ℕ) (before found items : Found) (e : LineFault) → from ≡ record { accepted = p; contexts = no_entries; rest = []; fault = None } → Fails from to octets found e →
-    before ≡ [] → items ≡ before ++ found → (e ≡ OutOfMemory → ⊥) → IsReceived p octets items (Some e)
-received_fault p from to octets before found items e begins fails none items_are other = by e stops other
+pub received_fault : (v : LineVersion) (p : Accepting) (from to : Receiving) (octets : List ℕ) (before found items : Found) (e : LineFault) → from ≡ record { accepted = p; contexts = no_entries v; rest = []; fault = None } → Fails from to octets found e →
+    before ≡ [] → items ≡ before ++ found → (e ≡ OutOfMemory → ⊥) → IsReceived p v octets items (Some e)
+received_fault v p from to octets before found items e begins fails none items_are other = by e stops other
   where
-    stops : Stops (record { accepted = p; contexts = no_entries; rest = []; fault = None }) octets found e
+    stops : Stops (record { accepted = p; contexts = no_entries v; rest = []; fault = None }) octets found e
     stops = subst (λ (r : Receiving). FailsIn r.fault r octets found e) begins fails.comes
 
     same : items ≡ found
     same = items_are ∙ ap (λ z. z ++ found) none
 
-    by : (x : LineFault) → Stops (record { accepted = p; contexts = no_entries; rest = []; fault = None }) octets found x → (x ≡ OutOfMemory → ⊥) → IsReceived p octets items (Some x)
-    by FlowOctet s n = cut_is p octets found items FlowOctet s same
-    by RefusedPacket s n = cut_is p octets found items RefusedPacket s same
-    by Padding s n = cut_is p octets found items Padding s same
+    by : (x : LineFault) → Stops (record { accepted = p; contexts = no_entries v; rest = []; fault = None }) octets found x → (x ≡ OutOfMemory → ⊥) → IsReceived p v octets items (Some x)
+    by FlowOctet s n = cut_is v p octets found items FlowOctet s same
+    by RefusedPacket s n = cut_is v p octets found items RefusedPacket s same
+    by Padding s n = cut_is v p octets found items Padding s same
     by Ended s n = absurd s.blames
     by OutOfMemory s n = absurd (n refl)
 

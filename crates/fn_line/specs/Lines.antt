@@ -9,18 +9,25 @@ use Rattle.fn_filling.specs.Fillings.{packed}
 use Rattle.fn_filling.specs.Entries.{next}
 use Rattle.fn_best.specs.Best.{Best}
 use Rattle.fn_checker.specs.Accepted.{Accepting}
+use Rattle.fn_line.specs.declared.flow.LineVersion.{LineVersion}
+use Rattle.fn_line.specs.declared.flow.LineVersion.TheVariants.{One, Two}
 
--- how many flows a line has
-abbrev pub flow_count : ℕ
-flow_count = 16
+-- how many flows a line of a version has
+abbrev pub flows_of : LineVersion → ℕ
+flows_of One = 16
+flows_of Two = 64
+
+-- the number of a flow is below this, on any line
+abbrev pub flow_limit : ℕ
+flow_limit = 64
 
 -- the contexts of a line's flows, each at its flow's number; there are as many as the line has flows
 abbrev pub Contexts : Type 0
 Contexts = List Entries
 
 -- those of a new line
-abbrev pub no_entries : Contexts
-no_entries = replicate flow_count []
+abbrev pub no_entries : LineVersion → Contexts
+no_entries version = replicate (flows_of version) []
 
 -- the octet of a reset on a line of so many flows: above those of the flows
 abbrev pub reset_octet : ℕ → ℕ → ℕ

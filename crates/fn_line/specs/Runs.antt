@@ -1,6 +1,5 @@
 -- Whole runs of a line: a list of events, and all octets of one.
 use Rattle.std.specs.Prelude.{◌≡◌, ℕ, List, ◌∷◌, ◌++◌, take, slice_get, Option, Some, None}
-use Rattle.fn_filling.specs.declared.filling.Item.{Item}
 use Rattle.fn_checker.specs.Accepted.{Accepting}
 use Rattle.fn_engine.specs.declared.writer.PackFault.{PackFault}
 use Rattle.fn_engine.specs.declared.writer.PackFault.TheVariants as pack
@@ -9,8 +8,9 @@ use Rattle.fn_line.specs.Lines as lines
 use Rattle.fn_line.specs.Lines.Act.{Send, Reset}
 use Rattle.fn_line.specs.Hearing.{Found, Heard, BlamesOctet}
 use Rattle.fn_line.specs.Laws.{items_sent}
-use Rattle.fn_line.specs.States.{Sending, IsUnsent, end_of}
+use Rattle.fn_line.specs.States.{Sending, IsNotPut, end_of}
 use Rattle.fn_line.specs.declared.fault.LineFault.{LineFault}
+use Rattle.fn_line.specs.declared.flow.LineVersion.{LineVersion}
 use Rattle.fn_line.specs.declared.fault.LineFault.TheVariants.{Ended}
 use Rattle.fn_line.specs.declared.fault.LineFault.TheVariants as line
 use Rattle.fn_line.specs.declared.runs.Event.{Event}
@@ -29,20 +29,14 @@ pub record ArePut (old new : Sending) (es : List lines.Event) (before after : Li
   pub line : Line old.accepted old.contexts es packets new.contexts
   pub after_is : after ≡ before ++ octets_of packets
 
--- The events before this one were put on the line, and it is a send that `pack` refuses in the flow's context.
+-- The events before this one were put on the line, and it is refused.
 pub record IsStopped (p : Accepting) (s : Contexts) (es : List lines.Event) (n : ℕ) (fault : PackFault) : Type 0 where
   pub packets : List Packet
   pub contexts : Contexts
-  pub flow : ℕ
-  pub item : Item
+  pub at : lines.Event
   pub line : Line p s (take n es) packets contexts
-  pub event_is : slice_get es n ≡ Some (record { flow = flow; act = Send item })
-  pub unsent : IsUnsent (record { accepted = p; contexts = contexts }) flow item fault
-
--- what a refusal says of an event at a sender; a reset is refused only for want of memory
-abbrev pub BlamesEvent : PackFault → Sending → Event → Type 0
-BlamesEvent fault s (event.Send flow it) = IsUnsent s flow it fault
-BlamesEvent fault s (event.Reset flow) = fault ≡ pack.OutOfMemory
+  pub event_is : slice_get es n ≡ Some at
+  pub not_put : IsNotPut (record { accepted = p; contexts = contexts }) at fault
 
 -- the fault of a run whose event at the index is refused
 abbrev pub run_fault : ℕ → PackFault → RunFault
@@ -54,35 +48,35 @@ abbrev pub BlamesRun : RunFault → Accepting → Contexts → List lines.Event 
 BlamesRun (Refused n fault) p s es = IsStopped p s es n fault
 BlamesRun OutOfMemory p s es = Unit {0}
 
--- From empty contexts the octets are a line of the events, and the items are those that were sent.
-pub record IsRun (p : Accepting) (es : List lines.Event) (octets : List ℕ) (items : Found) : Type 0 where
+-- On a new line of a version the octets are a line of the events, and the items are those that were sent.
+pub record IsRun (p : Accepting) (version : LineVersion) (es : List lines.Event) (octets : List ℕ) (items : Found) : Type 0 where
   pub packets : List Packet
   pub contexts : Contexts
-  pub line : Line p no_entries es packets contexts
+  pub line : Line p (no_entries version) es packets contexts
   pub octets_are : octets ≡ octets_of packets
   pub items_are : items ≡ items_sent es
 
 -- The items are those that are heard of all octets, from empty contexts; what is left is the rest.
-pub record IsWhole (p : Accepting) (octets : List ℕ) (items : Found) (fault : Option LineFault) : Type 0 where
+pub record IsWhole (p : Accepting) (version : LineVersion) (octets : List ℕ) (items : Found) (fault : Option LineFault) : Type 0 where
   pub rest : List ℕ
   pub contexts : Contexts
-  pub heard : Heard p no_entries octets items rest contexts
+  pub heard : Heard p (no_entries version) octets items rest contexts
   pub end_is : end_of None rest ≡ fault
 
 -- The items are those that are heard of the octets before one, and the fault comes at that octet.
-pub record IsCut (p : Accepting) (octets : List ℕ) (items : Found) (e : LineFault) : Type 0 where
+pub record IsCut (p : Accepting) (version : LineVersion) (octets : List ℕ) (items : Found) (e : LineFault) : Type 0 where
   pub before : List ℕ
   pub octet : ℕ
   pub after : List ℕ
   pub rest : List ℕ
   pub contexts : Contexts
   pub octets_are : octets ≡ before ++ octet ∷ after
-  pub heard : Heard p no_entries before items rest contexts
+  pub heard : Heard p (no_entries version) before items rest contexts
   pub blames : BlamesOctet e p contexts rest octet
 
--- What is received of octets: all of them, and then that they end inside a packet if they do; or those before a fault.
-abbrev pub IsReceived : Accepting → List ℕ → Found → Option LineFault → Type 0
-IsReceived p octets items None = IsWhole p octets items None
-IsReceived p octets items (Some Ended) = IsWhole p octets items (Some Ended)
-IsReceived p octets items (Some line.OutOfMemory) = ⊥
-IsReceived p octets items (Some e) = IsCut p octets items e
+-- What is received of octets on a new line of a version: all of them, and then that they end inside a packet if they do; or those before a fault.
+abbrev pub IsReceived : Accepting → LineVersion → List ℕ → Found → Option LineFault → Type 0
+IsReceived p version octets items None = IsWhole p version octets items None
+IsReceived p version octets items (Some Ended) = IsWhole p version octets items (Some Ended)
+IsReceived p version octets items (Some line.OutOfMemory) = ⊥
+IsReceived p version octets items (Some e) = IsCut p version octets items e

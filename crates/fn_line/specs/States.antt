@@ -1,11 +1,13 @@
 -- What senders and receivers keep, and what a call does to it.
-use Rattle.std.specs.Prelude.{◌≡◌, ℕ, List, [], ◌∷◌, ◌++◌, slice_get, Option, Some, None}
+use Rattle.std.specs.Prelude.{◌≡◌, ℕ, List, [], ◌∷◌, ◌++◌, ◌≤◌, length, slice_get, Option, Some, None}
 use Rattle.fn_context.specs.Entries.{Entries}
 use Rattle.fn_filling.specs.declared.filling.Item.{Item}
 use Rattle.fn_checker.specs.Accepted.{Accepting}
 use Rattle.fn_engine.specs.declared.writer.PackFault.{PackFault}
+use Rattle.fn_engine.specs.declared.writer.PackFault.TheVariants as pack
 use Rattle.fn_engine.specs.Writing as writing
-use Rattle.fn_line.specs.Lines.{Contexts, Event, Packet, Line}
+use Rattle.fn_line.specs.Lines.{Contexts, Act, Event, Packet, Line}
+use Rattle.fn_line.specs.Lines.Act.{Send, Reset}
 use Rattle.fn_line.specs.Hearing.{Found, Heard, BlamesOctet}
 use Rattle.fn_line.specs.declared.fault.LineFault.{LineFault}
 use Rattle.fn_line.specs.declared.fault.LineFault.TheVariants.{Ended}
@@ -29,11 +31,15 @@ pub record IsPut (old new : Sending) (e : Event) (octets : List ℕ) : Type 0 wh
   pub line : Line old.accepted old.contexts (e ∷ []) (packet ∷ []) new.contexts
   pub octets_are : octets ≡ packet.octets
 
--- The item was not put on the line: the fault is that of `pack` in the flow's context.
-pub record IsUnsent (old : Sending) (flow : ℕ) (it : Item) (e : PackFault) : Type 0 where
-  pub ctx : Entries
-  pub context_is : slice_get old.contexts flow ≡ Some ctx
-  pub blames : writing.Blames e old.accepted ctx it
+-- what a fault says of an act in a flow's context: of a send what `pack` says, of a reset that memory ran out
+abbrev pub BlamesAct : PackFault → Accepting → Entries → Act → Type 0
+BlamesAct fault p ctx (Send it) = writing.Blames fault p ctx it
+BlamesAct fault p ctx Reset = fault ≡ pack.OutOfMemory
+
+-- An event was not put on the line: the line has no such flow; or it has, and the fault is one of the act in the flow's context.
+pub data IsNotPut (old : Sending) (e : Event) : PackFault → Type 0 where
+  no_flow : length old.contexts ≤ e.flow → IsNotPut old e pack.Flow
+  blamed : {fault : PackFault} (ctx : Entries) → slice_get old.contexts e.flow ≡ Some ctx → BlamesAct fault old.accepted ctx e.act → IsNotPut old e fault
 
 -- The piece was heard after the rest, and gave these items.
 pub record Hears (old new : Receiving) (piece : List ℕ) (found : Found) : Type 0 where

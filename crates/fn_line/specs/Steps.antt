@@ -8,18 +8,18 @@ use Rattle.fn_filling.specs.Fillings.{packed, item}
 use Rattle.fn_filling.specs.Entries.{next}
 use Rattle.fn_checker.specs.Accepted.{Accepting}
 use Rattle.fn_engine.specs.Reading.{Fitting, Fronts}
-use Rattle.fn_line.specs.Lines.{Contexts, IsBest, flow_count, reset_octet}
+use Rattle.fn_line.specs.Lines.{Contexts, IsBest, reset_octet}
 use Rattle.fn_line.specs.Hearing.{Found, NoFront, IsPart, Heard, IsRefused, IsBadlyFilled}
 use Rattle.fn_line.specs.declared.flow.Start.{Start}
 use Rattle.fn_line.specs.declared.flow.Start.TheVariants as start
 use Rattle.fn_line.specs.declared.fault.LineFault.{LineFault}
 use Rattle.fn_line.specs.declared.fault.LineFault.TheVariants.{FlowOctet, RefusedPacket, Padding, Ended, OutOfMemory}
 
--- what begins with an octet in a flow's place
-abbrev pub Starts : ℕ → Option Start → Type 0
-Starts octet (Some (start.Packet flow)) = (octet ≡ flow) × (flow < flow_count)
-Starts octet (Some (start.Reset flow)) = (octet ≡ reset_octet flow_count flow) × (flow < flow_count)
-Starts octet None = reset_octet flow_count flow_count ≤ octet
+-- what begins with an octet in a flow's place, on a line of so many flows
+abbrev pub Starts : ℕ → ℕ → Option Start → Type 0
+Starts flows octet (Some (start.Packet flow)) = (octet ≡ flow) × (flow < flows)
+Starts flows octet (Some (start.Reset flow)) = (octet ≡ reset_octet flows flow) × (flow < flows)
+Starts flows octet None = reset_octet flows flows ≤ octet
 
 -- before the last of the octets no filling was at their front
 abbrev pub IsFresh : Accepting → Entries → List ℕ → Type 0

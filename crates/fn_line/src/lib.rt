@@ -1,8 +1,8 @@
-//! Sixteen flows on one line: packets of several flows, each with a context of its own at both ends.
+//! Several flows on one line, 16 or 64 by the line's version: each has a context of its own at both ends.
 #![tactic(auto)]
 
 pub use fault::LineFault;
-pub use flow::Flow;
+pub use flow::{Flow, LineVersion};
 pub use receiver::Receiver;
 pub use runs::{Event, Received, RunFault, Sent, receive, run};
 pub use sender::Sender;

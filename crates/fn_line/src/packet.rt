@@ -1,9 +1,9 @@
 //! One packet of one flow, as its octets come.
 
-ghost use Rattle.std.specs.Prelude.{◌≡◌, ◌↔◌, ◌<◌, ◌++◌, false, length, replicate, drop, IsTrue, IfOk, IfErr, OnOk};
+ghost use Rattle.std.specs.Prelude.{◌≡◌, ◌↔◌, ◌<◌, ◌≤◌, ◌++◌, false, length, replicate, drop, IsTrue, IfOk, IfErr, OnOk};
 ghost use Rattle.fn_line.specs.Hearing.{Found};
 ghost use Rattle.fn_line.specs.Steps.{IsFresh, IsNew, IsTried, IsHeard, BlamesPacket, BlamesBegun};
-ghost use Rattle.fn_line.specs.Lines.{flow_count};
+ghost use Rattle.fn_line.specs.Lines.{flow_limit};
 
 use crate::fault::LineFault;
 use crate::flow::{Flow, Start, start_of};
@@ -67,12 +67,12 @@ pub(crate) fn hear(
 ) -> Result<(), LineFault>
     requires some { 0 < length begun.old }
     requires new { IsNew accepted.now contexts.old.items begun.old }
-    requires flows { length contexts.old.items ≡ flow_count }
+    requires flows { length contexts.old.items ≤ flow_limit }
     ensures ok { OnOk result ((found : Found) × (out.new.items ≡ out.old.items ++ found) × IsHeard accepted.now contexts.old.items contexts.new.items begun.old begun.new found) }
-    ensures flows { length contexts.new.items ≡ flow_count }
+    ensures flows { length contexts.new.items ≡ length contexts.old.items }
     ensures err { IfErr result (λ e. (out.new.items ≡ out.old.items) × BlamesBegun e accepted.now contexts.old.items begun.old) }
 {
-    let Some(start) = start_of(begun.first()) else {
+    let Some(start) = start_of(contexts.len() as u8, begun.first()) else {
         return Err(LineFault::FlowOctet);
     };
     match start {

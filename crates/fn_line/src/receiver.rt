@@ -2,12 +2,12 @@
 
 ghost use Rattle.std.specs.Prelude.{◌≡◌, ◌<◌, ◌≤◌, ◌^◌, ℕ, List, [], ◌∷◌, ◌++◌, length, replicate, Option, Some, None, IfOk, IfErr, OnOk, MatchResult};
 ghost use Rattle.fn_line.specs.Hearing.{Found, IsPart, BlamesOctet};
-ghost use Rattle.fn_line.specs.Lines.{flow_count, no_entries};
+ghost use Rattle.fn_line.specs.Lines.{flow_limit, no_entries};
 ghost use Rattle.fn_line.specs.States.{Hears, Fails, FailsAt, end_of};
 ghost use Rattle.fn_line.specs.Steps.{IsHeard};
 
 use crate::fault::LineFault;
-use crate::flow::{Flow, no_contexts};
+use crate::flow::{Flow, LineVersion, no_contexts};
 use crate::packet::hear;
 use crate::unfinished::Unfinished;
 use fn_checker::Accepted;
@@ -29,7 +29,7 @@ pub struct Receiver<'a> {
 impl<'a> Model for Receiver<'a> {
     ghost use Rattle.std.specs.Prelude.{◌≡◌, ◌≤◌, ◌^◌, length};
     ghost use Rattle.fn_line.specs.Hearing.{IsPart};
-    ghost use Rattle.fn_line.specs.Lines.{flow_count};
+    ghost use Rattle.fn_line.specs.Lines.{flow_limit};
     ghost use Rattle.fn_line.specs.States.{Receiving};
     ghost use Rattle.fn_expr.specs.contracts.expr.Expr as expr;
     ghost use Rattle.fn_expr.specs.contracts.expr.Cond as cond;
@@ -41,18 +41,22 @@ impl<'a> Model for Receiver<'a> {
 
     ghost view = { λ r. record { accepted = r.accepted.now; contexts = r.contexts.items; rest = r.rest; fault = r.fault } };
 
-    ghost invariant = { λ r. (length r.contexts.items ≡ flow_count) × (length r.rest ≤ 2 ^ 20) × IsPart r.accepted.now r.contexts.items r.rest };
+    ghost invariant = { λ r. (length r.contexts.items ≤ flow_limit) × (length r.rest ≤ 2 ^ 20) × IsPart r.accepted.now r.contexts.items r.rest };
 }
 
 impl<'a> Receiver<'a> {
     /// All contexts are empty, and nothing was heard.
-    pub fn new(alloc: Global, accepted: &'a Accepted) -> Result<Receiver<'a>, AllocError>
-        ensures { IfOk result (λ r. r ≡ record { accepted = accepted.now; contexts = no_entries; rest = []; fault = None }) }
+    pub fn new(
+        alloc: Global,
+        accepted: &'a Accepted,
+        version: LineVersion,
+    ) -> Result<Receiver<'a>, AllocError>
+        ensures { IfOk result (λ r. r ≡ record { accepted = accepted.now; contexts = no_entries version; rest = []; fault = None }) }
     {
         Ok(Receiver {
             alloc,
             accepted,
-            contexts: no_contexts(alloc)?,
+            contexts: no_contexts(alloc, version)?,
             rest: Unfinished::new(alloc),
             fault: None,
         })
@@ -124,9 +128,9 @@ fn hear_octet(
 ) -> Result<(), LineFault>
     requires few { length rest.old ≤ 2 ^ 20 }
     requires part { IsPart accepted.now contexts.old.items rest.old }
-    requires flows { length contexts.old.items ≡ flow_count }
+    requires flows { length contexts.old.items ≤ flow_limit }
     ensures ok { OnOk result ((found : Found) × (out.new.items ≡ out.old.items ++ found) × IsHeard accepted.now contexts.old.items contexts.new.items (rest.old ++ octet ∷ []) rest.new found) }
-    ensures flows { length contexts.new.items ≡ flow_count }
+    ensures flows { length contexts.new.items ≡ length contexts.old.items }
     ensures err { IfErr result (λ e. (out.new.items ≡ out.old.items) × BlamesOctet e accepted.now contexts.old.items rest.old octet) }
 {
     rest.push(alloc, octet)?;

@@ -2,11 +2,11 @@
 
 ghost use Rattle.std.specs.Prelude.{◌≡◌, ◌++◌, ℕ, List, map, IfOk, IfErr, OnOk};
 ghost use Rattle.fn_line.specs.Lines.{no_entries};
-ghost use Rattle.fn_line.specs.States.{IsPut};
-ghost use Rattle.fn_line.specs.Runs.{event_of, ArePut, IsRun, IsReceived, BlamesRun, BlamesEvent, run_fault};
+ghost use Rattle.fn_line.specs.States.{IsNotPut, IsPut};
+ghost use Rattle.fn_line.specs.Runs.{event_of, ArePut, IsRun, IsReceived, BlamesRun, run_fault};
 
 use crate::fault::LineFault;
-use crate::flow::Flow;
+use crate::flow::{Flow, LineVersion};
 use crate::receiver::Receiver;
 use crate::sender::Sender;
 use fn_checker::Accepted;
@@ -57,14 +57,11 @@ pub struct Received {
 /// Puts one event on the line.
 fn put(sender: &mut Sender<'_>, event: &Event, out: &mut Vec<u8>) -> Result<(), PackFault>
     ensures ok { OnOk result ((octets : List ℕ) × IsPut sender.old sender.new (event_of event.now) octets × (out.new.items ≡ out.old.items ++ octets)) }
-    ensures fault { IfErr result (λ e. BlamesEvent e sender.old event.now) }
+    ensures fault { IfErr result (IsNotPut sender.old (event_of event.now)) }
 {
     match event {
         Event::Send(flow, item) => sender.send(*flow, item, out),
-        Event::Reset(flow) => match sender.reset(*flow, out) {
-            Ok(()) => Ok(()),
-            Err(_) => Err(PackFault::OutOfMemory),
-        },
+        Event::Reset(flow) => sender.reset(*flow, out),
     }
 }
 
@@ -94,19 +91,24 @@ fn refused_at(index: usize, fault: PackFault) -> RunFault
 
 /// The octets of all events on a new line, and the items that a new receiver hears of them. The octets are a line of the events,
 /// and the items are those that were sent. A fault is that of the first event that is refused.
-pub fn run(alloc: Global, accepted: &Accepted, events: &[Event]) -> Result<Sent, RunFault>
-    ensures ok { IfOk result (λ r. IsRun accepted.now (map event_of events.now) r.octets.items r.items.items) }
-    ensures fault { IfErr result (λ e. BlamesRun e accepted.now no_entries (map event_of events.now)) }
+pub fn run(
+    alloc: Global,
+    accepted: &Accepted,
+    version: LineVersion,
+    events: &[Event],
+) -> Result<Sent, RunFault>
+    ensures ok { IfOk result (λ r. IsRun accepted.now version (map event_of events.now) r.octets.items r.items.items) }
+    ensures fault { IfErr result (λ e. BlamesRun e accepted.now (no_entries version) (map event_of events.now)) }
 {
     accepted.determinate();
     let mut octets = Vec::new(alloc);
-    let mut sender = Sender::new(alloc, accepted)?;
+    let mut sender = Sender::new(alloc, accepted, version)?;
     match put_all(&mut sender, events, &mut octets) {
         Ok(()) => {}
         Err(fault) => return Err(fault),
     }
     let mut items = Vec::new(alloc);
-    let mut receiver = Receiver::new(alloc, accepted)?;
+    let mut receiver = Receiver::new(alloc, accepted, version)?;
     match receiver.feed(&octets, &mut items) {
         Ok(()) => match receiver.finish() {
             Ok(()) => Ok(Sent { octets, items }),
@@ -120,11 +122,16 @@ pub fn run(alloc: Global, accepted: &Accepted, events: &[Event]) -> Result<Sent,
 }
 
 /// What a new receiver hears of all octets of a line, and at their end.
-pub fn receive(alloc: Global, accepted: &Accepted, octets: &[u8]) -> Result<Received, AllocError>
-    ensures { IfOk result (λ r. IsReceived accepted.now octets.now r.items.items r.fault) }
+pub fn receive(
+    alloc: Global,
+    accepted: &Accepted,
+    version: LineVersion,
+    octets: &[u8],
+) -> Result<Received, AllocError>
+    ensures { IfOk result (λ r. IsReceived accepted.now version octets.now r.items.items r.fault) }
 {
     let mut items = Vec::new(alloc);
-    let mut receiver = Receiver::new(alloc, accepted)?;
+    let mut receiver = Receiver::new(alloc, accepted, version)?;
     match receiver.feed(octets, &mut items) {
         Ok(()) => match receiver.finish() {
             Ok(()) => Ok(Received { items, fault: None }),

@@ -1,14 +1,15 @@
 //! The sending end of a line.
 
 ghost use Rattle.std.specs.Prelude.{◌≡◌, ◌<◌, ◌≤◌, ◌+◌, ◌/◌, List, ℕ, ◌++◌, length, vec_len, vec_capacity, IfOk, IfErr, OnOk, OnErr};
+ghost use Rattle.std.specs.Option.{SomeIff};
 ghost use Rattle.fn_bits.specs.Octets.{Holds};
 ghost use Rattle.fn_engine.specs.Writing as writing;
 ghost use Rattle.fn_line.specs.Lines.{no_entries};
 ghost use Rattle.fn_line.specs.Lines.Act.{Send, Reset};
-ghost use Rattle.fn_line.specs.States.{IsPut, IsUnsent};
+ghost use Rattle.fn_line.specs.States.{IsNotPut, IsPut};
 ghost use Rattle.fn_line.specs.Steps.{IsPacked};
 
-use crate::flow::{Flow, no_contexts};
+use crate::flow::{Flow, LineVersion, no_contexts};
 use fn_bits::Bits;
 use fn_checker::Accepted;
 use fn_context::Context;
@@ -26,8 +27,8 @@ pub struct Sender<'a> {
 }
 
 impl<'a> Model for Sender<'a> {
-    ghost use Rattle.std.specs.Prelude.{◌≡◌, length};
-    ghost use Rattle.fn_line.specs.Lines.{flow_count};
+    ghost use Rattle.std.specs.Prelude.{◌≡◌, ◌≤◌, length};
+    ghost use Rattle.fn_line.specs.Lines.{flow_limit};
     ghost use Rattle.fn_line.specs.States.{Sending};
     ghost use Rattle.fn_expr.specs.contracts.expr.Expr as expr;
     ghost use Rattle.fn_expr.specs.contracts.expr.Cond as cond;
@@ -39,41 +40,67 @@ impl<'a> Model for Sender<'a> {
 
     ghost view = { λ s. record { accepted = s.accepted.now; contexts = s.contexts.items } };
 
-    ghost invariant = { λ s. length s.contexts.items ≡ flow_count };
+    ghost invariant = { λ s. length s.contexts.items ≤ flow_limit };
 }
 
 impl<'a> Sender<'a> {
     /// All contexts are empty.
-    pub fn new(alloc: Global, accepted: &'a Accepted) -> Result<Sender<'a>, AllocError>
-        ensures { IfOk result (λ s. s ≡ record { accepted = accepted.now; contexts = no_entries }) }
+    pub fn new(
+        alloc: Global,
+        accepted: &'a Accepted,
+        version: LineVersion,
+    ) -> Result<Sender<'a>, AllocError>
+        ensures { IfOk result (λ s. s ≡ record { accepted = accepted.now; contexts = no_entries version }) }
     {
         Ok(Sender {
             alloc,
             accepted,
-            contexts: no_contexts(alloc)?,
+            contexts: no_contexts(alloc, version)?,
         })
     }
 
-    /// Packs an item in the flow's context, and adds the packet to the octets. A refusal is that of `pack`, and changes neither
-    /// the sender nor the octets.
+    /// Packs an item in the flow's context, and adds the packet to the octets. A refusal is that the line has no such flow, or else
+    /// that of `pack`. It changes neither the sender nor the octets.
     pub fn send(&mut self, flow: Flow, item: &Item, out: &mut Vec<u8>) -> Result<(), PackFault>
         ensures ok { OnOk result ((octets : List ℕ) × IsPut self.old self.new (record { flow = flow; act = Send item.now }) octets × (out.new.items ≡ out.old.items ++ octets)) }
         ensures err { OnErr result ((self.new ≡ self.old) × (out.new.items ≡ out.old.items)) }
-        ensures fault { IfErr result (IsUnsent self.old flow item.now) }
+        ensures fault { IfErr result (IsNotPut self.old (record { flow = flow; act = Send item.now })) }
     {
-        let number = flow.number();
-        let context = &mut self.contexts[usize::from(number)];
-        put_packet(self.alloc, self.accepted, context, number, item, out)
+        let Some(place) = self.place(flow) else {
+            return Err(PackFault::Flow);
+        };
+        let context = &mut self.contexts[place];
+        put_packet(self.alloc, self.accepted, context, flow.number(), item, out)
     }
 
-    /// Empties the flow's context, and adds the reset's octet to the octets. Where memory runs out neither changes.
-    pub fn reset(&mut self, flow: Flow, out: &mut Vec<u8>) -> Result<(), AllocError>
+    /// Empties the flow's context, and adds the reset's octet to the octets. It is refused where the line has no such flow, or
+    /// memory runs out, and changes neither then.
+    pub fn reset(&mut self, flow: Flow, out: &mut Vec<u8>) -> Result<(), PackFault>
         ensures ok { OnOk result ((octets : List ℕ) × IsPut self.old self.new (record { flow = flow; act = Reset }) octets × (out.new.items ≡ out.old.items ++ octets)) }
         ensures err { OnErr result ((self.new ≡ self.old) × (out.new.items ≡ out.old.items)) }
+        ensures fault { IfErr result (IsNotPut self.old (record { flow = flow; act = Reset })) }
     {
-        out.push(flow.reset_octet())?;
-        self.contexts[usize::from(flow.number())] = Context::new(self.alloc);
+        let Some(at) = self.place(flow) else {
+            return Err(PackFault::Flow);
+        };
+        match out.push(flow.reset_octet(self.contexts.len() as u8)) {
+            Ok(()) => {}
+            Err(_) => return Err(PackFault::OutOfMemory),
+        }
+        self.contexts[at] = Context::new(self.alloc);
         Ok(())
+    }
+
+    /// The place of the flow's context, or `None` where the line has no such flow.
+    fn place(&self, flow: Flow) -> Option<usize>
+        ensures { SomeIff result (flow < length self.now.contexts) flow }
+    {
+        let place = usize::from(flow.number());
+        if place < self.contexts.len() {
+            Some(place)
+        } else {
+            None
+        }
     }
 }
 

@@ -4,7 +4,7 @@ use crate::words::{bits, put_bits};
 use anyhow::{Result, ensure};
 use fn_checker::Accepted;
 use fn_filling::Item;
-use fn_line::{Flow, LineFault, Receiver};
+use fn_line::{Flow, LineFault, LineVersion, Receiver};
 use std::alloc::Global;
 use std::fmt::Write;
 
@@ -16,14 +16,15 @@ pub(crate) fn flow(out: &mut String, rest: &str) -> Result<()> {
     }
 }
 
-/// `pieces OCTETS OCTETS ..`: what each piece is answered, and then `finish`; at the end the items.
+/// `pieces OCTETS OCTETS ..`, and of the line of 64 flows `wide OCTETS OCTETS ..`: what each piece is answered, and then `finish`; at the end the items.
 pub(crate) fn pieces(
     alloc: Global,
     out: &mut String,
     accepted: &Accepted,
+    version: LineVersion,
     rest: &str,
 ) -> Result<()> {
-    let mut receiver = Receiver::new(alloc, accepted)?;
+    let mut receiver = Receiver::new(alloc, accepted, version)?;
     let mut items = Vec::new(alloc);
     for word in rest.split(' ') {
         let piece = octets(alloc, word)?;
@@ -97,7 +98,7 @@ fn needs(len: usize, cuts: u32) -> bool {
 /// What is heard where a piece ends after each octet whose bit is one in `cuts`, the first octet's lowest.
 fn heard(alloc: Global, accepted: &Accepted, octets: &[u8], cuts: u32) -> Result<String> {
     let mut items = Vec::new(alloc);
-    let mut receiver = Receiver::new(alloc, accepted)?;
+    let mut receiver = Receiver::new(alloc, accepted, LineVersion::One)?;
     let fault = fault_of(alloc, &mut receiver, octets, cuts, &mut items)?;
     let mut out = String::new(alloc);
     put_heard(alloc, &mut out, items.as_slice(), fault)?;

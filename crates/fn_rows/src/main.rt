@@ -16,6 +16,7 @@ mod trees;
 mod words;
 
 use anyhow::Result;
+use fn_line::LineVersion;
 use percent_encoding::{CONTROLS, percent_decode, utf8_percent_encode};
 use std::alloc::Global;
 
@@ -61,7 +62,13 @@ fn answer(alloc: Global, out: &mut String, profile: &mut String, row: &[u8]) -> 
         "judged" => fillings::judged_often(alloc, out, profile.as_str(), rest),
         "plan" => planned(alloc, out, profile.as_str(), rest),
         "flow" => lines::flow(out, rest),
-        "pieces" | "cuttings" | "tables" => accepted(alloc, out, profile.as_str(), verb, rest),
+        "pieces" | "wide" | "cuttings" | "tables" => accepted(
+            alloc,
+            out,
+            profile.as_str(),
+            verb,
+            rest,
+        ),
         "sides" => fillings::sides(alloc, out, rest),
         "below" => fillings::path(alloc, out, rest),
         "path" => contexts::knows_path(out, rest),
@@ -96,7 +103,8 @@ fn keep(profile: &mut String, rest: &str) -> Result<()> {
 fn accepted(alloc: Global, out: &mut String, profile: &str, verb: &str, rest: &str) -> Result<()> {
     let accepted = trees::accept(alloc, profile)?;
     match verb {
-        "pieces" => lines::pieces(alloc, out, &accepted, rest),
+        "pieces" => lines::pieces(alloc, out, &accepted, LineVersion::One, rest),
+        "wide" => lines::pieces(alloc, out, &accepted, LineVersion::Two, rest),
         "cuttings" => lines::cuttings(alloc, out, &accepted, rest),
         _ => trees::tables(alloc, out, &accepted, rest),
     }

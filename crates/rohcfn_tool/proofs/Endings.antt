@@ -39,7 +39,8 @@ use Rattle.rohcfn_tool.specs.Printed.AnsweredFor.{bad_context as answered_for_ba
 use Rattle.rohcfn_tool.specs.Printed.AnsweredBy.{by_profile as answered_by_by_profile, unaccepted as answered_by_unaccepted}
 use Rattle.rohcfn_tool.specs.Printed.AnsweredRun.{both as answered_run_both, no_input as answered_run_no_input}
 use Rattle.rohcfn_tool.specs.Printed.Answered.{checked as answers_checked, lined as answers_lined, no_profile as answers_no_profile, proved as answers_proved, ran as answers_ran, shown as answers_shown}
-use Rattle.rohcfn_tool.specs.Lined.{PrintsSent, PrintsReceived, AnsweredEvents, AnsweredHex, AnsweredEnd, LinedBy, Lined}
+use Rattle.fn_line.specs.declared.flow.LineVersion.{LineVersion}
+use Rattle.rohcfn_tool.specs.Lined.{PrintsSent, PrintsReceived, AnsweredEvents, AnsweredHex, AnsweredEnd, LinedBy, Lined, line_version}
 use Rattle.rohcfn_tool.specs.Lined.PrintsSent.{all_sent as prints_sent_all_sent, one_refused as prints_sent_one_refused}
 use Rattle.rohcfn_tool.specs.Lined.PrintsReceived.{all_received as prints_received_all_received, up_to_fault as prints_received_up_to_fault}
 use Rattle.rohcfn_tool.specs.Lined.AnsweredEvents.{bad_event as answered_events_bad_event, sent_events as answered_events_sent_events}
@@ -85,33 +86,33 @@ run_ends : (direction : Direction) (order : Order) (profile : List ℕ) (parts :
 run_ends direction order profile parts _ _ (answered_run_no_input is) = tt
 run_ends direction order profile parts s output (answered_run_both given is h) = by_ends direction order profile parts given.now s output h
 
-sent_ends : (a : Accepting) (events : List Event) (s : Status) (output : List ℕ) → PrintsSent a events s output → MayPrint s
-sent_ends a events _ _ (prints_sent_all_sent octets found items ran are) = tt
-sent_ends a events _ _ (prints_sent_one_refused n e text stopped is single) = tt
+sent_ends : (v : LineVersion) (a : Accepting) (events : List Event) (s : Status) (output : List ℕ) → PrintsSent v a events s output → MayPrint s
+sent_ends v a events _ _ (prints_sent_all_sent octets found items ran are) = tt
+sent_ends v a events _ _ (prints_sent_one_refused n e text stopped is single) = tt
 
-events_ends : (a : Accepting) (octets : List ℕ) (s : Status) (output : List ℕ) → AnsweredEvents a octets s output → MayPrint s
-events_ends a octets _ _ (answered_events_bad_event n h) = tt
-events_ends a octets s output (answered_events_sent_events events has h) = sent_ends a events s output h
+events_ends : (v : LineVersion) (a : Accepting) (octets : List ℕ) (s : Status) (output : List ℕ) → AnsweredEvents v a octets s output → MayPrint s
+events_ends v a octets _ _ (answered_events_bad_event n h) = tt
+events_ends v a octets s output (answered_events_sent_events events has h) = sent_ends v a events s output h
 
-received_ends : (a : Accepting) (octets : List ℕ) (s : Status) (output : List ℕ) → PrintsReceived a octets s output → MayPrint s
-received_ends a octets _ _ (prints_received_all_received found items got are) = tt
-received_ends a octets _ _ (prints_received_up_to_fault found items e text got are is) = tt
+received_ends : (v : LineVersion) (a : Accepting) (octets : List ℕ) (s : Status) (output : List ℕ) → PrintsReceived v a octets s output → MayPrint s
+received_ends v a octets _ _ (prints_received_all_received found items got are) = tt
+received_ends v a octets _ _ (prints_received_up_to_fault found items e text got are is) = tt
 
-hex_ends : (a : Accepting) (octets : List ℕ) (s : Status) (output : List ℕ) → AnsweredHex a octets s output → MayPrint s
-hex_ends a octets _ _ (answered_hex_bad_hex h) = tt
-hex_ends a octets s output (answered_hex_received_octets read are h) = received_ends a read s output h
+hex_ends : (v : LineVersion) (a : Accepting) (octets : List ℕ) (s : Status) (output : List ℕ) → AnsweredHex v a octets s output → MayPrint s
+hex_ends v a octets _ _ (answered_hex_bad_hex h) = tt
+hex_ends v a octets s output (answered_hex_received_octets read are h) = received_ends v a read s output h
 
-end_ends : (end : End) (a : Accepting) (octets : List ℕ) (s : Status) (output : List ℕ) → AnsweredEnd end a octets s output → MayPrint s
-end_ends Sending a octets s output h = events_ends a octets s output h
-end_ends Receiving a octets s output h = hex_ends a octets s output h
+end_ends : (end : End) (v : LineVersion) (a : Accepting) (octets : List ℕ) (s : Status) (output : List ℕ) → AnsweredEnd end v a octets s output → MayPrint s
+end_ends Sending v a octets s output h = events_ends v a octets s output h
+end_ends Receiving v a octets s output h = hex_ends v a octets s output h
 
-lined_by_ends : (end : End) (top profile : List ℕ) (origin : Origin) (octets : List ℕ) (s : Status) (output : List ℕ) → LinedBy end top profile origin octets s output → MayPrint s
-lined_by_ends end top profile origin octets _ _ (lined_by_not_accepted text h) = tt
-lined_by_ends end top profile origin octets s output (lined_by_with_profile a accepts h) = end_ends end a octets s output h
+lined_by_ends : (end : End) (v : LineVersion) (top profile : List ℕ) (origin : Origin) (octets : List ℕ) (s : Status) (output : List ℕ) → LinedBy end v top profile origin octets s output → MayPrint s
+lined_by_ends end v top profile origin octets _ _ (lined_by_not_accepted text h) = tt
+lined_by_ends end v top profile origin octets s output (lined_by_with_profile a accepts h) = end_ends end v a octets s output h
 
 lined_ends : (end : End) (order : Order) (profile : List ℕ) (parts : Parts) (s : Status) (output : List ℕ) → Lined end order profile parts s output → MayPrint s
 lined_ends end order profile parts _ _ (lined_no_part is) = tt
-lined_ends end order profile parts s output (lined_by_part given is h) = lined_by_ends end order.top.now profile (origin_of order.version parts.certificate) given.now s output h
+lined_ends end order profile parts s output (lined_by_part given is h) = lined_by_ends end (line_version order.is_wide) order.top.now profile (origin_of order.version parts.certificate) given.now s output h
 
 shown_ends : (top octets : List ℕ) (s : Status) (output : List ℕ) → ShownBy top octets s output → MayPrint s
 shown_ends top octets _ _ (shown_by_no_listing text h) = tt

@@ -12,6 +12,7 @@ use Rattle.fn_line.specs.Lines.{no_entries}
 use Rattle.fn_line.specs.Hearing.{Found}
 use Rattle.fn_line.specs.Runs.{BlamesRun, IsReceived, IsRun, event_of}
 use Rattle.fn_line.specs.declared.fault.LineFault.{LineFault}
+use Rattle.fn_line.specs.declared.flow.LineVersion.{LineVersion}
 use Rattle.fn_line.specs.declared.runs.Event.{Event}
 use Rattle.fn_line.specs.declared.runs.RunFault.{RunFault}
 use Rattle.fn_line.specs.declared.runs.RunFault.TheVariants as run
@@ -26,25 +27,25 @@ use Rattle.rohcfn_input.specs.Refusals.{Holds, IsRefusal}
 use Rattle.rohcfn_input.proofs.AnswersHeld.{refusal_is}
 
 -- events of which a line can't be read
-pub bad_events_are : (a : Accepting) (input : List ℕ) (n m : ℕ) (written : List ℕ) (r : Result Answer AllocError) → IsBadLine IsEvent input n → written ≡ bad_event_text m → m ≡ n → IfOk r (IsRefusal written)
-    → IfOk r (Holds (AnsweredEvents a input))
-bad_events_are a input n m written r is same number g =
-    refusal_is (AnsweredEvents a input) (bad_event_text n) written r (bad_event n is) (same ∙ ap bad_event_text number) g
+pub bad_events_are : (v : LineVersion) (a : Accepting) (input : List ℕ) (n m : ℕ) (written : List ℕ) (r : Result Answer AllocError) → IsBadLine IsEvent input n → written ≡ bad_event_text m → m ≡ n → IfOk r (IsRefusal written)
+    → IfOk r (Holds (AnsweredEvents v a input))
+bad_events_are v a input n m written r is same number g =
+    refusal_is (AnsweredEvents v a input) (bad_event_text n) written r (bad_event n is) (same ∙ ap bad_event_text number) g
 
 -- an event that is refused
-pub refused_event_is : (a : Accepting) (events : List Event) (fault : RunFault) (n k : ℕ) (e : PackFault) (text written : List ℕ) (r : Result Answer AllocError) → BlamesRun fault a no_entries (map event_of events) → fault ≡ run.Refused n e
-    → IsEventFault e k text → IsLine text → k ≡ n + 1 → written ≡ text → IfOk r (IsRefusal written) → IfOk r (Holds (PrintsSent a events))
-refused_event_is a events fault n k e text written r blames is spelled whole number shown g =
-    let stopped = subst (λ (x : RunFault). BlamesRun x a no_entries (map event_of events)) is blames in
-    refusal_is (PrintsSent a events) text written r (one_refused n e text stopped (subst (λ m. IsEventFault e m text) number spelled) whole) shown g
+pub refused_event_is : (v : LineVersion) (a : Accepting) (events : List Event) (fault : RunFault) (n k : ℕ) (e : PackFault) (text written : List ℕ) (r : Result Answer AllocError) → BlamesRun fault a (no_entries v) (map event_of events) → fault ≡ run.Refused n e
+    → IsEventFault e k text → IsLine text → k ≡ n + 1 → written ≡ text → IfOk r (IsRefusal written) → IfOk r (Holds (PrintsSent v a events))
+refused_event_is v a events fault n k e text written r blames is spelled whole number shown g =
+    let stopped = subst (λ (x : RunFault). BlamesRun x a (no_entries v) (map event_of events)) is blames in
+    refusal_is (PrintsSent v a events) text written r (one_refused n e text stopped (subst (λ m. IsEventFault e m text) number spelled) whole) shown g
 
 -- what is sent
-pub sent_printed : (a : Accepting) (events : List Event) (octets : List ℕ) (found : Found) (r : Result Answer AllocError) → IsRun a (map event_of events) octets found → IfOk r (IsSentPrinted octets found) → IfOk r (Holds (PrintsSent a events))
-sent_printed a events octets found (Err e) is h = tt
-sent_printed a events octets found (Ok answer) is h =
+pub sent_printed : (v : LineVersion) (a : Accepting) (events : List Event) (octets : List ℕ) (found : Found) (r : Result Answer AllocError) → IsRun a v (map event_of events) octets found → IfOk r (IsSentPrinted octets found) → IfOk r (Holds (PrintsSent v a events))
+sent_printed v a events octets found (Err e) is h = tt
+sent_printed v a events octets found (Ok answer) is h =
     let out : (encode_lower octets ++ 10 ∷ []) ++ h.pushed.lines ≡ encode_lower octets ++ 10 ∷ h.pushed.lines = append_assoc (encode_lower octets) (10 ∷ []) h.pushed.lines in
-    let whole : PrintsSent a events status.Done (string_bytes answer.output) = subst (PrintsSent a events status.Done) (sym (h.pushed.after_is ∙ out)) (all_sent octets found h.pushed.lines is h.pushed.spelled) in
-    subst (λ (s : Status). PrintsSent a events s (string_bytes answer.output)) (sym h.status_is) whole
+    let whole : PrintsSent v a events status.Done (string_bytes answer.output) = subst (PrintsSent v a events status.Done) (sym (h.pushed.after_is ∙ out)) (all_sent octets found h.pushed.lines is h.pushed.spelled) in
+    subst (λ (s : Status). PrintsSent v a events s (string_bytes answer.output)) (sym h.status_is) whole
 
 pub sent_lines : (octets : List ℕ) (found items : Found) (start : List ℕ) (output : String Global) → items ≡ found → start ≡ encode_lower octets ++ 10 ∷ [] → IsPushed items start (string_bytes output)
     → IsSentPrinted octets found record { status = status.Done; output = output }
@@ -54,22 +55,22 @@ sent_lines octets found items start output same is h = record {
 }
 
 -- what is received
-pub received_lines : (a : Accepting) (octets start : List ℕ) (found shown : Found) (fault : Option LineFault) (output : String Global) → IsReceived a octets found fault → fault ≡ None → shown ≡ found → start ≡ [] → IsPushed shown start (string_bytes output)
-    → PrintsReceived a octets status.Done (string_bytes output)
-received_lines a octets start found shown fault output is none same empty h =
-    let here : IsReceived a octets found None = subst (IsReceived a octets found) none is in
+pub received_lines : (v : LineVersion) (a : Accepting) (octets start : List ℕ) (found shown : Found) (fault : Option LineFault) (output : String Global) → IsReceived a v octets found fault → fault ≡ None → shown ≡ found → start ≡ [] → IsPushed shown start (string_bytes output)
+    → PrintsReceived v a octets status.Done (string_bytes output)
+received_lines v a octets start found shown fault output is none same empty h =
+    let here : IsReceived a v octets found None = subst (IsReceived a v octets found) none is in
     let lines : AreItemLines found h.lines = subst (λ f. AreItemLines f h.lines) same h.spelled in
-    subst (PrintsReceived a octets status.Done) (sym (h.after_is ∙ ap (λ s. s ++ h.lines) empty)) (all_received found h.lines here lines)
+    subst (PrintsReceived v a octets status.Done) (sym (h.after_is ∙ ap (λ s. s ++ h.lines) empty)) (all_received found h.lines here lines)
 
-pub fault_lines : (a : Accepting) (octets start lines : List ℕ) (found shown : Found) (fault : Option LineFault) (e : LineFault) (r : Result Answer AllocError) → IsReceived a octets found fault → fault ≡ Some e → shown ≡ found → start ≡ [] → IsPushed shown start lines
-    → IfOk r (IsRefusedBy lines e) → IfOk r (Holds (PrintsReceived a octets))
-fault_lines a octets start lines found shown fault e (Err x) is some same empty h g = tt
-fault_lines a octets start lines found shown fault e (Ok answer) is some same empty h g =
-    let here : IsReceived a octets found (Some e) = subst (IsReceived a octets found) some is in
+pub fault_lines : (v : LineVersion) (a : Accepting) (octets start lines : List ℕ) (found shown : Found) (fault : Option LineFault) (e : LineFault) (r : Result Answer AllocError) → IsReceived a v octets found fault → fault ≡ Some e → shown ≡ found → start ≡ [] → IsPushed shown start lines
+    → IfOk r (IsRefusedBy lines e) → IfOk r (Holds (PrintsReceived v a octets))
+fault_lines v a octets start lines found shown fault e (Err x) is some same empty h g = tt
+fault_lines v a octets start lines found shown fault e (Ok answer) is some same empty h g =
+    let here : IsReceived a v octets found (Some e) = subst (IsReceived a v octets found) some is in
     let spelled : AreItemLines found h.lines = subst (λ f. AreItemLines f h.lines) same h.spelled in
     let out : string_bytes answer.output ≡ h.lines ++ g.line ++ 10 ∷ [] = g.output_is ∙ ap (λ l. l ++ g.line ++ 10 ∷ []) (h.after_is ∙ ap (λ s. s ++ h.lines) empty) in
-    let whole : PrintsReceived a octets status.Refused (string_bytes answer.output) = subst (PrintsReceived a octets status.Refused) (sym out) (up_to_fault found h.lines e g.line here spelled g.spelled) in
-    subst (λ (s : Status). PrintsReceived a octets s (string_bytes answer.output)) (sym g.status_is) whole
+    let whole : PrintsReceived v a octets status.Refused (string_bytes answer.output) = subst (PrintsReceived v a octets status.Refused) (sym out) (up_to_fault found h.lines e g.line here spelled g.spelled) in
+    subst (λ (s : Status). PrintsReceived v a octets s (string_bytes answer.output)) (sym g.status_is) whole
 
 -- ---- items, one after the other
 

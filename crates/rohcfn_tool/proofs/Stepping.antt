@@ -15,6 +15,7 @@ use Rattle.fn_engine.specs.Writing as writing
 use Rattle.fn_engine.specs.declared.reader.Read.{Read}
 use Rattle.fn_engine.specs.declared.reader.UnpackFault.{UnpackFault}
 use Rattle.fn_engine.specs.declared.writer.PackFault.{PackFault}
+use Rattle.fn_engine.specs.declared.writer.PackFault.TheVariants as writer
 use Rattle.fn_engine.specs.declared.writer.Written.{Written}
 use Rattle.rohcfn_input.specs.ItemTexts.{HasMore, IsItemText}
 use Rattle.rohcfn_tool.proofs.PacketLines.{packet_faults}
@@ -26,6 +27,10 @@ pub packed_step : (a : Accepting) (old new : Entries) (before after : List ℕ) 
     → IsItemStep a old new before after n it false
 packed_step a old new before after n it w is text reached =
     (w.filling, (text.0, record { best = is.best; spelled = subst (IsText text.0) is.packed_is text.1 }, text.2), reached ∙ ap (overridden old) is.entries_are)
+
+-- of an item no missing flow is blamed
+pub no_flow_blamed : (a : Accepting) (ctx : Entries) (it : Item) (e : PackFault) → writing.Blames e a ctx it → ¬ (e ≡ writer.Flow)
+no_flow_blamed a ctx it e blames is = subst (λ (x : PackFault). writing.Blames x a ctx it) is blames
 
 pub item_refused : (a : Accepting) (old : Entries) (before after : List ℕ) (n : ℕ) (it : Item) (e : PackFault) → writing.Blames e a old it → IsRefusedItem e n before after → IsItemStep a old old before after n it true
 item_refused a old before after n it e blames is = (is.0, ((e, blames, is.1.0), is.1.1), is.2)

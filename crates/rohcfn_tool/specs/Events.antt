@@ -2,14 +2,14 @@
 use Rattle.std.specs.Prelude.{◌≡◌, ◌==◌, ◌<◌, ℕ, List, [], ◌∷◌, codes, decimal}
 use Rattle.std.specs.List.{slice_split}
 use Rattle.fn_filling.specs.declared.filling.Item.{Item}
-use Rattle.fn_line.specs.Lines.{flow_count}
+use Rattle.fn_line.specs.Lines.{flow_limit}
 use Rattle.fn_line.specs.declared.runs.Event.{Event}
 use Rattle.fn_line.specs.declared.runs.Event.TheVariants.{Send, Reset}
 use Rattle.rohcfn_input.specs.Inputs.{AreItemWords}
 
--- the word is the number of a flow
+-- the word is the number of a flow, of some line
 pub record IsFlow (word : List ℕ) (flow : ℕ) : Type 0 where
-  pub below : flow < flow_count
+  pub below : flow < flow_limit
   pub spelled : word ≡ decimal flow
 
 -- a flow, and then the words of an item

@@ -55,11 +55,12 @@ pub record IsPacketLine (a : Accepting) (ctx : Entries) (packet : List Bool) (f 
 
 -- ---- the line of a refusal
 
--- a refused item, by its number from 1
+-- a refused item, by its number from 1; that a line lacks a flow is said of events alone
 abbrev pub IsItemFault : PackFault → ℕ → List ℕ → Type 0
 IsItemFault writer.HeaderLength n text = text ≡ codes "item " ++ decimal n ++ codes ": F1 HeaderLength"
 IsItemFault (writer.Asked name) n text = text ≡ codes "item " ++ decimal n ++ codes ": F2 Asked " ++ name
 IsItemFault writer.NoFormat n text = text ≡ codes "item " ++ decimal n ++ codes ": F3 NoFormat"
+IsItemFault writer.Flow n text = ⊥
 IsItemFault writer.OutOfMemory n text = ⊥
 
 -- the format after a point, where there is one

@@ -9,7 +9,7 @@ use crate::events::read_events;
 use fn_checker::Accepted;
 use fn_engine::PackFault;
 use fn_filling::Item;
-use fn_line::{Event, Flow, LineFault, Received, RunFault, Sent, receive, run};
+use fn_line::{Event, Flow, LineFault, LineVersion, Received, RunFault, Sent, receive, run};
 use itoa::Buffer;
 use rohcfn_input::bundle::Parts;
 use rohcfn_input::inputs::BadLine;
@@ -53,37 +53,57 @@ fn line_by(
     parts: &Parts<'_>,
     input: &[u8],
 ) -> Result<Answer, AllocError>
-    ensures { IfOk result (spec.AnswersLineBy end order.now.top.now profile.now (origin_of order.now.version parts.now.certificate) input.now) }
+    ensures { IfOk result (spec.AnswersLineBy end (spec.line_version order.now.is_wide) order.now.top.now profile.now (origin_of order.now.version parts.now.certificate) input.now) }
 {
     match accept(alloc, order.top, profile, Origin::of(order.version, parts))? {
-        Judged::Accepted(accepted) => answer_end(alloc, end, &accepted, input),
+        Judged::Accepted(accepted) => {
+            let version = line_version(order.is_wide);
+            answer_end(alloc, end, version, &accepted, input)
+        }
         Judged::Refused(line) => refusal(alloc, line.as_str()),
     }
 }
 
-/// The answer at an end, by an accepted profile.
+/// The version of a line: the second, where the wide line is asked for.
+fn line_version(wide: bool) -> LineVersion
+    ensures { result ≡ spec.line_version wide }
+{
+    if wide {
+        LineVersion::Two
+    } else {
+        LineVersion::One
+    }
+}
+
+/// The answer at an end of a line of a version, by an accepted profile.
 fn answer_end(
     alloc: Global,
     end: End,
+    version: LineVersion,
     accepted: &Accepted,
     input: &[u8],
 ) -> Result<Answer, AllocError>
-    ensures { IfOk result (spec.AnswersEnd end accepted.now input.now) }
+    ensures { IfOk result (spec.AnswersEnd end version accepted.now input.now) }
 {
     match end {
-        End::Sending => answer_events(alloc, accepted, input),
-        End::Receiving => answer_octets(alloc, accepted, input),
+        End::Sending => answer_events(alloc, version, accepted, input),
+        End::Receiving => answer_octets(alloc, version, accepted, input),
     }
 }
 
 // ---- the sending end
 
 /// The answer to the octets of events.
-fn answer_events(alloc: Global, accepted: &Accepted, input: &[u8]) -> Result<Answer, AllocError>
-    ensures { IfOk result (spec.AnswersEnd End.Sending accepted.now input.now) }
+fn answer_events(
+    alloc: Global,
+    version: LineVersion,
+    accepted: &Accepted,
+    input: &[u8],
+) -> Result<Answer, AllocError>
+    ensures { IfOk result (spec.AnswersEnd End.Sending version accepted.now input.now) }
 {
     match read_events(alloc, input) {
-        Ok(events) => send_all(alloc, accepted, events.as_slice()),
+        Ok(events) => send_all(alloc, version, accepted, events.as_slice()),
         Err(BadLine::Number(number)) => {
             let line = bad_event_line(alloc, number)?;
             refusal(alloc, line.as_str())
@@ -100,10 +120,15 @@ fn bad_event_line(alloc: Global, number: usize) -> Result<String, AllocError>
 }
 
 /// The octets of all events in hex and the items, or the line of the first event that is refused.
-fn send_all(alloc: Global, accepted: &Accepted, events: &[Event]) -> Result<Answer, AllocError>
-    ensures { IfOk result (spec.AnswersSent accepted.now events.now) }
+fn send_all(
+    alloc: Global,
+    version: LineVersion,
+    accepted: &Accepted,
+    events: &[Event],
+) -> Result<Answer, AllocError>
+    ensures { IfOk result (spec.AnswersSent version accepted.now events.now) }
 {
-    match run(alloc, accepted, events) {
+    match run(alloc, accepted, version, events) {
         Ok(sent) => print_sent(alloc, &sent),
         Err(RunFault::Refused(index, fault)) => {
             let line = event_fault(alloc, index + 1, fault)?;
@@ -138,6 +163,7 @@ fn event_fault(alloc: Global, number: usize, fault: PackFault) -> Result<String,
             asked_event(alloc, number, name.as_str())
         }
         PackFault::NoFormat => plain_event(alloc, number, ": F3 NoFormat"),
+        PackFault::Flow => plain_event(alloc, number, ": F4 Flow"),
         PackFault::OutOfMemory => Err(AllocError),
     }
 }
@@ -157,20 +183,30 @@ fn asked_event(alloc: Global, number: usize, name: &str) -> Result<String, Alloc
 // ---- the receiving end
 
 /// The answer to the octets of hex digits.
-fn answer_octets(alloc: Global, accepted: &Accepted, input: &[u8]) -> Result<Answer, AllocError>
-    ensures { IfOk result (spec.AnswersEnd End.Receiving accepted.now input.now) }
+fn answer_octets(
+    alloc: Global,
+    version: LineVersion,
+    accepted: &Accepted,
+    input: &[u8],
+) -> Result<Answer, AllocError>
+    ensures { IfOk result (spec.AnswersEnd End.Receiving version accepted.now input.now) }
 {
     match read_octets(alloc, input)? {
-        Some(octets) => receive_all(alloc, accepted, octets.as_slice()),
+        Some(octets) => receive_all(alloc, version, accepted, octets.as_slice()),
         None => refusal(alloc, "octets: I5 bad hex"),
     }
 }
 
 /// The items of octets, and then the line of the fault, if one comes.
-fn receive_all(alloc: Global, accepted: &Accepted, octets: &[u8]) -> Result<Answer, AllocError>
-    ensures { IfOk result (spec.AnswersReceived accepted.now octets.now) }
+fn receive_all(
+    alloc: Global,
+    version: LineVersion,
+    accepted: &Accepted,
+    octets: &[u8],
+) -> Result<Answer, AllocError>
+    ensures { IfOk result (spec.AnswersReceived version accepted.now octets.now) }
 {
-    let Received { items, fault } = receive(alloc, accepted, octets)?;
+    let Received { items, fault } = receive(alloc, accepted, version, octets)?;
     let mut output = String::new(alloc);
     push_items(alloc, &mut output, items.as_slice())?;
     match fault {

@@ -1,6 +1,6 @@
 //! The lines for items and packets.
 
-ghost use Rattle.std.specs.Prelude.{◌≡◌, ◌∷◌, ◌++◌, [], true, IfOk, OnOk, codes, decimal, string_bytes};
+ghost use Rattle.std.specs.Prelude.{◌≡◌, ◌≢◌, ◌∷◌, ◌++◌, [], true, IfOk, OnOk, codes, decimal, string_bytes};
 ghost use Rattle.rohcfn_input.specs.OneLine.{IsLine};
 ghost use Rattle.rohcfn_tool.specs.Printed as spec;
 
@@ -146,6 +146,7 @@ fn refuse_item(
     number: usize,
     fault: PackFault,
 ) -> Result<(), AllocError>
+    requires { fault ≢ PackFault.Flow }
     ensures { OnOk result (spec.IsRefusedItem fault number (string_bytes output.old) (string_bytes output.new)) }
 {
     let line = item_fault(alloc, number, fault)?;
@@ -155,6 +156,7 @@ fn refuse_item(
 
 /// The line of a refused item.
 fn item_fault(alloc: Global, number: usize, fault: PackFault) -> Result<String, AllocError>
+    requires { fault ≢ PackFault.Flow }
     ensures says { IfOk result (λ text. spec.IsItemFault fault number (string_bytes text)) }
     ensures line { IfOk result (λ text. IsLine (string_bytes text)) }
 {
@@ -165,6 +167,7 @@ fn item_fault(alloc: Global, number: usize, fault: PackFault) -> Result<String, 
             asked_line(alloc, number, name.as_str())
         }
         PackFault::NoFormat => plain_line(alloc, number, ": F3 NoFormat"),
+        PackFault::Flow => unreachable!(),
         PackFault::OutOfMemory => Err(AllocError),
     }
 }

@@ -32,10 +32,10 @@ subcommand_read (Some b) (Some p) name rows =
     ap Some (λ i. (sym n i, sym r i))
 
 -- what a command's name and the values of its flags ask for
-pub asked_by_parts : (met : Option (List ℕ × List Row)) (name : List ℕ) (rows : List Row) (command : Option Command) (receives : Bool) (top : Option (List ℕ)) (context second : Bool) → met ≡ Some (name, rows)
+pub asked_by_parts : (met : Option (List ℕ × List Row)) (name : List ℕ) (rows : List Row) (command : Option Command) (receives : Bool) (top : Option (List ℕ)) (context second wide : Bool) → met ≡ Some (name, rows)
     → command ≡ command_named name receives
-    → receives ≡ is_set (first_of (codes "receive") rows) → top ≡ first_of (codes "top") rows → context ≡ is_set (first_of (codes "context") rows) → second ≡ is_set (first_of (codes "v2") rows) → asked_by command top context second ≡ asked_in met
-asked_by_parts met name rows command receives top context second m c r t s v = (λ i. asked_by ((c ∙ ap (command_named name) r) i) (t i) (s i) (v i)) ∙ sym (ap asked_in m)
+    → receives ≡ is_set (first_of (codes "receive") rows) → top ≡ first_of (codes "top") rows → context ≡ is_set (first_of (codes "context") rows) → second ≡ is_set (first_of (codes "v2") rows) → wide ≡ is_set (first_of (codes "wide") rows) → asked_by command top context second wide ≡ asked_in met
+asked_by_parts met name rows command receives top context second wide m c r t s v w = (λ i. asked_by ((c ∙ ap (command_named name) r) i) (t i) (s i) (v i) (w i)) ∙ sym (ap asked_in m)
 
 -- without the name of a method nothing is asked for
 pub asked_without_top : (met : Option (List ℕ × List Row)) (name : List ℕ) (rows : List Row) (command : Option Command) (receives : Bool) (top : Option (List ℕ)) → met ≡ Some (name, rows) → command ≡ command_named name receives
@@ -43,11 +43,12 @@ pub asked_without_top : (met : Option (List ℕ × List Row)) (name : List ℕ) 
 asked_without_top met name rows command receives top m c r t none =
     let context : Bool = is_set (first_of (codes "context") rows) in
     let second : Bool = is_set (first_of (codes "v2") rows) in
-    no_top command context second ∙ (λ i. asked_by command (sym none i) context second) ∙ asked_by_parts met name rows command receives top context second m c r t refl refl
+    let wide : Bool = is_set (first_of (codes "wide") rows) in
+    no_top command context second wide ∙ (λ i. asked_by command (sym none i) context second wide) ∙ asked_by_parts met name rows command receives top context second wide m c r t refl refl refl
   where
-    no_top : (command : Option Command) (context second : Bool) → None ≡ asked_by command None context second
-    no_top None context second = refl
-    no_top (Some command) context second = refl
+    no_top : (command : Option Command) (context second wide : Bool) → None ≡ asked_by command None context second wide
+    no_top None context second wide = refl
+    no_top (Some command) context second wide = refl
 
 pub asked_found : (app : App) (words : List (List ℕ)) (met : Option (List ℕ × List Row)) (x : Option Asked) → app ≡ program → (is_simple_and_free app ≡ true → fault_of app words ≡ []) → (is_simple app ≡ true → met ≡ subcommand_of app words) → x ≡ asked_in met → asked_of words ≡ x
 unfolding asked_of

@@ -32,7 +32,7 @@ context_flag = record (new_rule (codes "context")) {
   action = Some SetTrue;
 }
 
--- `--v2` and `--receive`, likewise
+-- `--v2`, `--receive` and `--wide`, likewise
 abbrev pub version_flag : Rule
 version_flag = record (new_rule (codes "v2")) {
   long = Some (codes "v2");
@@ -45,11 +45,17 @@ receive_flag = record (new_rule (codes "receive")) {
   action = Some SetTrue;
 }
 
+abbrev pub wide_flag : Rule
+wide_flag = record (new_rule (codes "wide")) {
+  long = Some (codes "wide");
+  action = Some SetTrue;
+}
+
 -- a command of that name with the first flag
 abbrev pub with_top : List ℕ → App
 with_top name = with_rule (new_app name) top_flag
 
--- one that may make a certificate, with the second flag too; and with one more
+-- one that may make a certificate, with the second flag too; and with one or two more
 abbrev pub with_version : List ℕ → App
 with_version name = with_rule (with_top name) version_flag
 
@@ -59,6 +65,9 @@ with_flags name = with_rule (with_version name) context_flag
 abbrev pub with_receive : List ℕ → App
 with_receive name = with_rule (with_version name) receive_flag
 
+abbrev pub with_wide : List ℕ → App
+with_wide name = with_rule (with_receive name) wide_flag
+
 -- the program's own command line: no name before the words, and one of the commands has to be there
 abbrev pub bare_program : App
 bare_program = on_top (λ top. record top { no_binary_name = true; subcommand_required = true })
@@ -67,17 +76,18 @@ bare_program = on_top (λ top. record top { no_binary_name = true; subcommand_re
 -- with its commands
 unfoldable pub program : App
 program = with_subcommand (with_subcommand (with_subcommand (with_subcommand (with_subcommand (with_subcommand bare_program (with_flags (codes "pack")).top)
-    (with_flags (codes "unpack")).top) (with_top (codes "show")).top) (with_version (codes "check")).top) (with_version (codes "prove")).top) (with_receive (codes "line")).top
+    (with_flags (codes "unpack")).top) (with_top (codes "show")).top) (with_version (codes "check")).top) (with_version (codes "prove")).top) (with_wide (codes "line")).top
 
--- a command, the name of a method, whether the last context is printed, and the version of a certificate that is made
+-- a command, the name of a method, whether the last context is printed, the version of a certificate that is made, and whether the line is the wide one
 pub record Asked : Type 0 where
   pub command : Command
   pub top : List ℕ
   pub shows_context : Bool
   pub version : Version
+  pub is_wide : Bool
 
 abbrev pub asked : Order → Asked
-asked order = record { command = order.command; top = order.top.now; shows_context = order.shows_context; version = order.version }
+asked order = record { command = order.command; top = order.top.now; shows_context = order.shows_context; version = order.version; is_wide = order.is_wide }
 
 -- the end of a line: the receiving one, where that is asked for
 abbrev pub end_at : Bool → End
@@ -101,15 +111,15 @@ is_set (Some text) = bytes_eq text (codes "true")
 abbrev pub version_asked : Bool → Version
 version_asked second = if second then Two else One
 
-abbrev pub asked_by : Option Command → Option (List ℕ) → Bool → Bool → Option Asked
-asked_by None top context second = None
-asked_by (Some command) None context second = None
-asked_by (Some command) (Some top) context second = Some (record { command = command; top = top; shows_context = context; version = version_asked second })
+abbrev pub asked_by : Option Command → Option (List ℕ) → Bool → Bool → Bool → Option Asked
+asked_by None top context second wide = None
+asked_by (Some command) None context second wide = None
+asked_by (Some command) (Some top) context second wide = Some (record { command = command; top = top; shows_context = context; version = version_asked second; is_wide = wide })
 
 -- a command's name, and the values of its flags
 abbrev pub asked_in : Option (List ℕ × List Row) → Option Asked
 asked_in None = None
-asked_in (Some met) = asked_by (command_named met.0 (is_set (first_of (codes "receive") met.1))) (first_of (codes "top") met.1) (is_set (first_of (codes "context") met.1)) (is_set (first_of (codes "v2") met.1))
+asked_in (Some met) = asked_by (command_named met.0 (is_set (first_of (codes "receive") met.1))) (first_of (codes "top") met.1) (is_set (first_of (codes "context") met.1)) (is_set (first_of (codes "v2") met.1)) (is_set (first_of (codes "wide") met.1))
 
 -- words with a fault ask for nothing
 abbrev pub asked_unless : Kinds → Option (List ℕ × List Row) → Option Asked
@@ -142,19 +152,22 @@ RefusesError kind error.OutOfMemory = Unit {0}
 
 -- what some words ask for, written out
 pub record ReadsWords : Type 0 where
-  pub pack : asked_of (codes "pack" ∷ codes "--top" ∷ codes "plain" ∷ []) ≡ Some (record { command = Run Pack; top = codes "plain"; shows_context = false; version = One })
-  pub unpack : asked_of (codes "unpack" ∷ codes "--top=plain" ∷ []) ≡ Some (record { command = Run Unpack; top = codes "plain"; shows_context = false; version = One })
-  pub show : asked_of (codes "show" ∷ codes "--top" ∷ codes "plain" ∷ []) ≡ Some (record { command = Show; top = codes "plain"; shows_context = false; version = One })
-  pub check : asked_of (codes "check" ∷ codes "--top" ∷ codes "plain" ∷ []) ≡ Some (record { command = Check; top = codes "plain"; shows_context = false; version = One })
-  pub prove : asked_of (codes "prove" ∷ codes "--top" ∷ codes "plain" ∷ []) ≡ Some (record { command = Prove; top = codes "plain"; shows_context = false; version = One })
-  pub pack_context : asked_of (codes "pack" ∷ codes "--top" ∷ codes "plain" ∷ codes "--context" ∷ []) ≡ Some (record { command = Run Pack; top = codes "plain"; shows_context = true; version = One })
-  pub pack_second : asked_of (codes "pack" ∷ codes "--top" ∷ codes "plain" ∷ codes "--v2" ∷ []) ≡ Some (record { command = Run Pack; top = codes "plain"; shows_context = false; version = Two })
-  pub prove_second : asked_of (codes "prove" ∷ codes "--v2" ∷ codes "--top" ∷ codes "plain" ∷ []) ≡ Some (record { command = Prove; top = codes "plain"; shows_context = false; version = Two })
-  pub line_second : asked_of (codes "line" ∷ codes "--top" ∷ codes "plain" ∷ codes "--receive" ∷ codes "--v2" ∷ []) ≡ Some (record { command = Line Receiving; top = codes "plain"; shows_context = false; version = Two })
+  pub pack : asked_of (codes "pack" ∷ codes "--top" ∷ codes "plain" ∷ []) ≡ Some (record { command = Run Pack; top = codes "plain"; shows_context = false; version = One; is_wide = false })
+  pub unpack : asked_of (codes "unpack" ∷ codes "--top=plain" ∷ []) ≡ Some (record { command = Run Unpack; top = codes "plain"; shows_context = false; version = One; is_wide = false })
+  pub show : asked_of (codes "show" ∷ codes "--top" ∷ codes "plain" ∷ []) ≡ Some (record { command = Show; top = codes "plain"; shows_context = false; version = One; is_wide = false })
+  pub check : asked_of (codes "check" ∷ codes "--top" ∷ codes "plain" ∷ []) ≡ Some (record { command = Check; top = codes "plain"; shows_context = false; version = One; is_wide = false })
+  pub prove : asked_of (codes "prove" ∷ codes "--top" ∷ codes "plain" ∷ []) ≡ Some (record { command = Prove; top = codes "plain"; shows_context = false; version = One; is_wide = false })
+  pub pack_context : asked_of (codes "pack" ∷ codes "--top" ∷ codes "plain" ∷ codes "--context" ∷ []) ≡ Some (record { command = Run Pack; top = codes "plain"; shows_context = true; version = One; is_wide = false })
+  pub pack_second : asked_of (codes "pack" ∷ codes "--top" ∷ codes "plain" ∷ codes "--v2" ∷ []) ≡ Some (record { command = Run Pack; top = codes "plain"; shows_context = false; version = Two; is_wide = false })
+  pub prove_second : asked_of (codes "prove" ∷ codes "--v2" ∷ codes "--top" ∷ codes "plain" ∷ []) ≡ Some (record { command = Prove; top = codes "plain"; shows_context = false; version = Two; is_wide = false })
+  pub line_second : asked_of (codes "line" ∷ codes "--top" ∷ codes "plain" ∷ codes "--receive" ∷ codes "--v2" ∷ []) ≡ Some (record { command = Line Receiving; top = codes "plain"; shows_context = false; version = Two; is_wide = false })
   pub show_second : asked_of (codes "show" ∷ codes "--top" ∷ codes "plain" ∷ codes "--v2" ∷ []) ≡ None
   pub show_context : asked_of (codes "show" ∷ codes "--top" ∷ codes "plain" ∷ codes "--context" ∷ []) ≡ None
-  pub line : asked_of (codes "line" ∷ codes "--top" ∷ codes "plain" ∷ []) ≡ Some (record { command = Line Sending; top = codes "plain"; shows_context = false; version = One })
-  pub line_receive : asked_of (codes "line" ∷ codes "--top" ∷ codes "plain" ∷ codes "--receive" ∷ []) ≡ Some (record { command = Line Receiving; top = codes "plain"; shows_context = false; version = One })
+  pub line : asked_of (codes "line" ∷ codes "--top" ∷ codes "plain" ∷ []) ≡ Some (record { command = Line Sending; top = codes "plain"; shows_context = false; version = One; is_wide = false })
+  pub line_receive : asked_of (codes "line" ∷ codes "--top" ∷ codes "plain" ∷ codes "--receive" ∷ []) ≡ Some (record { command = Line Receiving; top = codes "plain"; shows_context = false; version = One; is_wide = false })
+  pub line_wide : asked_of (codes "line" ∷ codes "--top" ∷ codes "plain" ∷ codes "--wide" ∷ []) ≡ Some (record { command = Line Sending; top = codes "plain"; shows_context = false; version = One; is_wide = true })
+  pub line_wide_receive : asked_of (codes "line" ∷ codes "--wide" ∷ codes "--receive" ∷ codes "--top" ∷ codes "plain" ∷ []) ≡ Some (record { command = Line Receiving; top = codes "plain"; shows_context = false; version = One; is_wide = true })
+  pub pack_wide : asked_of (codes "pack" ∷ codes "--top" ∷ codes "plain" ∷ codes "--wide" ∷ []) ≡ None
   pub pack_receive : asked_of (codes "pack" ∷ codes "--top" ∷ codes "plain" ∷ codes "--receive" ∷ []) ≡ None
   pub line_context : asked_of (codes "line" ∷ codes "--top" ∷ codes "plain" ∷ codes "--context" ∷ []) ≡ None
   pub no_top : asked_of (codes "pack" ∷ []) ≡ None

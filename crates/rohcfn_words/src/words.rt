@@ -2,7 +2,7 @@
 ghost use Rattle.std.specs.Prelude.{◌≡◌, ◌↔◌, None, Some, false, map, IfOk, IfErr, option_map};
 ghost use Rattle.clap.specs.Words.{app_of, kind_of, subcommand_rows_of};
 ghost use Rattle.clap.specs.declared.builder.command.Command.TheViews.{out-Command as fields_of};
-ghost use Rattle.rohcfn_words.specs.Words.{ReadsWords, RefusesError, RefusesWords, asked, asked_in, asked_of, command_named, end_at, is_set, program, version_asked, with_flags, with_receive, with_top, with_version};
+ghost use Rattle.rohcfn_words.specs.Words.{ReadsWords, RefusesError, RefusesWords, asked, asked_in, asked_of, command_named, end_at, is_set, program, version_asked, with_flags, with_receive, with_top, with_version, with_wide};
 
 use clap::error::ErrorKind;
 use clap::{Arg, ArgAction, ArgMatches};
@@ -43,13 +43,15 @@ pub enum Direction {
     Unpack,
 }
 
-/// A call: the command, the name of the method at which it starts, whether the last context is printed, and the version of a certificate that is made.
+/// A call: the command, the name of the method at which it starts, whether the last context is printed, the version of a certificate that is made, and whether the
+/// line is the wide one, that of version 2.
 #[derive(Clone, Copy)]
 pub struct Order<'a> {
     pub command: Command,
     pub top: &'a str,
     pub shows_context: bool,
     pub version: Version,
+    pub is_wide: bool,
 }
 
 /// Why words are no order. The text is clap's, for the person who called.
@@ -75,7 +77,7 @@ impl From<AllocError> for WordsError {
 
 /// Reads the words that follow the program's name: a command, `pack`, `unpack`, `show`, `check`, `prove` or `line`, and
 /// its flags: `--top NAME`, for all commands but `show` also `--v2`, for `pack` and `unpack` also `--context`, and for `line`
-/// also `--receive`.
+/// also `--receive` and `--wide`.
 ///
 /// The clauses say it by clap's own account of a command line (`asked_of`), on which clap's parse is
 /// proved exact. Words that ask for help alone are no usage fault. The clauses say nothing of the text, and not
@@ -115,8 +117,8 @@ A bundle is read from standard input: parts, each after a line `=== PART`. For e
   rohcfn line --top plain --receive <BUNDLE  profile, octets > `FLOW ITEM` lines
 
 The parts certificate and context may be there as well. Where no certificate is there one is made,
-with --v2 of version 2. Without words the program takes those of the part words. Each format, and
-the lines of faults: docs/FORMATS.md.
+with --v2 of version 2. A line has 16 flows, with --wide 64. Without words the program takes those
+of the part words. Each format, and the lines of faults: docs/FORMATS.md.
 ";
 
 // The program's command line.
@@ -148,7 +150,7 @@ fn program<'a>(alloc: Global) -> Result<clap::Command<'a>, AllocError>
     let four = three.subcommand(check)?;
     let prove = with_version(alloc, "prove", "Makes a certificate for the part profile")?;
     let five = four.subcommand(prove)?;
-    let line = with_receive(alloc, "line", "Sends the part events on a line of flows")?;
+    let line = with_wide(alloc, "line", "Sends the part events on a line of flows")?;
     five.subcommand(line)
 }
 
@@ -220,6 +222,22 @@ fn with_receive<'a>(
     with_version(alloc, name, about)?.arg(receive)
 }
 
+// A command with the flags `--top`, `--v2`, `--receive` and `--wide`.
+fn with_wide<'a>(
+    alloc: Global,
+    name: &'a str,
+    about: &'a str,
+) -> Result<clap::Command<'a>, AllocError>
+    ensures app { IfOk result (λ command. app_of command ≡ with_wide name.entry.now) }
+    ensures local { IfOk result (λ command. (fields_of command).has_globals ≡ false) }
+{
+    let wide = Arg::new(alloc, "wide")
+        .long("wide")
+        .help("Takes a line of 64 flows in place of 16")
+        .action(ArgAction::SetTrue);
+    with_receive(alloc, name, about)?.arg(wide)
+}
+
 // The order in what clap read.
 fn order_in<'a>(matches: &ArgMatches<'a>) -> Option<Order<'a>>
     ensures { option_map asked result ≡ asked_in (subcommand_rows_of matches.now) }
@@ -230,11 +248,13 @@ fn order_in<'a>(matches: &ArgMatches<'a>) -> Option<Order<'a>>
     let top = flags.get_str("top")?;
     let shows_context = is_set(flags.get_str("context"));
     let version = version_asked(is_set(flags.get_str("v2")));
+    let is_wide = is_set(flags.get_str("wide"));
     Some(Order {
         command,
         top,
         shows_context,
         version,
+        is_wide,
     })
 }
 

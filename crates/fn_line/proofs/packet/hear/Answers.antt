@@ -1,15 +1,14 @@
-use Rattle.std.proofs.Common.{◌≡◌, ◌∙◌, refl, sym, ◌<◌, [], ◌∷◌, length, drop, arith}
+use Rattle.std.proofs.Common.{◌≡◌, ◌∙◌, refl, rules, sym, ◌<◌, [], ◌∷◌, length, drop, arith}
 use Rattle.std.proofs.lemmas.List.{append-nil}
 use Rattle.std.specs.Prelude.{slice_get, Some}
 use Rattle.std.proofs.lemmas.Option.{slice_get_read}
-use Rattle.fn_line.specs.Lines.{flow_count}
 use Rattle.fn_line.proofs.Begun.{fresh, heard_awaited, heard_taken, heard_reset, packet_fault, start_fault}
 use Rattle.fn_line.proofs.packet.hear.Goals as goal
 
 pub returns-in_default-clause-err : goal.returns-in_default-clause-err
 returns-in_default-clause-err c =
     let e = c.first.ensures in
-    (refl, start_fault c.args.accepted.now c.args.contexts.now.items c.args.begun.now (drop 1 c.args.begun.now) c.first.result flow_count c.requires.flows e c.in_default.ensures)
+    (refl, start_fault c.args.accepted.now c.args.contexts.now.items c.args.begun.now (drop 1 c.args.begun.now) c.first.result c.len.result (search rules) e c.in_default.ensures)
 
 pub returns-in-Reset-clause-ok : goal.returns-in-Reset-clause-ok
 returns-in-Reset-clause-ok c =
@@ -17,8 +16,8 @@ returns-in-Reset-clause-ok c =
     let starts = rw c.in-Reset.is at c.in-Some.ensures in (
       [],
       sym (append-nil c.args.out.now.items),
-      heard_reset c.args.accepted.now c.args.contexts.now.items c.args.begun.now (drop 1 c.args.begun.now) c.clear-in-Reset.new.self c.first.result c.in-Reset.flow c.from-in-Reset.result flow_count
-          c.new.result c.requires.new c.requires.flows e starts.0 starts.1 (c.from-in-Reset.ensures ∙ c.number-in-Reset.ensures.value) c.new.ensures c.clear-in-Reset.ensures,
+      heard_reset c.args.accepted.now c.args.contexts.now.items c.args.begun.now (drop 1 c.args.begun.now) c.clear-in-Reset.new.self c.first.result c.in-Reset.flow c.from-in-Reset.result c.len.result
+          c.new.result c.requires.new (search rules) e starts.0 starts.1 (c.from-in-Reset.ensures ∙ c.number-in-Reset.ensures.value) c.new.ensures c.clear-in-Reset.ensures,
     )
 
 pub try_packet-requires : goal.try_packet-requires
@@ -26,8 +25,8 @@ try_packet-requires c =
     let e = c.first.ensures in
     let starts = rw c.in-Packet.is at c.in-Some.ensures in
     let same : c.from.result ≡ c.first.result = c.from.ensures ∙ c.number.ensures.value ∙ sym starts.0 in
-    let count : length c.args.contexts.now.items ≡ flow_count = c.requires.flows in
-    let below : c.in-Packet.flow < flow_count = starts.1 in
+    let count : length c.args.contexts.now.items ≡ c.len.result = search rules in
+    let below : c.in-Packet.flow < c.len.result = starts.1 in
     let place : c.from.result ≡ c.in-Packet.flow = c.from.ensures ∙ c.number.ensures.value in
     let there : slice_get c.args.contexts.now.items c.from.result ≡ Some c.index_mut-context.result.now =
     slice_get_read c.args.contexts.now.items (length c.args.contexts.now.items) c.from.result c.index_mut-context.result.now refl (omega arith) c.index_mut-context.ensures.value in
@@ -38,8 +37,8 @@ returns-in_ok-push-in-Ok-clause-ok c =
     let e = c.first.ensures in
     let starts = rw c.in-Packet.is at c.in-Some.ensures in
     let same : c.from.result ≡ c.first.result = c.from.ensures ∙ c.number.ensures.value ∙ sym starts.0 in
-    let count : length c.args.contexts.now.items ≡ flow_count = c.requires.flows in
-    let below : c.in-Packet.flow < flow_count = starts.1 in
+    let count : length c.args.contexts.now.items ≡ c.len.result = search rules in
+    let below : c.in-Packet.flow < c.len.result = starts.1 in
     let place : c.from.result ≡ c.in-Packet.flow = c.from.ensures ∙ c.number.ensures.value in
     let there : slice_get c.args.contexts.now.items c.from.result ≡ Some c.index_mut-context.result.now =
     slice_get_read c.args.contexts.now.items (length c.args.contexts.now.items) c.from.result c.index_mut-context.result.now refl (omega arith) c.index_mut-context.ensures.value in
@@ -55,8 +54,8 @@ returns-in_default-tried-clause-ok c =
     let e = c.first.ensures in
     let starts = rw c.in-Packet.is at c.in-Some.ensures in
     let same : c.from.result ≡ c.first.result = c.from.ensures ∙ c.number.ensures.value ∙ sym starts.0 in
-    let count : length c.args.contexts.now.items ≡ flow_count = c.requires.flows in
-    let below : c.in-Packet.flow < flow_count = starts.1 in
+    let count : length c.args.contexts.now.items ≡ c.len.result = search rules in
+    let below : c.in-Packet.flow < c.len.result = starts.1 in
     let place : c.from.result ≡ c.in-Packet.flow = c.from.ensures ∙ c.number.ensures.value in
     let there : slice_get c.args.contexts.now.items c.from.result ≡ Some c.index_mut-context.result.now =
     slice_get_read c.args.contexts.now.items (length c.args.contexts.now.items) c.from.result c.index_mut-context.result.now refl (omega arith) c.index_mut-context.ensures.value in
@@ -71,8 +70,8 @@ returns-in-Err-clause-err c =
     let e = c.first.ensures in
     let starts = rw c.in-Packet.is at c.in-Some.ensures in
     let same : c.from.result ≡ c.first.result = c.from.ensures ∙ c.number.ensures.value ∙ sym starts.0 in
-    let count : length c.args.contexts.now.items ≡ flow_count = c.requires.flows in
-    let below : c.in-Packet.flow < flow_count = starts.1 in
+    let count : length c.args.contexts.now.items ≡ c.len.result = search rules in
+    let below : c.in-Packet.flow < c.len.result = starts.1 in
     let place : c.from.result ≡ c.in-Packet.flow = c.from.ensures ∙ c.number.ensures.value in
     let there : slice_get c.args.contexts.now.items c.from.result ≡ Some c.index_mut-context.result.now =
     slice_get_read c.args.contexts.now.items (length c.args.contexts.now.items) c.from.result c.index_mut-context.result.now refl (omega arith) c.index_mut-context.ensures.value in

@@ -10,3 +10,6 @@ returns-in-Asked-clause-line c = told c.asked_event.result _ (asked_event c.args
 
 pub returns-in-NoFormat-clause-line : goal.returns-in-NoFormat-clause-line
 returns-in-NoFormat-clause-line c = told c.plain_event-in-NoFormat.result _ (in_event c.args.number (codes ": F3 NoFormat") (record { no_feed = refl })) c.plain_event-in-NoFormat.ensures
+
+pub returns-in-Flow-clause-line : goal.returns-in-Flow-clause-line
+returns-in-Flow-clause-line c = told c.plain_event-in-Flow.result _ (in_event c.args.number (codes ": F4 Flow") (record { no_feed = refl })) c.plain_event-in-Flow.ensures

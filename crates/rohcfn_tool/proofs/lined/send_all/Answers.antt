@@ -3,8 +3,8 @@ use Rattle.rohcfn_tool.proofs.Flowing.{refused_event_is, sent_printed}
 use Rattle.rohcfn_tool.proofs.lined.send_all.Goals as goal
 
 pub returns-in-Ok : goal.returns-in-Ok
-returns-in-Ok c = sent_printed c.args.accepted.now c.args.events.now _ _ c.print_sent.result c.in-Ok.ensures.ok c.print_sent.ensures
+returns-in-Ok c = sent_printed c.args.version c.args.accepted.now c.args.events.now _ _ c.print_sent.result c.in-Ok.ensures.ok c.print_sent.ensures
 
 pub returns-in_ok-line-in-Err-Refused : goal.returns-in_ok-line-in-Err-Refused
 returns-in_ok-line-in-Err-Refused c =
-    refused_event_is c.args.accepted.now c.args.events.now c.in-Err-Refused.field-0 c.in-Err-Refused.index _ c.in-Err-Refused.fault _ _ c.refusal.result c.in-Err-Refused.ensures.fault c.in-Err-Refused.field-0-is c.in_ok-line-in-Err-Refused.ensures.says c.in_ok-line-in-Err-Refused.ensures.line (search rules) c.as_str.ensures.value c.refusal.ensures
+    refused_event_is c.args.version c.args.accepted.now c.args.events.now c.in-Err-Refused.field-0 c.in-Err-Refused.index _ c.in-Err-Refused.fault _ _ c.refusal.result c.in-Err-Refused.ensures.fault c.in-Err-Refused.field-0-is c.in_ok-line-in-Err-Refused.ensures.says c.in_ok-line-in-Err-Refused.ensures.line (search rules) c.as_str.ensures.value c.refusal.ensures

@@ -1,4 +1,4 @@
-use Rattle.rohcfn_tool.proofs.Stepping.{item_refused, packed_step}
+use Rattle.rohcfn_tool.proofs.Stepping.{item_refused, no_flow_blamed, packed_step}
 use Rattle.rohcfn_tool.proofs.printing.pack_one.Goals as goal
 
 pub returns-in-Ok : goal.returns-in-Ok
@@ -7,3 +7,6 @@ returns-in-Ok c =
 
 pub returns : goal.returns
 returns c = item_refused c.args.accepted.now c.args.context.now _ _ c.args.number c.args.item.now c.in-Err.fault c.in-Err.ensures.fault c.in_ok-refuse_item-in-Err.ensures
+
+pub refuse_item-requires : goal.refuse_item-requires
+refuse_item-requires c = no_flow_blamed c.args.accepted.now c.args.context.now c.args.item.now c.in-Err.fault c.in-Err.ensures.fault

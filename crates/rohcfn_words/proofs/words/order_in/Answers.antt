@@ -22,6 +22,7 @@ returns c =
     let receives = c.is_set-receives.ensures ∙ ap is_set (c.get_str.ensures ∙ first_value-rows (found_of c.in_ok-name.flags.now) (codes "receive")) in
     let second : c.is_set.result ≡ is_set (first_of (codes "v2") (rows_of (found_of c.in_ok-name.flags.now))) = c.is_set.ensures ∙ ap is_set (c.get_str-4.ensures ∙ first_value-rows (found_of c.in_ok-name.flags.now) (codes "v2")) in
     let set = c.is_set-shows_context.ensures ∙ ap is_set (c.get_str-3.ensures ∙ first_value-rows (found_of c.in_ok-name.flags.now) (codes "context")) in
-    let parts = asked_by_parts _ _ _ (Some c.in_ok-command.command) c.is_set-receives.result (Some c.in_ok-top.top.now) c.is_set-shows_context.result c.is_set.result met c.in_ok-command.ensures receives
-    (c.in_ok-top.ensures ∙ first_value-rows (found_of c.in_ok-name.flags.now) (codes "top")) set second in
-    ap (λ version. Some (record { command = c.in_ok-command.command; top = c.in_ok-top.top.now; shows_context = c.is_set-shows_context.result; version = version })) c.version_asked-version.ensures ∙ parts
+    let wide = c.is_set-is_wide.ensures ∙ ap is_set (c.get_str-5.ensures ∙ first_value-rows (found_of c.in_ok-name.flags.now) (codes "wide")) in
+    let parts = asked_by_parts _ _ _ (Some c.in_ok-command.command) c.is_set-receives.result (Some c.in_ok-top.top.now) c.is_set-shows_context.result c.is_set.result c.is_set-is_wide.result met c.in_ok-command.ensures receives
+    (c.in_ok-top.ensures ∙ first_value-rows (found_of c.in_ok-name.flags.now) (codes "top")) set second wide in
+    ap (λ version. Some (record { command = c.in_ok-command.command; top = c.in_ok-top.top.now; shows_context = c.is_set-shows_context.result; version = version; is_wide = c.is_set-is_wide.result })) c.version_asked-version.ensures ∙ parts
