@@ -2,11 +2,7 @@
 """Through the built program: worked rows in which memory is refused, each growth in turn, alone and with all that come after it.
 
 A library that is loaded before the program stands in for malloc and realloc. A run in which a growth was refused must end with status 3, say that memory
-is out, and have printed no more than a front of the row's output. At last no growth is left to refuse, and the row's own output must come.
-
-One thing more may be: a list that is made with a hint of its size asks for one place where the hint is refused. So where one growth alone is refused, the
-row's own output and status may come as well; but then the run must end with status 3 where the next growth is refused too, and there is at most one such
-growth for each line of the bundle. How many there were is told."""
+is out, and have printed no more than a front of the row's output. At last no growth is left to refuse, and the row's own output must come."""
 import concurrent.futures
 import itertools
 import os
@@ -114,41 +110,41 @@ def rows():
 class Row:
     """A row that the program runs with the library, which refuses growths."""
 
-    def __init__(self, library, name, text, output, status):
-        self.library, self.name, self.text = library, name, text.encode()
+    def __init__(self, library, text, output, status):
+        self.library, self.text = library, text.encode()
         self.output, self.status = output.encode(), status
 
     def run(self, first, last):
-        """The end of a run in which the growths from the first to the last are refused: as ever with none refused, `whole`, or with some, `row`; `out` of memory; `wrong`."""
+        """The end of a run in which the growths from the first to the last are refused: as ever with none refused, `whole`; `out` of memory; `wrong`."""
         limits = {"LD_PRELOAD": self.library, "FIRST_REFUSED": str(first), "LAST_REFUSED": str(last)}
         run = subprocess.run([PROGRAM], input=self.text, capture_output=True, env=limits, check=False)
-        if (run.stdout, run.returncode) == (self.output, self.status):
-            return {b"whole\n": "whole", b"refused\n": "row"}.get(run.stderr, "wrong")
+        if (run.stdout, run.stderr, run.returncode) == (self.output, b"whole\n", self.status):
+            return "whole"
         is_out = run.returncode == 3 and run.stderr == b"error: out of memory\nrefused\n" and self.output.startswith(run.stdout)
         return "out" if is_out else "wrong"
 
     def ends(self, is_alone):
-        """Whether each run ended as it may, growth by growth, and how many refused hints were asked again."""
+        """How each run ended, growth by growth."""
         if self.run(0, 0) != "whole":
-            return [False], 0
-        ends, again = [], 0
-        for place in itertools.count(1):
-            found = self.run(place, place if is_alone else ALL)
-            if found == "whole":
-                return ends + [place > 1 and again <= self.text.count(b"\n")], again
-            if found == "row" and is_alone:
-                again += 1
-                found = self.run(place, place + 1)
-            ends.append(found == "out")
+            return ["wrong"]
+        places = itertools.count(1)
+        return list(itertools.takewhile(lambda end: end != "whole", (self.run(it, it if is_alone else ALL) for it in places)))
 
 
-def sweep(library, row, is_alone):
-    """How many runs of the row were right and how many wrong, and how many refused hints were asked again."""
-    ends, again = Row(library, *row).ends(is_alone)
-    for place, is_right in enumerate(ends, 1):
-        if not is_right:
-            print("%s: wrong where growth %d is refused %s" % (row[0], place, "alone" if is_alone else "with all after it"))
-    return ends.count(True), ends.count(False), again
+def sweep(name, row, is_alone):
+    """How many runs of the row ended as they must and how many didn't."""
+    ends = row.ends(is_alone)
+    for place, end in enumerate(ends, 1):
+        if end == "wrong":
+            print("%s: wrong where growth %d is refused %s" % (name, place, "alone" if is_alone else "with all after it"))
+    return ends.count("out"), ends.count("wrong")
+
+
+def jobs(library):
+    """What is swept: each row of the program in both ways."""
+    for name, text, output, status in rows():
+        for is_alone in (True, False):
+            yield name, Row(library, text, output, status), is_alone
 
 
 def main():
@@ -157,10 +153,9 @@ def main():
         if not build(library):
             print("refusals: no compiler makes the library that refuses growths, neither the kit's nor the system's")
             return 1
-        jobs = [(library, row, is_alone) for row in rows() for is_alone in (True, False)]
         with concurrent.futures.ProcessPoolExecutor() as pool:
-            passed, failed, again = map(sum, zip(*pool.map(sweep, *zip(*jobs))))
-    print("refusals: %d passed, %d failed; %d refused hints were asked again" % (passed, failed, again))
+            passed, failed = map(sum, zip(*pool.map(sweep, *zip(*jobs(library)))))
+    print("refusals: %d passed, %d failed" % (passed, failed))
     return 1 if failed or not passed else 0
 
 

@@ -4,6 +4,8 @@
 use rohcfn_input::counted::Uncounted;
 use rohcfn_input::status::{Failure, Status};
 use rohcfn_tool::program::run;
+use std::alloc::{AllocError, Global};
+use std::env::Args;
 use std::io::Eprint;
 use std::process::ExitCode;
 use std::{env, io};
@@ -18,14 +20,10 @@ fn main(rt: HostRuntime) -> ExitCode {
         }
         Err(_) => return failed(&rt, Failure::Memory),
     };
-    let Ok(words) = args.skip(1).collect::<Vec<String>>(alloc) else {
+    let Ok(words) = words_of(alloc, args) else {
         return failed(&rt, Failure::Memory);
     };
-    let Ok(texts) = words
-        .iter()
-        .map(|word| word.as_str())
-        .collect::<Vec<&str>>(alloc)
-    else {
+    let Ok(texts) = texts_of(alloc, words.as_slice()) else {
         return failed(&rt, Failure::Memory);
     };
     let outcome = run(
@@ -43,6 +41,26 @@ fn main(rt: HostRuntime) -> ExitCode {
         _ if !told => failed(&rt, Failure::Writing),
         status => ExitCode::from(status.code()),
     }
+}
+
+// The words after the program's name.
+fn words_of(alloc: Global, args: Args<Global>) -> Result<Vec<String>, AllocError> {
+    // A loop, since `collect` goes on after a refused growth.
+    let mut words = Vec::new(alloc);
+    for word in args.skip(1) {
+        words.push(word)?;
+    }
+    Ok(words)
+}
+
+// The texts of words.
+fn texts_of(alloc: Global, words: &[String]) -> Result<Vec<&str>, AllocError> {
+    // A loop, since `collect` goes on after a refused growth.
+    let mut texts = Vec::new(alloc);
+    for word in words {
+        texts.push(word.as_str())?;
+    }
+    Ok(texts)
 }
 
 // The exit status of a failure, which one line on standard error tells.

@@ -209,5 +209,10 @@ fn read_value(alloc: Global, word: &str) -> Result<Option<AskedValue>, AllocErro
 pub fn pieces<'a>(alloc: Global, line: &'a str) -> Result<Vec<&'a str>, AllocError>
     ensures { IfOk result (λ words. map (λ word. word.now) words.items ≡ slice_split (λ octet. octet == 32) line.entry.now) }
 {
-    line.split(' ').collect(alloc)
+    // A loop, since `collect` goes on after a refused growth.
+    let mut words = Vec::new(alloc);
+    for word in line.split(' ') {
+        words.push(word)?;
+    }
+    Ok(words)
 }

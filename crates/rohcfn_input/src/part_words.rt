@@ -31,5 +31,12 @@ pub fn words_at<'a>(
 fn filled_lines<'a>(alloc: Global, text: &'a str) -> Result<Vec<&'a str>, AllocError>
     ensures { IfOk result (λ found. map (λ line. line.now) found.items ≡ filter (λ line. not (length line == 0)) (lines text.entry.now)) }
 {
-    text.lines().filter(|line| !line.is_empty()).collect(alloc)
+    // A loop, since `collect` goes on after a refused growth.
+    let mut found = Vec::new(alloc);
+    for line in text.lines() {
+        if !line.is_empty() {
+            found.push(line)?;
+        }
+    }
+    Ok(found)
 }
