@@ -1,8 +1,11 @@
 #!/usr/bin/env python3
-"""Through the built program: worked rows in which memory is refused, each growth in turn, alone and with all that come after it.
+"""Through built programs: worked rows in which memory is refused, each growth in turn.
 
-A library that is loaded before the program stands in for malloc and realloc. A run in which a growth was refused must end with status 3, say that memory
-is out, and have printed no more than a front of the row's output. At last no growth is left to refuse, and the row's own output must come."""
+A library that is loaded before a program stands in for malloc and realloc. In the rows of `rohcfn` a growth is refused alone, and with all that come after it:
+the run must end with status 3, say that memory is out, and have printed no more than a front of the row's output. The rows of crates/fn_refusals/stdin make one
+call each; a growth is refused alone, in the call or before it. Before it the run must end with status 3; in it, the call must leave what it was given as it was
+and give the right answer when it is made again, or say again that memory is out where it is a receiver's. At last no growth is left to refuse, and the row's
+own output must come."""
 import concurrent.futures
 import itertools
 import os
@@ -16,8 +19,10 @@ from built import PLAIN
 from samples import CERTIFICATES, OPT, SEQ, TICK
 
 HERE = pathlib.Path(__file__).parent
-PROGRAM = HERE.parent / "crates" / "rohcfn" / "out" / "rohcfn"
+CRATES = HERE.parent / "crates"
 ALL = 1 << 62
+AGAIN = "refused, as before, then right\n"
+REPEATED = "refused, items kept, refused again\n"
 
 LIBRARY = r"""
 typedef unsigned long size;
@@ -108,20 +113,23 @@ def rows():
 
 
 class Row:
-    """A row that the program runs with the library, which refuses growths."""
+    """A row that a program runs with the library, which refuses growths, and what is printed where they are refused to its call."""
 
-    def __init__(self, library, text, output, status):
-        self.library, self.text = library, text.encode()
-        self.output, self.status = output.encode(), status
+    def __init__(self, library, program, text, output, status=0, refused=None):
+        self.library, self.program, self.text = library, CRATES / program / "out" / program, text.encode()
+        self.output, self.status, self.refused = output.encode(), status, refused and refused.encode()
 
     def run(self, first, last):
-        """The end of a run in which the growths from the first to the last are refused: as ever with none refused, `whole`; `out` of memory; `wrong`."""
+        """The end of a run in which the growths from the first to the last are refused: as ever with none refused, `whole`; `out` of memory; refused to the row's `call`;
+        `wrong`."""
         limits = {"LD_PRELOAD": self.library, "FIRST_REFUSED": str(first), "LAST_REFUSED": str(last)}
-        run = subprocess.run([PROGRAM], input=self.text, capture_output=True, env=limits, check=False)
-        if (run.stdout, run.stderr, run.returncode) == (self.output, b"whole\n", self.status):
-            return "whole"
+        run = subprocess.run([self.program], input=self.text, capture_output=True, env=limits, check=False)
+        ends = {
+            (self.status, self.output, b"whole\n"): "whole",
+            (0, self.refused, b"refused\n"): "call",
+        }
         is_out = run.returncode == 3 and run.stderr == b"error: out of memory\nrefused\n" and self.output.startswith(run.stdout)
-        return "out" if is_out else "wrong"
+        return "out" if is_out else ends.get((run.returncode, run.stdout, run.stderr), "wrong")
 
     def ends(self, is_alone):
         """How each run ended, growth by growth."""
@@ -132,19 +140,27 @@ class Row:
 
 
 def sweep(name, row, is_alone):
-    """How many runs of the row ended as they must and how many didn't."""
+    """How many runs of the row ended as they may, and how many not; where the row is a call, some growth must be refused to it."""
     ends = row.ends(is_alone)
     for place, end in enumerate(ends, 1):
         if end == "wrong":
             print("%s: wrong where growth %d is refused %s" % (name, place, "alone" if is_alone else "with all after it"))
-    return ends.count("out"), ends.count("wrong")
+    due = "call" if row.refused else "out"
+    if due not in ends:
+        print("%s: no growth is refused %s" % (name, "to the call" if row.refused else "at all"))
+    wrong = ends.count("wrong") + (due not in ends)
+    return len(ends) - ends.count("wrong"), wrong, ends.count("call")
 
 
 def jobs(library):
-    """What is swept: each row of the program in both ways."""
+    """What is swept: rows of the program in both ways, and calls."""
     for name, text, output, status in rows():
         for is_alone in (True, False):
-            yield name, Row(library, text, output, status), is_alone
+            yield name, Row(library, "rohcfn", text, output, status), is_alone
+    for call in (CRATES / "fn_refusals" / "stdin").read_text().splitlines():
+        if call and not call.startswith("#"):
+            refused = REPEATED if call.startswith("feed ") else AGAIN
+            yield call, Row(library, "fn_refusals", call + "\n", "right\n", 0, refused), True
 
 
 def main():
@@ -154,8 +170,8 @@ def main():
             print("refusals: no compiler makes the library that refuses growths, neither the kit's nor the system's")
             return 1
         with concurrent.futures.ProcessPoolExecutor() as pool:
-            passed, failed = map(sum, zip(*pool.map(sweep, *zip(*jobs(library)))))
-    print("refusals: %d passed, %d failed" % (passed, failed))
+            passed, failed, called = map(sum, zip(*pool.map(sweep, *zip(*jobs(library)))))
+    print("refusals: %d passed, %d failed; %d growths were refused to calls of rows" % (passed, failed, called))
     return 1 if failed or not passed else 0
 
 
