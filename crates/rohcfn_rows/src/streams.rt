@@ -100,6 +100,13 @@ impl Write for Sink {
 const ROW: &[u8] =
     b"=== words\npack --top plain\n=== profile\nplain\n{\n  UNCOMPRESSED { a [4]; b [12]; }\n  COMPRESSED {\n    d =:= '10' [2];\n    a =:= irregular(4) [4];\n    b =:= irregular(12) [12];\n  }\n}\n=== items\n16:5abc\n";
 
+const ROW_TEXT: &[u8] = b"18:96af00\n";
+
+const LINE: &[u8] =
+    b"=== words\nline --top tick\n=== profile\ntick\n{\n  UNCOMPRESSED {\n    sn [8];\n  }\n  COMPRESSED short {\n    d =:= '0' [1];\n    sn =:= lsb(4, 1) [4];\n    c =:= crc(3, 0x06, 0x07, THIS.UVALUE, THIS.ULENGTH) [3];\n  }\n  COMPRESSED full {\n    d =:= '1' [1];\n    sn =:= irregular(8) [8];\n  }\n}\n=== events\nsend 0 8:01\nsend 1 8:01\nsend 0 8:02\n";
+
+const LINE_TEXT: &[u8] = b"0080800180800014\n0 8:01\n1 8:01\n0 8:02\n";
+
 const ENDED: &[u8] =
     b"=== words\r\n\r\npack --top plain\r\n\n=== profile\r\nplain\n{\n  UNCOMPRESSED { a [4]; b [12]; }\n  COMPRESSED {\n    d =:= '10' [2];\n    a =:= irregular(4) [4];\n    b =:= irregular(12) [12];\n  }\n}\n=== items\r\n16:5abc\r\n=== packets";
 
@@ -155,9 +162,10 @@ fn prints(
 #[test]
 fn prints_an_answer(rt: HostRuntime) {
     let words = ["pack", "--top", "plain"];
-    prints(&rt, &[], ROW, Status::Done, b"18:96af00\n");
-    prints(&rt, &[], ENDED, Status::Done, b"18:96af00\n");
-    prints(&rt, words.as_slice(), ROW, Status::Done, b"18:96af00\n");
+    prints(&rt, &[], ROW, Status::Done, ROW_TEXT);
+    prints(&rt, &[], ENDED, Status::Done, ROW_TEXT);
+    prints(&rt, words.as_slice(), ROW, Status::Done, ROW_TEXT);
+    prints(&rt, &[], LINE, Status::Done, LINE_TEXT);
     let missing = b"bundle: I4 bad part profile\n";
     prints(&rt, words.as_slice(), b"", Status::Refused, missing);
     prints(
@@ -357,51 +365,75 @@ fn asks_no_more_after_four_mebibytes(rt: HostRuntime) {
     assert!(rt; over_and_asked(rt.alloc(), endless) == (true, false));
 }
 
+// The rows, each with its output.
+fn rows() -> [(&'static [u8], &'static [u8]); 2] {
+    [(ROW, ROW_TEXT), (LINE, LINE_TEXT)]
+}
+
+// How a run ends whose reader gives an octet a read and fails after so many, and what it has written.
+fn with_reads(alloc: Global, input: &[u8], reads: usize, fault: ErrorKind) -> (Outcome, Vec<u8>) {
+    let mut source = Uncounted(Source {
+        left: input,
+        step: 1,
+        reads,
+        fault,
+    });
+    let mut written = Uncounted(Vec::new(alloc));
+    let outcome = run(alloc, &[], &mut source, &mut written);
+    let Uncounted(written) = written;
+    (outcome, written)
+}
+
+// How a run ends whose writer takes an octet a write and fails after so many, and what the writer took.
+fn with_writes(alloc: Global, input: &[u8], writes: usize) -> (Outcome, Vec<u8>) {
+    let mut sink = Uncounted(Sink {
+        taken: Vec::new(alloc),
+        step: 1,
+        writes,
+    });
+    let outcome = run(alloc, &[], &mut Uncounted(input), &mut sink);
+    let Uncounted(Sink { taken, .. }) = sink;
+    (outcome, taken)
+}
+
 #[test]
 fn fails_with_its_reader(rt: HostRuntime) {
-    for reads in [0, 1, 5, ROW.len()] {
-        for fault in [ErrorKind::Other, ErrorKind::Interrupted] {
-            let mut source = Uncounted(Source {
-                left: ROW,
-                step: 1,
-                reads,
-                fault,
-            });
-            let mut written = Uncounted(Vec::new(rt.alloc()));
-            let outcome = run(rt.alloc(), &[], &mut source, &mut written);
-            assert!(rt;
-                outcome.status == Status::Failed(Failure::Reading),
-                "at {reads}"
-            );
-            assert!(rt; outcome.usage.is_none(), "at {reads}");
-            assert!(rt; written.0.is_empty(), "at {reads}");
+    for (row, text) in rows() {
+        // The read after the last octet tells the end, and no read comes after it.
+        let all = row.len().saturating_add(1);
+        for reads in 0..all {
+            for fault in [ErrorKind::Other, ErrorKind::Interrupted] {
+                let (outcome, written) = with_reads(rt.alloc(), row, reads, fault);
+                assert!(rt;
+                    outcome.status == Status::Failed(Failure::Reading),
+                    "at {reads}"
+                );
+                assert!(rt; outcome.usage.is_none(), "at {reads}");
+                assert!(rt; written.is_empty(), "at {reads}");
+            }
         }
+        let (outcome, written) = with_reads(rt.alloc(), row, all, ErrorKind::Other);
+        assert!(rt; outcome.status == Status::Done);
+        assert!(rt; written.as_slice() == text);
     }
 }
 
 #[test]
 fn fails_with_its_writer(rt: HostRuntime) {
-    let text = b"18:96af00\n";
-    for writes in 0..11 {
-        let mut sink = Uncounted(Sink {
-            taken: Vec::new(rt.alloc()),
-            step: 1,
-            writes,
-        });
-        let mut source = Uncounted(ROW);
-        let outcome = run(rt.alloc(), &[], &mut source, &mut sink);
-        let wanted = if writes < 10 {
-            Status::Failed(Failure::Writing)
-        } else {
-            Status::Done
-        };
-        assert!(rt; outcome.status == wanted, "at {writes}");
-        assert!(rt;
-            sink.0.taken.as_slice() == &text[..writes.min(10)],
-            "at {writes}"
-        );
+    for (row, text) in rows() {
+        for writes in 0..text.len() {
+            let (outcome, taken) = with_writes(rt.alloc(), row, writes);
+            assert!(rt;
+                outcome.status == Status::Failed(Failure::Writing),
+                "at {writes}"
+            );
+            assert!(rt; taken.as_slice() == &text[..writes], "at {writes}");
+        }
+        let (outcome, taken) = with_writes(rt.alloc(), row, text.len());
+        assert!(rt; outcome.status == Status::Done);
+        assert!(rt; taken.as_slice() == text);
+        let (outcome, taken) = with_steps(rt.alloc(), &[], row, 1, 0);
+        assert!(rt; outcome.status == Status::Failed(Failure::Writing));
+        assert!(rt; taken.is_empty());
     }
-    let (outcome, taken) = with_steps(rt.alloc(), &[], ROW, 1, 0);
-    assert!(rt; outcome.status == Status::Failed(Failure::Writing));
-    assert!(rt; taken.is_empty());
 }
