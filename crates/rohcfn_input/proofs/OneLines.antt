@@ -31,7 +31,7 @@ pub told : (r : Result (String Global) AllocError) (line : List ℕ) → IsLine 
 told (Err e) line h is = tt
 told (Ok text) line h is = subst IsLine (sym is) h
 
-above : (x : ℕ) → 11 ≤ x → not (x == 10) ≡ true
+pub above : (x : ℕ) → 11 ≤ x → not (x == 10) ≡ true
 above x h = ap not (not_ten x (λ e. omega arith))
 
 -- ---- numbers and names

@@ -1,10 +1,10 @@
 -- Names of parts as they are shown.
-use Rattle.std.proofs.Common.{◌≡◌, ◌∙◌, ℕ, Bool, true, false, List, if◌then◌else◌, refl, sym, ap, Bor, codes}
+use Rattle.std.proofs.Common.{◌≡◌, ◌∙◌, ℕ, Bool, true, false, List, if◌then◌else◌, refl, ap, Bor, codes}
 use Rattle.std.specs.Str.{IsUtf8, is_utf8}
 use Rattle.std.proofs.lemmas.Str.{IsUtf8-from_is_utf8, is_utf8-from_IsUtf8}
 use Rattle.rohcfn_input.specs.declared.bundle.BadPart.{BadPart}
 use Rattle.rohcfn_input.specs.declared.bundle.BadPart.TheVariants.{Named}
-use Rattle.rohcfn_input.specs.Bundle.{shown_name}
+use Rattle.rohcfn_input.specs.Bundle.{shown_name, shown_text}
 
 pub not_utf8 : (text : List ℕ) → ¬ (IsUtf8 text) → is_utf8 text ≡ false
 not_utf8 text bad = by_test (is_utf8 text) refl
@@ -13,9 +13,9 @@ not_utf8 text bad = by_test (is_utf8 text) refl
     by_test true e = absurd (bad (IsUtf8-from_is_utf8 text e))
     by_test false e = refl
 
-pub shown_text : (bad : BadPart) (name : Bor (List ℕ)) (text : List ℕ) → bad ≡ Named name → IsUtf8 name.now → text ≡ name.now → text ≡ shown_name bad
-shown_text bad name text is utf8 e =
-    e ∙ sym (ap shown_name is ∙ ap (λ b. if b then name.now else codes "-") (is_utf8-from_IsUtf8 name.now utf8))
+pub name_text : (bad : BadPart) (name : Bor (List ℕ)) → bad ≡ Named name → IsUtf8 name.now → shown_name bad ≡ shown_text name.now
+name_text bad name is utf8 =
+    ap shown_name is ∙ ap (λ b. if b then shown_text name.now else codes "-") (is_utf8-from_IsUtf8 name.now utf8)
 
-pub shown_dash : (bad : BadPart) (name : Bor (List ℕ)) → bad ≡ Named name → ¬ (IsUtf8 name.now) → codes "-" ≡ shown_name bad
-shown_dash bad name is other = sym (ap shown_name is ∙ ap (λ b. if b then name.now else codes "-") (not_utf8 name.now other))
+pub name_dash : (bad : BadPart) (name : Bor (List ℕ)) → bad ≡ Named name → ¬ (IsUtf8 name.now) → shown_name bad ≡ codes "-"
+name_dash bad name is other = ap shown_name is ∙ ap (λ b. if b then shown_text name.now else codes "-") (not_utf8 name.now other)

@@ -1,7 +1,8 @@
 -- What a bundle's parts are.
-use Rattle.std.specs.Prelude.{◌≡◌, ◌≢◌, ◌-◌, ◌==◌, ◌||◌, ℕ, Bool, true, false, List, [], ◌∷◌, ◌++◌, Option, None, Some, if◌then◌else◌, length, take, drop, codes, nat_eq, slice_index, option_map}
+use Rattle.std.specs.Prelude.{◌≡◌, ◌≢◌, ◌-◌, ◌==◌, ◌||◌, ◌&&◌, not, ℕ, Bool, true, false, List, [], ◌∷◌, ◌++◌, Option, None, Some, if◌then◌else◌, length, take, drop, codes, nat_eq, nat_le, nat_lt, slice_index, option_map}
 use Rattle.std.specs.List.{AllByRecursion, flat_map, starts_with, ends_with}
 use Rattle.std.specs.Str.{bytes_eq, is_utf8}
+use Rattle.hex.specs.Hex.{encode_lower}
 use Rattle.rohcfn_input.specs.declared.bundle.Parts.{Parts}
 use Rattle.rohcfn_input.specs.declared.bundle.BadPart.{BadPart}
 use Rattle.rohcfn_input.specs.declared.bundle.BadPart.TheVariants.{Front, Named}
@@ -132,7 +133,19 @@ pub record IsSpellable (part : Part) : Type 0 where
 abbrev pub HasSpelled : List Part → Type 0
 HasSpelled parts = (parts_of (flat_map spelled parts) ≡ parts) × (front_of (flat_map spelled parts) ≡ [])
 
+-- a visible octet of ASCII or a blank, and no backslash
+abbrev pub is_plain : ℕ → Bool
+is_plain octet = nat_le 32 octet && nat_le octet 126 && not (octet == 92)
+
+-- an octet in a line: itself where it is plain, else a backslash, an x and two hex digits
+abbrev pub shown_octet : ℕ → List ℕ
+shown_octet octet = if is_plain octet then octet ∷ [] else 92 ∷ 120 ∷ encode_lower (octet ∷ [])
+
+-- a text in a line: where it has more than 64 octets, its first 64 and two dots
+abbrev pub shown_text : List ℕ → List ℕ
+shown_text text = if nat_lt 64 (length text) then flat_map shown_octet (take 64 text) ++ codes ".." else flat_map shown_octet text
+
 -- a part's name in a line: itself where it is text
 abbrev pub shown_name : BadPart → List ℕ
 shown_name Front = codes "-"
-shown_name (Named name) = if is_utf8 name.now then name.now else codes "-"
+shown_name (Named name) = if is_utf8 name.now then shown_text name.now else codes "-"

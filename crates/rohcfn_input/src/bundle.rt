@@ -1,7 +1,10 @@
 //! The parts of the program's input.
-ghost use Rattle.std.specs.Prelude.{◌≡◌, ◌≢◌, ◌↔◌, ◌+◌, ◌<◌, ◌≤◌, List, [], ◌∷◌, ◌++◌, None, true, length, take, drop, IfOk, IfErr, IfSome, IfNone, slice_index};
-ghost use Rattle.std.specs.List.{AllByRecursion};
-ghost use Rattle.rohcfn_input.specs.Bundle.{BlamesPart, HasSpelled, HoldsParts, IsBundle, IsSpellable, Part, full_lines, is_heading, is_known, name_in, named, parts_in, parts_of, shown_name, text_before, text_named, without_end};
+ghost use Rattle.std.specs.Prelude.{◌≡◌, ◌≢◌, ◌↔◌, ◌+◌, ◌<◌, ◌≤◌, List, [], ◌∷◌, ◌++◌, None, true, length, take, drop, string_bytes, IfOk, IfErr, IfSome, IfNone, OnOk, slice_index};
+ghost use Rattle.std.specs.List.{AllByRecursion, flat_map};
+ghost use Rattle.rohcfn_input.specs.Bundle.{BlamesPart, HasSpelled, HoldsParts, IsBundle, IsSpellable, Part, full_lines, is_heading, is_known, name_in, named, parts_in, parts_of, shown_name, shown_octet, shown_text, text_before, text_named, without_end};
+ghost use Rattle.rohcfn_input.specs.Bundle as spec;
+
+use std::alloc::{AllocError, Global};
 
 /// The octets of the parts that the input has; an absent part is `None`.
 #[derive(Clone, Copy)]
@@ -43,6 +46,9 @@ const EVENTS: &[u8] = b"events";
 
 const OCTETS: &[u8] = b"octets";
 
+/// No more octets of a bad part's name are shown.
+const SHOWN_LIMIT: usize = 64;
+
 /// The parts of an input: a line that begins with three equals signs and a blank has the name of a
 /// part, whose text goes on up to the next such line. Takes no memory, and time by the input's length.
 pub fn split(input: &[u8]) -> Result<Parts<'_>, BadPart<'_>>
@@ -77,15 +83,15 @@ pub fn split(input: &[u8]) -> Result<Parts<'_>, BadPart<'_>>
     Ok(parts)
 }
 
-/// A bad part's name, where it is text.
-pub fn name_shown(bad: BadPart<'_>) -> &str
-    ensures { result.now ≡ shown_name bad.entry }
+/// A bad part's name in a line, where it is text: its first 64 octets, in a form that a terminal shows and doesn't obey.
+pub fn name_shown(alloc: Global, bad: BadPart<'_>) -> Result<String, AllocError>
+    ensures { IfOk result (λ shown. string_bytes shown ≡ shown_name bad.entry) }
 {
     match bad {
-        BadPart::Front => "-",
+        BadPart::Front => String::from_str(alloc, "-"),
         BadPart::Named(name) => match str::from_utf8(name) {
-            Ok(name) => name,
-            Err(_fault) => "-",
+            Ok(_text) => text_shown(alloc, name),
+            Err(_fault) => String::from_str(alloc, "-"),
         },
     }
 }
@@ -96,6 +102,50 @@ pub fn name_shown(bad: BadPart<'_>) -> &str
 pub fn spelled_bundle()
     ensures { (parts : List Part) → AllByRecursion IsSpellable parts → HasSpelled parts }
 {}
+
+// The first octets of a text, and two dots where there are more.
+fn text_shown(alloc: Global, text: &[u8]) -> Result<String, AllocError>
+    ensures { IfOk result (λ shown. string_bytes shown ≡ shown_text text.now) }
+{
+    let mut shown = String::new(alloc);
+    if text.len() > SHOWN_LIMIT {
+        let (front, _rest) = text.split_at(SHOWN_LIMIT);
+        push_all_shown(alloc, &mut shown, front)?;
+        shown.push_str("..")?;
+    } else {
+        push_all_shown(alloc, &mut shown, text)?;
+    }
+    Ok(shown)
+}
+
+// Adds octets, each as it is shown.
+fn push_all_shown(alloc: Global, shown: &mut String, octets: &[u8]) -> Result<(), AllocError>
+    ensures { OnOk result (string_bytes shown.new ≡ string_bytes shown.old ++ flat_map shown_octet octets.now) }
+{
+    for octet in octets {
+        push_shown(alloc, shown, *octet)?;
+    }
+    Ok(())
+}
+
+// Adds an octet as it is, or a backslash, an x and its two hex digits.
+fn push_shown(alloc: Global, shown: &mut String, octet: u8) -> Result<(), AllocError>
+    ensures { OnOk result (string_bytes shown.new ≡ string_bytes shown.old ++ shown_octet octet) }
+{
+    if is_plain(octet) {
+        return shown.push(char::from(octet));
+    }
+    let digits = hex::encode(alloc, [octet])?;
+    shown.push_str("\\x")?;
+    shown.push_str(digits.as_str())
+}
+
+// Whether a terminal shows the octet alone, and it is no backslash.
+fn is_plain(octet: u8) -> bool
+    ensures { result ≡ spec.is_plain octet }
+{
+    32 <= octet && octet <= 126 && octet != b'\\'
+}
 
 // The parts and one more, or nothing where its name is unknown or theirs.
 fn with_part<'a>(parts: Parts<'a>, name: &[u8], text: &'a [u8]) -> Option<Parts<'a>>

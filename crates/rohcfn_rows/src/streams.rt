@@ -198,7 +198,7 @@ fn shows_a_profile(rt: HostRuntime) {
 
 #[test]
 fn refuses_parts(rt: HostRuntime) {
-    let table: [(&[u8], &[u8]); 12] = [
+    let table: [(&[u8], &[u8]); 16] = [
         (b"", b"bundle: I4 bad part words\n"),
         (b"x", b"bundle: I4 bad part -\n"),
         (
@@ -219,7 +219,23 @@ fn refuses_parts(rt: HostRuntime) {
             b"bundle: I4 bad part items\n",
         ),
         (b"=== items\n=== \xff\n", b"bundle: I4 bad part -\n"),
-        (b"=== words\r\r\n", b"bundle: I4 bad part words\r\n"),
+        (b"=== words\r\r\n", b"bundle: I4 bad part words\\x0d\n"),
+        (
+            b"=== \x1b[31mred\x07\n",
+            b"bundle: I4 bad part \\x1b[31mred\\x07\n",
+        ),
+        (
+            b"=== \xc3\xa9 \\~\x7f\n",
+            b"bundle: I4 bad part \\xc3\\xa9 \\x5c~\\x7f\n",
+        ),
+        (
+            b"=== 0123456789abcdef0123456789abcdef0123456789abcdef0123456789abcdef\n",
+            b"bundle: I4 bad part 0123456789abcdef0123456789abcdef0123456789abcdef0123456789abcdef\n",
+        ),
+        (
+            b"=== 0123456789abcdef0123456789abcdef0123456789abcdef0123456789abcdefg\n",
+            b"bundle: I4 bad part 0123456789abcdef0123456789abcdef0123456789abcdef0123456789abcdef..\n",
+        ),
         (
             b"=== words\npack --top a\npack --top b\n",
             b"bundle: I4 bad part words\n",

@@ -1,12 +1,13 @@
 //! The program over a reader and a writer.
 ghost use Rattle.std.specs.Prelude.{◌≡◌, ◌≤◌, List, ℕ, ◌++◌, true, false, map, length, IfOk, IfErr};
 ghost use Rattle.std.specs.Io.KnownBytes.{Appends};
+ghost use Rattle.rohcfn_input.specs.Bundle.{shown_name};
 ghost use Rattle.rohcfn_input.specs.Counted.{HasStopped, IsSoFar, MayTake, most_octets};
 ghost use Rattle.rohcfn_input.specs.Reading.{BlamesRead};
 ghost use Rattle.rohcfn_tool.specs.Program.{Fails, ForInput, RefusesBy, Replies, RepliesBy, RunGives, bad_part_line, large_line};
 
 use crate::replies::answer;
-use rohcfn_input::bundle::{Parts, name_shown, split};
+use rohcfn_input::bundle::{BadPart, Parts, name_shown, split};
 use rohcfn_input::counted::{CountedRead, CountedWrite};
 use rohcfn_input::part_words::words_at;
 use rohcfn_input::reading::{Input, read_input};
@@ -122,7 +123,7 @@ fn reply_to(alloc: Global, given: &[&str], input: &[u8]) -> Result<Reply, AllocE
 {
     let parts = match split(input) {
         Ok(parts) => parts,
-        Err(bad) => return refused_part(alloc, name_shown(bad)),
+        Err(bad) => return refused_bundle(alloc, bad),
     };
     if !given.is_empty() {
         return reply_by(alloc, given, &parts);
@@ -131,6 +132,14 @@ fn reply_to(alloc: Global, given: &[&str], input: &[u8]) -> Result<Reply, AllocE
         Some(words) => reply_by(alloc, words.as_slice(), &parts),
         None => refused_part(alloc, "words"),
     }
+}
+
+// The fault line of an input that is no bundle.
+fn refused_bundle(alloc: Global, bad: BadPart<'_>) -> Result<Reply, AllocError>
+    ensures { IfOk result (λ reply. RefusesBy (bad_part_line (shown_name bad.entry)) reply) }
+{
+    let name = name_shown(alloc, bad)?;
+    refused_part(alloc, name.as_str())
 }
 
 // The fault line of a part.

@@ -1,10 +1,11 @@
-use Rattle.std.proofs.Common.{◌∙◌, ℕ, ap, map, List, Bor, Some, None}
+use Rattle.std.proofs.Common.{◌∙◌, ℕ, refl, ap, map, List, Bor, Some, None}
 use Rattle.std.proofs.lemmas.Result.{IfOk-weaker}
+use Rattle.rohcfn_input.specs.Bundle.{shown_name}
 use Rattle.rohcfn_tool.proofs.ProgramReplies.{none_refused, part_refused, replied, words_given, words_read}
 use Rattle.rohcfn_tool.proofs.program.reply_to.Goals as goal
 
 pub returns-in-Err : goal.returns-in-Err
-returns-in-Err c = IfOk-weaker c.refused_part.result _ _ (λ reply says. part_refused _ c.args.input.now c.in-Err.bad c.name_shown.result.now reply c.requires c.in-Err.ensures.bad c.name_shown.ensures says) c.refused_part.ensures
+returns-in-Err c = IfOk-weaker c.refused_bundle.result _ _ (λ reply says. part_refused _ c.args.input.now c.in-Err.bad (shown_name c.in-Err.bad) reply c.requires c.in-Err.ensures.bad refl says) c.refused_bundle.ensures
 
 pub returns-then-not-is_empty : goal.returns-then-not-is_empty
 returns-then-not-is_empty c =
@@ -22,4 +23,4 @@ pub returns-in-None : goal.returns-in-None
 returns-in-None c =
     let given = map (λ word. word.now) c.args.given.now in
     let read = rw c.in-None.is at c.in_ok-words.ensures in
-    IfOk-weaker c.refused_part-in-None.result _ _ (λ reply says. none_refused given c.args.input.now reply c.requires c.in-Ok.ensures.bundle (words_read c.args.given.now c.args.input.now c.is_empty.result c.in-Ok.parts None c.is_empty.ensures c.if-not-is_empty.false c.in-Ok.ensures.parts read) says) c.refused_part-in-None.ensures
+    IfOk-weaker c.refused_part.result _ _ (λ reply says. none_refused given c.args.input.now reply c.requires c.in-Ok.ensures.bundle (words_read c.args.given.now c.args.input.now c.is_empty.result c.in-Ok.parts None c.is_empty.ensures c.if-not-is_empty.false c.in-Ok.ensures.parts read) says) c.refused_part.ensures
