@@ -5,7 +5,7 @@ use crate::samples::Sample;
 use crate::stop::Stop;
 use fn_engine::PackFault;
 use fn_filling::Item;
-use fn_line::{Flow, LineFault, Receiver, Sender};
+use fn_line::{Flow, LineFault, LineVersion, Receiver, Sender};
 use std::alloc::Global;
 
 fn flow() -> Result<Flow, Stop> {
@@ -16,8 +16,8 @@ fn flow() -> Result<Flow, Stop> {
 pub(crate) fn sends(alloc: Global, sample: &Sample) -> Result<Outcome, Stop> {
     let accepted = sample.accepted(alloc)?;
     let (item, next, flow) = (sample.item(alloc)?, sample.next(alloc)?, flow()?);
-    let mut sender = Sender::new(alloc, &accepted)?;
-    let mut other = Sender::new(alloc, &accepted)?;
+    let mut sender = Sender::new(alloc, &accepted, LineVersion::One)?;
+    let mut other = Sender::new(alloc, &accepted, LineVersion::One)?;
     let mut line = Vec::new(alloc);
     let mut due = Vec::new(alloc);
     sender.send(flow, &item, &mut line)?;
@@ -41,8 +41,8 @@ pub(crate) fn sends(alloc: Global, sample: &Sample) -> Result<Outcome, Stop> {
 pub(crate) fn resets(alloc: Global, sample: &Sample) -> Result<Outcome, Stop> {
     let accepted = sample.accepted(alloc)?;
     let (item, next, flow) = (sample.item(alloc)?, sample.next(alloc)?, flow()?);
-    let mut sender = Sender::new(alloc, &accepted)?;
-    let mut other = Sender::new(alloc, &accepted)?;
+    let mut sender = Sender::new(alloc, &accepted, LineVersion::One)?;
+    let mut other = Sender::new(alloc, &accepted, LineVersion::One)?;
     sender.send(flow, &item, &mut Vec::new(alloc))?;
     other.send(flow, &item, &mut Vec::new(alloc))?;
     let mut line = Vec::new(alloc);
@@ -68,11 +68,11 @@ pub(crate) fn resets(alloc: Global, sample: &Sample) -> Result<Outcome, Stop> {
 pub(crate) fn feeds(alloc: Global, sample: &Sample) -> Result<Outcome, Stop> {
     let accepted = sample.accepted(alloc)?;
     let (item, next, flow) = (sample.item(alloc)?, sample.next(alloc)?, flow()?);
-    let mut sender = Sender::new(alloc, &accepted)?;
+    let mut sender = Sender::new(alloc, &accepted, LineVersion::One)?;
     let mut octets = Vec::new(alloc);
     sender.send(flow, &item, &mut octets)?;
     sender.send(flow, &next, &mut octets)?;
-    let mut receiver = Receiver::new(alloc, &accepted)?;
+    let mut receiver = Receiver::new(alloc, &accepted, LineVersion::One)?;
     let mut heard = Vec::new(alloc);
     match receiver.feed(octets.as_slice(), &mut heard) {
         Ok(()) => {
