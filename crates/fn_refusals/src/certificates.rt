@@ -5,21 +5,34 @@ use crate::samples::Sample;
 use crate::stop::Stop;
 use fn_cert::{Certificate, CertificateError, print};
 use fn_checker::{CheckError, check};
+use fn_profile::Profile;
 use std::alloc::Global;
 
 /// `read PROFILE`: the certificate that the text of the proved one is read as.
 pub(crate) fn reads(alloc: Global, sample: &Sample) -> Result<Outcome, Stop> {
     let profile = sample.profile(alloc)?;
-    let text = print(alloc, &sample.certificate(alloc, &profile)?)?;
-    match fn_cert::read(alloc, &profile, text.as_str()) {
-        Ok(found) => judged(alloc, First::Answered, &found, text.as_str()),
-        Err(CertificateError::OutOfMemory) => {
-            match fn_cert::read(alloc, &profile, text.as_str()) {
-                Ok(found) => judged(alloc, First::Kept, &found, text.as_str()),
-                Err(_) => Ok(Outcome::WrongAgain),
-            }
-        }
+    let text = proved_text(alloc, sample, &profile)?;
+    read_twice(alloc, &profile, text.as_str())
+}
+
+/// The text of the proved certificate.
+fn proved_text(alloc: Global, sample: &Sample, profile: &Profile) -> Result<String, Stop> {
+    let certificate = sample.certificate(alloc, profile)?;
+    Ok(print(alloc, &certificate)?)
+}
+
+fn read_twice(alloc: Global, profile: &Profile, text: &str) -> Result<Outcome, Stop> {
+    match fn_cert::read(alloc, profile, text) {
+        Ok(found) => judged(alloc, First::Answered, &found, text),
+        Err(CertificateError::OutOfMemory) => read_again(alloc, profile, text),
         Err(_) => Ok(Outcome::Wrong),
+    }
+}
+
+fn read_again(alloc: Global, profile: &Profile, text: &str) -> Result<Outcome, Stop> {
+    match fn_cert::read(alloc, profile, text) {
+        Ok(found) => judged(alloc, First::Kept, &found, text),
+        Err(_) => Ok(Outcome::WrongAgain),
     }
 }
 
@@ -29,7 +42,7 @@ fn judged(
     certificate: &Certificate,
     due: &str,
 ) -> Result<Outcome, Stop> {
-    Ok(first.then(print(alloc, certificate)?.as_str() == due))
+    Ok(first.then(has_text(alloc, certificate, due)?))
 }
 
 /// `check PROFILE`: the profile with the proved certificate.
@@ -37,23 +50,39 @@ pub(crate) fn checks(alloc: Global, sample: &Sample) -> Result<Outcome, Stop> {
     let profile = sample.profile(alloc)?;
     let certificate = sample.certificate(alloc, &profile)?;
     let text = print(alloc, &certificate)?;
+    check_twice(alloc, profile, certificate, text.as_str())
+}
+
+fn check_twice(
+    alloc: Global,
+    profile: Profile,
+    certificate: Certificate,
+    text: &str,
+) -> Result<Outcome, Stop> {
     match check(alloc, profile, certificate) {
-        Ok(accepted) => judged(
-            alloc,
-            First::Answered,
-            accepted.certificate(),
-            text.as_str(),
-        ),
-        Err(refusal) => {
-            let CheckError::OutOfMemory = refusal.error else {
-                return Ok(Outcome::Wrong);
-            };
-            let is_as_before = print(alloc, &refusal.certificate)?.as_str() == text.as_str();
-            let first = First::refused(is_as_before);
-            match check(alloc, refusal.profile, refusal.certificate) {
-                Ok(accepted) => judged(alloc, first, accepted.certificate(), text.as_str()),
-                Err(_) => Ok(first.then(false)),
+        Ok(accepted) => judged(alloc, First::Answered, accepted.certificate(), text),
+        Err(refusal) => match refusal.error {
+            CheckError::OutOfMemory => {
+                check_again(alloc, refusal.profile, refusal.certificate, text)
             }
-        }
+            CheckError::Fault(_) => Ok(Outcome::Wrong),
+        },
     }
+}
+
+fn check_again(
+    alloc: Global,
+    profile: Profile,
+    certificate: Certificate,
+    text: &str,
+) -> Result<Outcome, Stop> {
+    let first = First::refused(has_text(alloc, &certificate, text)?);
+    match check(alloc, profile, certificate) {
+        Ok(accepted) => judged(alloc, first, accepted.certificate(), text),
+        Err(_) => Ok(first.then(false)),
+    }
+}
+
+fn has_text(alloc: Global, certificate: &Certificate, text: &str) -> Result<bool, Stop> {
+    Ok(print(alloc, certificate)?.as_str() == text)
 }

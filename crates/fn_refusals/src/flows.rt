@@ -3,10 +3,14 @@
 use crate::outcome::{First, Outcome};
 use crate::samples::Sample;
 use crate::stop::Stop;
+use fn_checker::Accepted;
 use fn_engine::PackFault;
 use fn_filling::Item;
 use fn_line::{Flow, LineFault, LineVersion, Receiver, Sender};
 use std::alloc::Global;
+
+/// The octet that resets flow 3 (docs/FORMATS.md).
+const RESET: u8 = 0x13;
 
 fn flow() -> Result<Flow, Stop> {
     Flow::new(3).ok_or(Stop::Row("no flow"))
@@ -15,66 +19,117 @@ fn flow() -> Result<Flow, Stop> {
 /// `send PROFILE`: the second packet of a flow. Another sender, which is refused no memory, puts the same on a line of its own.
 pub(crate) fn sends(alloc: Global, sample: &Sample) -> Result<Outcome, Stop> {
     let accepted = sample.accepted(alloc)?;
-    let (item, next, flow) = (sample.item(alloc)?, sample.next(alloc)?, flow()?);
-    let mut sender = Sender::new(alloc, &accepted, LineVersion::One)?;
-    let mut other = Sender::new(alloc, &accepted, LineVersion::One)?;
+    let mut sender = begun(alloc, sample, &accepted)?;
+    let due = next_packet(alloc, sample, begun(alloc, sample, &accepted)?)?;
+    send_next(
+        alloc,
+        &mut sender,
+        flow()?,
+        &sample.next(alloc)?,
+        due.as_slice(),
+    )
+}
+
+/// A sender that has put the first packet of its flow on a line.
+fn begun<'a>(alloc: Global, sample: &Sample, accepted: &'a Accepted) -> Result<Sender<'a>, Stop> {
+    let mut sender = Sender::new(alloc, accepted, LineVersion::One)?;
+    let item = sample.item(alloc)?;
+    sender.send(flow()?, &item, &mut Vec::new(alloc))?;
+    Ok(sender)
+}
+
+/// The second packet by such a sender.
+fn next_packet(alloc: Global, sample: &Sample, sender: Sender<'_>) -> Result<Vec<u8>, Stop> {
+    let mut sender = sender;
     let mut line = Vec::new(alloc);
-    let mut due = Vec::new(alloc);
-    sender.send(flow, &item, &mut line)?;
-    other.send(flow, &item, &mut due)?;
-    let mut before = Vec::new(alloc);
-    before.extend_from_slice(line.as_slice())?;
-    other.send(flow, &next, &mut due)?;
-    match sender.send(flow, &next, &mut line) {
-        Ok(()) => Ok(First::Answered.then(line.as_slice() == due.as_slice())),
+    let item = sample.next(alloc)?;
+    sender.send(flow()?, &item, &mut line)?;
+    Ok(line)
+}
+
+fn send_next(
+    alloc: Global,
+    sender: &mut Sender<'_>,
+    flow: Flow,
+    item: &Item,
+    due: &[u8],
+) -> Result<Outcome, Stop> {
+    let mut line = Vec::new(alloc);
+    match sender.send(flow, item, &mut line) {
+        Ok(()) => Ok(First::Answered.then(line.as_slice() == due)),
         Err(PackFault::OutOfMemory) => {
-            let first = First::refused(line.as_slice() == before.as_slice());
-            let is_made = sender.send(flow, &next, &mut line).is_ok();
-            Ok(first.then(is_made && line.as_slice() == due.as_slice()))
+            let first = First::refused(line.is_empty());
+            let is_made = sender.send(flow, item, &mut line).is_ok();
+            Ok(first.then(is_made && line.as_slice() == due))
         }
         Err(_) => Ok(Outcome::Wrong),
     }
 }
 
-/// `reset PROFILE`: the reset of a flow that has sent. Where it was refused memory, both senders go on with a packet before it is made again, so that a context
+/// `reset PROFILE`: the reset of a flow that has sent. Where it was refused memory, the sender goes on with a packet before it is made again, so that a context
 /// that went would show.
 pub(crate) fn resets(alloc: Global, sample: &Sample) -> Result<Outcome, Stop> {
     let accepted = sample.accepted(alloc)?;
-    let (item, next, flow) = (sample.item(alloc)?, sample.next(alloc)?, flow()?);
-    let mut sender = Sender::new(alloc, &accepted, LineVersion::One)?;
-    let mut other = Sender::new(alloc, &accepted, LineVersion::One)?;
-    sender.send(flow, &item, &mut Vec::new(alloc))?;
-    other.send(flow, &item, &mut Vec::new(alloc))?;
+    let mut sender = begun(alloc, sample, &accepted)?;
+    let due = next_packet(alloc, sample, begun(alloc, sample, &accepted)?)?;
+    reset_flow(
+        alloc,
+        &mut sender,
+        flow()?,
+        &sample.next(alloc)?,
+        due.as_slice(),
+    )
+}
+
+fn reset_flow(
+    alloc: Global,
+    sender: &mut Sender<'_>,
+    flow: Flow,
+    item: &Item,
+    due: &[u8],
+) -> Result<Outcome, Stop> {
     let mut line = Vec::new(alloc);
-    let mut due = Vec::new(alloc);
-    let (first, is_made) = match sender.reset(flow, &mut line) {
-        Ok(()) => (First::Answered, true),
-        Err(_) => {
+    match sender.reset(flow, &mut line) {
+        Ok(()) => Ok(First::Answered.then(line.as_slice() == [RESET].as_slice())),
+        Err(PackFault::OutOfMemory) => {
             let is_empty = line.is_empty();
-            let is_made = sender.send(flow, &next, &mut line).is_ok();
-            other.send(flow, &next, &mut due)?;
-            let is_as_before = is_empty && is_made && line.as_slice() == due.as_slice();
-            (
-                First::refused(is_as_before),
-                sender.reset(flow, &mut line).is_ok(),
-            )
+            let is_made = sender.send(flow, item, &mut line).is_ok();
+            let first = First::refused(is_empty && is_made && line.as_slice() == due);
+            line.clear();
+            let is_made = sender.reset(flow, &mut line).is_ok();
+            Ok(first.then(is_made && line.as_slice() == [RESET].as_slice()))
         }
-    };
-    other.reset(flow, &mut due)?;
-    Ok(first.then(is_made && line.as_slice() == due.as_slice()))
+        Err(_) => Ok(Outcome::Wrong),
+    }
 }
 
 /// `feed PROFILE`: the octets of two packets of a flow. A receiver that was refused memory keeps the items before, and says so again.
 pub(crate) fn feeds(alloc: Global, sample: &Sample) -> Result<Outcome, Stop> {
     let accepted = sample.accepted(alloc)?;
-    let (item, next, flow) = (sample.item(alloc)?, sample.next(alloc)?, flow()?);
-    let mut sender = Sender::new(alloc, &accepted, LineVersion::One)?;
-    let mut octets = Vec::new(alloc);
-    sender.send(flow, &item, &mut octets)?;
-    sender.send(flow, &next, &mut octets)?;
+    let octets = two_packets(alloc, sample, &accepted)?;
     let mut receiver = Receiver::new(alloc, &accepted, LineVersion::One)?;
+    feed(alloc, sample, &mut receiver, octets.as_slice())
+}
+
+fn two_packets(alloc: Global, sample: &Sample, accepted: &Accepted) -> Result<Vec<u8>, Stop> {
+    let mut sender = Sender::new(alloc, accepted, LineVersion::One)?;
+    let mut octets = Vec::new(alloc);
+    let item = sample.item(alloc)?;
+    sender.send(flow()?, &item, &mut octets)?;
+    let next = sample.next(alloc)?;
+    sender.send(flow()?, &next, &mut octets)?;
+    Ok(octets)
+}
+
+fn feed(
+    alloc: Global,
+    sample: &Sample,
+    receiver: &mut Receiver<'_>,
+    octets: &[u8],
+) -> Result<Outcome, Stop> {
+    let (item, next) = (sample.item(alloc)?, sample.next(alloc)?);
     let mut heard = Vec::new(alloc);
-    match receiver.feed(octets.as_slice(), &mut heard) {
+    match receiver.feed(octets, &mut heard) {
         Ok(()) => {
             let is_whole = heard.len() == 2 && receiver.finish().is_ok();
             Ok(First::Answered.then(is_whole && is_front(heard.as_slice(), &item, &next)))
@@ -84,7 +139,7 @@ pub(crate) fn feeds(alloc: Global, sample: &Sample) -> Result<Outcome, Stop> {
                 return Ok(Outcome::Changed);
             }
             let count = heard.len();
-            let again = receiver.feed(octets.as_slice(), &mut heard);
+            let again = receiver.feed(octets, &mut heard);
             Ok(repeated(again, receiver.finish(), heard.len() == count))
         }
         Err(_) => Ok(Outcome::Wrong),

@@ -1,50 +1,75 @@
 //! Rows on packets.
 
-use crate::contexts::are_same;
 use crate::outcome::{First, Outcome};
 use crate::samples::Sample;
 use crate::stop::Stop;
-use fn_bits::Cursor;
-use fn_engine::{PackFault, Read, UnpackFault, pack, unpack};
+use fn_bits::{Bits, Cursor};
+use fn_checker::Accepted;
+use fn_context::Context;
+use fn_engine::{PackFault, Read, UnpackFault, Written, pack, unpack};
+use fn_filling::Item;
 use std::alloc::Global;
 
 /// `pack PROFILE`: the packet of the item.
 pub(crate) fn packs(alloc: Global, sample: &Sample) -> Result<Outcome, Stop> {
     let accepted = sample.accepted(alloc)?;
     let context = sample.context(alloc)?;
-    let copy = context.copy(alloc)?;
-    let item = sample.item(alloc)?;
-    let due = pack(alloc, &accepted, &context, &item)?;
-    match pack(alloc, &accepted, &context, &item) {
-        Ok(written) => Ok(First::Answered.then(written.packed == due.packed)),
-        Err(PackFault::OutOfMemory) => {
-            let first = First::refused(are_same(alloc, &context, &copy)?);
-            match pack(alloc, &accepted, &context, &item) {
-                Ok(written) => Ok(first.then(written.packed == due.packed)),
-                Err(_) => Ok(first.then(false)),
-            }
-        }
+    packed_in(alloc, &accepted, &context, &sample.item(alloc)?)
+}
+
+fn packed_in(
+    alloc: Global,
+    accepted: &Accepted,
+    context: &Context,
+    item: &Item,
+) -> Result<Outcome, Stop> {
+    let due = packed(alloc, accepted, context, item)?;
+    match packed(alloc, accepted, context, item) {
+        Ok(found) => Ok(First::Answered.then(found == due)),
+        Err(PackFault::OutOfMemory) => match packed(alloc, accepted, context, item) {
+            Ok(found) => Ok(First::Kept.then(found == due)),
+            Err(_) => Ok(First::Kept.then(false)),
+        },
         Err(_) => Ok(Outcome::Wrong),
     }
+}
+
+/// The packed bits alone.
+fn packed(
+    alloc: Global,
+    accepted: &Accepted,
+    context: &Context,
+    item: &Item,
+) -> Result<Bits, PackFault> {
+    let Written { packed, .. } = pack(alloc, accepted, context, item)?;
+    Ok(packed)
 }
 
 /// `unpack PROFILE`: the item that bits are read as, by a cursor that took seven before.
 pub(crate) fn unpacks(alloc: Global, sample: &Sample) -> Result<Outcome, Stop> {
     let accepted = sample.accepted(alloc)?;
     let context = sample.context(alloc)?;
-    let copy = context.copy(alloc)?;
     let bits = sample.bits(alloc)?;
     let mut cursor = Cursor::new(&bits);
     let _ = cursor.take(alloc, 7)?;
+    read_in(alloc, &accepted, &context, cursor)
+}
+
+fn read_in(
+    alloc: Global,
+    accepted: &Accepted,
+    context: &Context,
+    cursor: Cursor<'_>,
+) -> Result<Outcome, Stop> {
     let mut ahead = cursor.fork();
-    let due = unpack(alloc, &accepted, &context, &mut ahead)?;
-    match unpack(alloc, &accepted, &context, &mut cursor) {
-        Ok(read) => Ok(First::Answered.then(is_due(&read, &due, &cursor, &ahead))),
+    let due = header(alloc, accepted, context, &mut ahead)?;
+    let mut cursor = cursor;
+    match header(alloc, accepted, context, &mut cursor) {
+        Ok(found) => Ok(First::Answered.then(found == due && cursor.used() == ahead.used())),
         Err(UnpackFault::OutOfMemory) => {
-            let is_as_before = cursor.used() == 7 && are_same(alloc, &context, &copy)?;
-            let first = First::refused(is_as_before);
-            match unpack(alloc, &accepted, &context, &mut cursor) {
-                Ok(read) => Ok(first.then(is_due(&read, &due, &cursor, &ahead))),
+            let first = First::refused(cursor.used() == 7);
+            match header(alloc, accepted, context, &mut cursor) {
+                Ok(found) => Ok(first.then(found == due && cursor.used() == ahead.used())),
                 Err(_) => Ok(first.then(false)),
             }
         }
@@ -52,7 +77,14 @@ pub(crate) fn unpacks(alloc: Global, sample: &Sample) -> Result<Outcome, Stop> {
     }
 }
 
-/// Whether the same item was read, and the same bits taken.
-fn is_due(read: &Read, due: &Read, cursor: &Cursor<'_>, ahead: &Cursor<'_>) -> bool {
-    read.item.header == due.item.header && read.bits == due.bits && cursor.used() == ahead.used()
+/// The header that is read, alone.
+fn header(
+    alloc: Global,
+    accepted: &Accepted,
+    context: &Context,
+    cursor: &mut Cursor<'_>,
+) -> Result<Bits, UnpackFault> {
+    let Read { item, .. } = unpack(alloc, accepted, context, cursor)?;
+    let Item { header, .. } = item;
+    Ok(header)
 }
