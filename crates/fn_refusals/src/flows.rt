@@ -9,41 +9,49 @@ use fn_filling::Item;
 use fn_line::{Flow, LineFault, LineVersion, Receiver, Sender};
 use std::alloc::Global;
 
-/// The octet that resets flow 3 (docs/FORMATS.md).
-const RESET: u8 = 0x13;
+/// The flow of the rows.
+const FLOW: u8 = 3;
 
-fn flow() -> Result<Flow, Stop> {
-    Flow::new(3).ok_or(Stop::Row("no flow"))
-}
+/// The octet that resets it (docs/FORMATS.md).
+const RESET: u8 = 0x13;
 
 /// `send PROFILE`: the second packet of a flow. Another sender, which is refused no memory, puts the same on a line of its own.
 pub(crate) fn sends(alloc: Global, sample: &Sample) -> Result<Outcome, Stop> {
     let accepted = sample.accepted(alloc)?;
-    let mut sender = begun(alloc, sample, &accepted)?;
-    let due = next_packet(alloc, sample, begun(alloc, sample, &accepted)?)?;
-    send_next(
-        alloc,
-        &mut sender,
-        flow()?,
-        &sample.next(alloc)?,
-        due.as_slice(),
-    )
+    let next = sample.next(alloc)?;
+    let Some(flow) = Flow::new(FLOW) else {
+        return Err(Stop::Row("no flow"));
+    };
+    let other = begun(alloc, flow, sample, &accepted)?;
+    let due = next_packet(alloc, flow, &next, other)?;
+    let mut sender = begun(alloc, flow, sample, &accepted)?;
+    send_next(alloc, &mut sender, flow, &next, due.as_slice())
 }
 
 /// A sender that has put the first packet of its flow on a line.
-fn begun<'a>(alloc: Global, sample: &Sample, accepted: &'a Accepted) -> Result<Sender<'a>, Stop> {
-    let mut sender = Sender::new(alloc, accepted, LineVersion::One)?;
+fn begun<'a>(
+    alloc: Global,
+    flow: Flow,
+    sample: &Sample,
+    accepted: &'a Accepted,
+) -> Result<Sender<'a>, Stop> {
     let item = sample.item(alloc)?;
-    sender.send(flow()?, &item, &mut Vec::new(alloc))?;
+    let mut sender = Sender::new(alloc, accepted, LineVersion::One)?;
+    let mut line = Vec::new(alloc);
+    sender.send(flow, &item, &mut line)?;
     Ok(sender)
 }
 
 /// The second packet by such a sender.
-fn next_packet(alloc: Global, sample: &Sample, sender: Sender<'_>) -> Result<Vec<u8>, Stop> {
+fn next_packet(
+    alloc: Global,
+    flow: Flow,
+    next: &Item,
+    sender: Sender<'_>,
+) -> Result<Vec<u8>, Stop> {
     let mut sender = sender;
     let mut line = Vec::new(alloc);
-    let item = sample.next(alloc)?;
-    sender.send(flow()?, &item, &mut line)?;
+    sender.send(flow, next, &mut line)?;
     Ok(line)
 }
 
@@ -70,15 +78,14 @@ fn send_next(
 /// that went would show.
 pub(crate) fn resets(alloc: Global, sample: &Sample) -> Result<Outcome, Stop> {
     let accepted = sample.accepted(alloc)?;
-    let mut sender = begun(alloc, sample, &accepted)?;
-    let due = next_packet(alloc, sample, begun(alloc, sample, &accepted)?)?;
-    reset_flow(
-        alloc,
-        &mut sender,
-        flow()?,
-        &sample.next(alloc)?,
-        due.as_slice(),
-    )
+    let next = sample.next(alloc)?;
+    let Some(flow) = Flow::new(FLOW) else {
+        return Err(Stop::Row("no flow"));
+    };
+    let other = begun(alloc, flow, sample, &accepted)?;
+    let due = next_packet(alloc, flow, &next, other)?;
+    let mut sender = begun(alloc, flow, sample, &accepted)?;
+    reset_flow(alloc, &mut sender, flow, &next, due.as_slice())
 }
 
 fn reset_flow(
@@ -112,12 +119,15 @@ pub(crate) fn feeds(alloc: Global, sample: &Sample) -> Result<Outcome, Stop> {
 }
 
 fn two_packets(alloc: Global, sample: &Sample, accepted: &Accepted) -> Result<Vec<u8>, Stop> {
+    let item = sample.item(alloc)?;
+    let next = sample.next(alloc)?;
+    let Some(flow) = Flow::new(FLOW) else {
+        return Err(Stop::Row("no flow"));
+    };
     let mut sender = Sender::new(alloc, accepted, LineVersion::One)?;
     let mut octets = Vec::new(alloc);
-    let item = sample.item(alloc)?;
-    sender.send(flow()?, &item, &mut octets)?;
-    let next = sample.next(alloc)?;
-    sender.send(flow()?, &next, &mut octets)?;
+    sender.send(flow, &item, &mut octets)?;
+    sender.send(flow, &next, &mut octets)?;
     Ok(octets)
 }
 
