@@ -37,14 +37,14 @@ def place_of(fault):
     return line, fault.start - begin + 1, fault.text[begin:].partition("\n")[0].rstrip("\r")
 
 
-def lines_of(fault, name, paint):
-    """What is shown of a fault."""
+def lines_of(fault, name, paint, above=0):
+    """What is shown of a fault of a text, above which so many lines stand in its file."""
     line, column, whole = place_of(fault)
     cut = max(0, column - 1 - WIDTH // 2) if len(whole) > WIDTH else 0
     shown, before = UNSEEN.sub("?", whole[cut:cut + WIDTH]), column - 1 - cut
-    margin, blank = "%d |" % line, re.sub(r"[^\t]", " ", shown[:before])
+    margin, blank = "%d |" % (line + above), re.sub(r"[^\t]", " ", shown[:before])
     carets = "^" * max(1, min(fault.width(), len(shown) - before))
-    yield paint(RED, "%s:%d:%d: %s %s" % (name, line, column, fault.code, fault.words))
+    yield paint(RED, "%s:%d:%d: %s %s" % (name, line + above, column, fault.code, fault.words))
     yield paint(BLUE, margin) + (" " + shown if shown else "")
     yield paint(BLUE, " " * (len(margin) - 1) + "|") + " " + blank + paint(RED, carets)
     for it in advice.hints(fault):
@@ -74,14 +74,14 @@ def faults(first, again):
         found = fault_of(again(copy.text), copy.text) if copy.mend(found) else None
 
 
-def show(printed, name, text, again):
+def show(printed, name, text, above, again):
     """Shows what there is to show of what the program printed."""
     first = fault_of(printed, text)
     if first is None:
         return
     paint = painter(sys.stderr)
     for it in faults(first, again):
-        print("\n".join(lines_of(it, name, paint)), file=sys.stderr)
+        print("\n".join(lines_of(it, name, paint, above)), file=sys.stderr)
 
 
 def is_written(octets):
@@ -95,8 +95,8 @@ def is_written(octets):
     return True
 
 
-def shown(call, file, name, text):
-    """Runs the program, prints what it prints, and shows a fault of the profile besides; its status."""
+def shown(call, file, name, text, top, above):
+    """Runs the program, prints what it prints, and shows a fault of the profile besides, whose text begins below so many lines of its file; its status."""
     ran = subprocess.run(call, stdin=file, stdout=subprocess.PIPE, check=False)
     if not is_written(ran.stdout):
         print("error: writing the output failed", file=sys.stderr)
@@ -106,9 +106,9 @@ def shown(call, file, name, text):
         """What the program prints for a copy of the text. (An unproved build takes its time, so it isn't asked.)"""
         if not os.access(program_of(call[0]), os.X_OK):
             return b""
-        words = [call[0], "--", "show", "--top", call[call.index("--top") + 1]]
+        words = [call[0], "--", "show", "--top", top]
         return subprocess.run(words, input=b"=== profile\n" + copy.encode(), stdout=subprocess.PIPE, stderr=subprocess.DEVNULL, check=False).stdout
-    show(ran.stdout, name, text.decode(errors="replace"), again)
+    show(ran.stdout, name, text.decode(errors="replace"), above, again)
     return ran.returncode if ran.returncode >= 0 else 128 - ran.returncode
 
 

@@ -1,6 +1,8 @@
 #!/usr/bin/env python3
-"""Puts a bundle together from files and words, and calls bin/rohcfn with it: `front.py COMMAND PROFILE [OPTION ..]`. docs/USAGE.md shows each use."""
+"""Puts a bundle together from files and words, and calls bin/rohcfn with it: `front.py COMMAND PROFILE [OPTION ..]`. Or takes one from standard input, to show a
+fault of its profile: `front.py [COMMAND --top NAME [FLAG ..]] --diagnose`. docs/USAGE.md shows each use."""
 import os
+import re
 import signal
 import sys
 
@@ -26,6 +28,7 @@ NEEDED = {"pack": ("item", "items", "pcap"), "unpack": ("packet", "packets"), "l
 VALUED = ("top", "item", "items", "packet", "packets", "from_context", "certificate", "events", "octets", "pcap", "flow")
 PLAIN = ("v2", "context", "receive", "wide", "diagnose")
 LINES = {"item": "items", "items": "items", "packet": "packets", "packets": "packets"}
+TOP = re.compile(rb"(?:^| )--top[ =](\w+)")
 
 
 class Usage(Exception):
@@ -51,6 +54,11 @@ class Order:
     def has(self, name):
         return getattr(self, name) is not None
 
+    def takes_bundle(self):
+        """Whether the bundle is on standard input: no file is named, and a fault of its profile is to be shown."""
+        others = [it for it in VALUED if it != "top" and self.has(it)]
+        return self.has("diagnose") and self.profile is None and not others and (self.command is None or self.has("top"))
+
 
 def option(name):
     """An option as it is written."""
@@ -58,8 +66,9 @@ def option(name):
 
 
 def order_of(words):
-    """What the words ask for."""
-    order, waiting = Order(words[0]), iter(words[1:])
+    """What the words ask for. Where `--diagnose` stands alone, the bundle has the program's words."""
+    alone = words == ["--diagnose"]
+    order, waiting = Order(None if alone else words[0]), iter(words if alone else words[1:])
     for word in waiting:
         written, equals, value = word.partition("=")
         name = written[2:].replace("-", "_") if written.startswith("--") else None
@@ -76,7 +85,8 @@ def order_of(words):
             raise Usage("unexpected argument '%s' found; --context has no value, --from-context FILE gives the context to begin with" % word)
         else:
             raise Usage("unexpected argument '%s' found" % word)
-    judge(order)
+    if order.command is not None:
+        judge(order)
     return order
 
 
@@ -86,6 +96,8 @@ def judge(order):
     for name in sorted({it for every in (*INPUTS.values(), *FLAGS.values()) for it in every}):
         if order.has(name) and name not in known:
             raise Usage("%s is no option of %s" % (option(name), order.command))
+    if order.takes_bundle():
+        return
     if order.profile is None:
         raise Usage("the file of a profile is needed")
     needed = NEEDED.get(order.command, ())
@@ -176,8 +188,13 @@ def events(order, kind, asked, flows, found):
             yield "send %d %s" % (at, next(items))
 
 
+def flags_of(order):
+    """The flags that go to the program."""
+    return [option(it) for it in FLAGS[order.command] if order.has(it) or it == "receive" and order.octets is not None]
+
+
 def call_of(order):
-    """The words of the program, the bundle, and the profile's text."""
+    """The words of the program, the bundle, and the profile's text with its top."""
     text = parts.part_of("profile", order.profile)
     profile = notation.Profile(text.decode(errors="replace")) if order.top is None or order.has("pcap") else None
     top = profile.top() or "top" if order.top is None else order.top
@@ -187,8 +204,19 @@ def call_of(order):
             found[name] = parts.part_of(name, path)
     if order.pcap is not None:
         found.update(captured(order, profile, top))
-    flags = [option(it) for it in FLAGS[order.command] if order.has(it) or it == "receive" and order.octets is not None]
-    return [order.command, "--top", top, *flags], parts.bundle(found, text), text
+    return ["--", order.command, "--top", top, *flags_of(order)], parts.bundle(found, text), (order.profile, text, top, 0)
+
+
+def call_on_bundle(order):
+    """The same for a bundle on standard input, which has the words where the order has none; and how many lines stand above its profile."""
+    if sys.stdin is not None and sys.stdin.isatty():
+        say("a bundle is awaited on standard input, up to its end (Ctrl-D); --help says more")
+    bundle = parts.read("-")
+    text, above = parts.part_in(bundle, "profile") or (b"", 0)
+    if order.command is not None:
+        return ["--", order.command, "--top", order.top, *flags_of(order)], bundle, ("-", text, order.top, above)
+    named = TOP.search((parts.part_in(bundle, "words") or (b"", 0))[0])
+    return [], bundle, ("-", text, named.group(1).decode() if named else "top", above)
 
 
 def is_shown(order):
@@ -210,14 +238,14 @@ def file_of(octets):
 
 def answer(order):
     """Runs the program; its status. Where nothing is to be shown besides, the program takes the place of this one."""
-    words, bundle, text = call_of(order)
+    words, bundle, profile = call_on_bundle(order) if order.takes_bundle() else call_of(order)
     with file_of(bundle) as file:
-        call = [FILTER, "--", *words]
+        call = [FILTER, *words]
         if not is_shown(order):
             os.dup2(file.fileno(), 0)
             os.execv(FILTER, call)
         import diagnosis  # (what it needs takes as long to load as all the rest)
-        return diagnosis.shown(call, file, order.profile, text)
+        return diagnosis.shown(call, file, *profile)
 
 
 def main(words):

@@ -58,6 +58,12 @@ def part_of(name, path):
     return octets
 
 
+def part_in(octets, name):
+    """The text of a part of a bundle, and the count of lines above it; or None."""
+    found = re.search(rb"^=== %s(?:\r?\n|\Z)(.*?)(?=^=== |\Z)" % name.encode(), octets, re.MULTILINE | re.DOTALL)
+    return (found.group(1), octets.count(b"\n", 0, found.start(1))) if found else None
+
+
 def ended(octets):
     """The octets with a line feed at their end."""
     return octets if not octets or octets.endswith(b"\n") else octets + b"\n"

@@ -167,6 +167,10 @@ def untouched(place):
     for words in (["pack", "--top", "two"], ["pack", "--top", "two", "--context", "--v2"], ["show", "--top=two"], [], ["line", "--top", "two", "--receive"]):
         seen = place.call(*words, given=b"\x00 any\n")
         check("the filter: %s" % words, seen == (7, "%s\n\x00 any\n" % ("".join("[%s]" % it for it in words) or "[]"), ""), seen)
+    for words in (["pack", "--top", "two"], ["show", "--top=two"], ["line", "--top", "two", "--receive", "--wide"], []):
+        seen = place.call(*words, "--diagnose", given=b"\x00 any\n")
+        due = "".join("[%s]" % it for it in words).replace("=", "][") or "[]"
+        check("a bundle, a fault of which would be shown: %s" % words, seen == (7, due + "\n\x00 any\n", ""), seen)
     due = {("--", "pack", "x", "--item"): "[pack][x][--item]", ("pack", "x", "--", "--item"): "[pack][x][--][--item]", ("--", "--help"): "[--help]"}
     for words, due in due.items():
         check("untouched: %s" % (words,), place.call(*words) == (7, due + "\n", ""), place.call(*words))
@@ -454,9 +458,34 @@ def diagnosed(place):
     for more, coloured in (({"TERM": "xterm"}, True), ({"TERM": "xterm", "NO_COLOR": "1"}, False), ({"TERM": "dumb"}, False)):
         status, seen = place.on_terminal("show", "p.fn", **more)
         check("in a terminal: %s" % more, status == 1 and ("\033[" in seen) == coloured and re.sub("\033\\[[0-9;]*m", "", seen).startswith(plain), seen)
+    in_bundles(place)
     (place.root / "docs" / "FAULTS.md").unlink()
     due = plain.removeprefix(line) + "see docs/FAULTS.md, E10; docs/FORMATS.md\n"
     check("where there are no pages", place.call("show", "p.fn", "--diagnose") == (1, line, due), place.call("show", "p.fn", "--diagnose"))
+
+
+def in_bundles(place):
+    """What is shown of faults of a profile in a bundle on standard input: the lines count in the bundle."""
+    profile = "q {\n  UNCOMPRESSED { x [8]; y [8]; }\n  COMPRESSED { x =:= irregula(8); y =:= irregular; }\n}\n"
+    shown = (
+        "-:%d:22: E20 name irregula is not known\n%d |   COMPRESSED { x =:= irregula(8); y =:= irregular; }\n  |                      ^^^^^^^^\n"
+        "help: do you mean `irregular`?\nsee docs/FAULTS.md, E20; docs/NOTATION.md\n"
+        "-:%d:41: E22 wrong number of arguments for irregular\n%d |   COMPRESSED { x =:= irregula(8); y =:= irregular; }\n  |"
+        "                                         ^^^^^^^^^\nhelp: irregular takes 1, and here are 0\nsee docs/FAULTS.md, E22; docs/NOTATION.md")
+    line = "profile:3:22: E20 name irregula is not known\n"
+    for name, words, bundle, above in (
+            ("words in the bundle", [], "=== words\npack --top q\n=== profile\n%s=== items\n16:0102\n" % profile, 3),
+            ("words of its own", ["pack", "--top", "q", "--context"], "=== profile\n%s=== items\n16:0102" % profile, 1),
+            ("CR before LF", [], "=== profile\n%s=== words\ncheck --v2 --top=q\n".replace("\n", "\r\n") % profile, 1),
+            ("no more parts", ["show", "--top=q"], "=== items\n\n=== profile\n" + profile, 3)):
+        status, out, said = place.call(*words, "--diagnose", given=bundle.encode())
+        due = shown % ((above + 3,) * 4)
+        check("a fault in a bundle: %s" % name, (status, out) == (1, line) and without_pages(said) == due, (status, out, said))
+        check("no fault is shown unasked: %s" % name, place.call(*words, given=bundle.encode()) == (1, line, ""))
+    for bundle, status, out in (("=== words\nshow --top q\n", 1, "bundle: I4 bad part profile\n"), ("", 1, "bundle: I4 bad part words\n"),
+                                ("=== words\nshow --top q\n=== profile\n", 1, "profile:1:1: E27 no such top method without parameters\n")):
+        seen = place.call("--diagnose", given=bundle.encode())
+        check("a bundle that lacks something: %r" % bundle, seen[:2] == (status, out) and seen[2].startswith("-:4:1: E27 ") == ("E27" in out), seen)
 
 
 def usage_page(place):
