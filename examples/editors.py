@@ -19,7 +19,7 @@ sys.path.append(str(ROOT / "bin"))
 notation = importlib.import_module("notation")
 COLOURS = ("keyword.control", "keyword.other", "constant.numeric", "string", "comment", "support.function")
 SHOWN = re.compile(r"^```rohcfn\n(.*?)^```$", re.DOTALL | re.MULTILINE)
-FAULT = re.compile(r"^(\S+\.fn):(\d+):(\d+): (E\d\d) (.*)$", re.MULTILINE)
+FAULT = re.compile(r"^(\S+\.fn|-):(\d+):(\d+): (E\d\d) (.*)$", re.MULTILINE)
 ALL = """K = 0x1F + 0b01;
 m(p)
 {
