@@ -1,6 +1,6 @@
 #!/usr/bin/env python3
-"""Puts a bundle together from files and words, and calls bin/rohcfn with it: `front.py COMMAND PROFILE [OPTION ..]`. Or takes one from standard input, to show a
-fault of its profile: `front.py [COMMAND --top NAME [FLAG ..]] --diagnose`. docs/USAGE.md shows each use."""
+"""Puts a bundle together from files and words, and calls bin/rohcfn with it: `front.py COMMAND PROFILE [OPTION ..]`. Or takes a bundle from standard input, to
+show a fault of its profile: `front.py [COMMAND --top NAME [FLAG ..]] --diagnose`. docs/USAGE.md shows each use."""
 import os
 import re
 import signal
