@@ -531,7 +531,9 @@ def main():
     trials = [(it, None) for it in (composed, paths, untouched, usage, captures, by_hand, all_faults)]
     trials += [(it, program) for program in sys.argv[1:] for it in (worked, there_and_back, closed, diagnosed, usage_page)]
     with tempfile.TemporaryDirectory() as folder, concurrent.futures.ThreadPoolExecutor(max_workers=4) as pool:
-        done = [pool.submit(lambda at, it, program: it(Place(folder, "a copy %d" % at, program)), at, *them) for at, them in enumerate(trials)]
+        # (all copies are made before anything runs: a script can't be run while another process still has it open to write)
+        places = [Place(folder, "a copy %d" % at, program) for at, (_, program) in enumerate(trials)]
+        done = [pool.submit(trial, place) for (trial, _), place in zip(trials, places)]
         for it in done:
             it.result()
     print("front: %d passed, %d failed" % (passed, failed))
