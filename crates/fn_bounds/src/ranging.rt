@@ -64,8 +64,8 @@ fn fields_ranges(alloc: Global, sizes: &[Sizes]) -> Result<Items<SideIntervals>,
     Ok(Items::from_vec(ranges))
 }
 
-/// The ranges in a format, from its bounds and from the ranges of the method's parameters.
-pub(crate) fn format_ranges(
+/// The ranges in a format, from its bounds and from the ranges of the method's parameters. The error is want of memory.
+pub fn format_ranges(
     alloc: Global,
     sizes: &FormatSizes,
     parameters: &[Interval],

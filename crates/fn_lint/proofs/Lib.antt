@@ -1,0 +1,4 @@
+pub mod Dead
+pub mod First
+pub mod Apart
+pub mod Standing

@@ -1,0 +1,5 @@
+use Rattle.fn_lint.proofs.Dead.{obstacles-kill}
+use Rattle.fn_lint.proofs.laws.obstacles_kill.Goals as goal
+
+pub returns : goal.returns
+returns c = obstacles-kill

@@ -1,0 +1,3 @@
+pub mod Obstacles
+pub mod Laws
+pub mod Never

@@ -1,0 +1,63 @@
+-- Conditions that their ranges make false: a truth that a condition never has, whatever the numbers in it are.
+use Rattle.std.specs.Prelude.{◌≡◌, ℕ, List, slice_get, Some, Bool, true, false, not, ◌&&◌, ◌||◌, int_le, int_lt, Result, Ok, Err}
+use Rattle.fn_expr.specs.declared.expr.Comparison.{Comparison}
+use Rattle.fn_expr.specs.declared.expr.Comparison.TheVariants.{Equal, NotEqual, Less, Greater, AtMost, AtLeast}
+use Rattle.fn_expr.specs.declared.expr.Cond.{Cond}
+use Rattle.fn_expr.specs.declared.expr.Cond.TheVariants.{Constant, Compare, Not', And', Or'}
+use Rattle.fn_expr.specs.declared.fault.RangeFault.{RangeFault}
+use Rattle.fn_expr.specs.declared.interval.Interval.{Interval}
+use Rattle.fn_expr.specs.Ranged.{Bounding, ranged}
+use Rattle.fn_normal.specs.declared.profile.Constraint.{Constraint}
+use Rattle.fn_normal.specs.declared.profile.Constraint.TheVariants.{Bracket, Enforce}
+
+-- no number of the one interval compares so with a number of the other
+abbrev pub is_apart : Comparison → Interval → Interval → Bool
+is_apart Equal i j = int_lt i.to j.from || int_lt j.to i.from
+is_apart NotEqual i j = int_le i.to j.from && int_le j.to i.from
+is_apart Less i j = int_le j.to i.from
+is_apart Greater i j = int_le i.to j.from
+is_apart AtMost i j = int_lt j.to i.from
+is_apart AtLeast i j = int_lt i.to j.from
+
+-- the comparison that is true where this one is false
+abbrev pub opposite : Comparison → Comparison
+opposite Equal = NotEqual
+opposite NotEqual = Equal
+opposite Less = AtLeast
+opposite Greater = AtMost
+opposite AtMost = Greater
+opposite AtLeast = Less
+
+-- by the ranges of the two sides, where both have one
+abbrev pub are_apart : Comparison → Result Interval RangeFault → Result Interval RangeFault → Bool
+are_apart op (Ok i) (Ok j) = is_apart op i j
+are_apart op (Ok i) (Err e) = false
+are_apart op (Err e) j = false
+
+abbrev mutual
+  -- by the ranges the condition is never true
+  pub never_true : Bounding → Cond → Bool
+  never_true r (Constant s b) = not b
+  never_true r (Compare s op x y) = are_apart op (ranged r x) (ranged r y)
+  never_true r (Not' s p x) = never_false r x
+  never_true r (And' s p x q y) = never_true r x || never_true r y
+  never_true r (Or' s p x q y) = never_true r x && never_true r y
+
+  -- nor is it ever false
+  pub never_false : Bounding → Cond → Bool
+  never_false r (Constant s b) = b
+  never_false r (Compare s op x y) = are_apart (opposite op) (ranged r x) (ranged r y)
+  never_false r (Not' s p x) = never_true r x
+  never_false r (And' s p x q y) = never_false r x && never_false r y
+  never_false r (Or' s p x q y) = never_false r x || never_false r y
+
+-- the constraint is a condition that is never true
+abbrev pub is_untrue : Bounding → Constraint → Bool
+is_untrue r (Bracket i side lengths place) = false
+is_untrue r (Enforce condition place) = never_true r condition
+
+-- so is the constraint j
+pub record IsUntrue (constraints : List Constraint) (r : Bounding) (j : ℕ) : Type 0 where
+  pub constraint : Constraint
+  pub constraint_at : slice_get constraints j ≡ Some constraint
+  pub untrue : is_untrue r constraint ≡ true
