@@ -2,3 +2,4 @@ pub mod Dead
 pub mod First
 pub mod Apart
 pub mod Standing
+pub mod Listed

@@ -1,3 +1,4 @@
 pub mod Obstacles
 pub mod Laws
 pub mod Never
+pub mod Listing

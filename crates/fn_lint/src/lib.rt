@@ -1,8 +1,10 @@
 //! What an author of profiles should know before a header is sent: formats by which nothing can ever be packed.
 #![tactic(auto)]
 
+pub use formats::{DeadFormat, dead_formats};
 pub use obstacle::{Obstacle, obstacle_of};
 
+pub mod formats;
 pub mod laws;
 mod lengths;
 mod never;
