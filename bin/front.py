@@ -17,14 +17,17 @@ FLOWS, WIDE = 16, 64  # of a line, and of the wide one
 INPUTS = {
     "pack": ("item", "items", "from_context", "certificate", "pcap", "flow"),
     "unpack": ("packet", "packets", "from_context", "certificate"),
+    "fields": ("item", "items", "packet", "packets", "from_context", "certificate", "pcap", "flow"),
     "show": (),
     "check": ("certificate",),
     "prove": (),
     "line": ("events", "octets", "certificate", "pcap"),
 }
-FLAGS = {"pack": ("v2", "context"), "unpack": ("v2", "context"), "show": (), "check": ("v2",), "prove": ("v2",), "line": ("v2", "receive", "wide")}
+TOLD = ("v2", "context")
+FLAGS = {"pack": TOLD, "unpack": TOLD, "fields": TOLD, "show": (), "check": ("v2",), "prove": ("v2",), "line": ("v2", "receive", "wide")}
+PACKED, READ = ("item", "items", "pcap"), ("packet", "packets")
 # One of these at least is needed.
-NEEDED = {"pack": ("item", "items", "pcap"), "unpack": ("packet", "packets"), "line": ("events", "octets", "pcap")}
+NEEDED = {"pack": PACKED, "unpack": READ, "fields": PACKED + READ, "line": ("events", "octets", "pcap")}
 VALUED = ("top", "item", "items", "packet", "packets", "from_context", "certificate", "events", "octets", "pcap", "flow")
 PLAIN = ("v2", "context", "receive", "wide", "diagnose")
 LINES = {"item": "items", "items": "items", "packet": "packets", "packets": "packets"}
@@ -104,8 +107,10 @@ def judge(order):
     given = [it for it in needed if order.has(it)]
     if needed and not given:
         raise Usage("%s needs one of %s" % (order.command, ", ".join(map(option, needed))))
-    if "pcap" in given and len(given) > 1 or order.command == "line" and len(given) > 1:
-        raise Usage("%s and %s don't go together" % (option(given[0]), option(given[1])))
+    both = [next((it for it in kind if it in given), None) for kind in (PACKED, READ)]
+    apart = both if order.command == "fields" and all(both) else given
+    if len(apart) > 1 and ("pcap" in given or apart is both or order.command == "line"):
+        raise Usage("%s and %s don't go together" % (option(apart[0]), option(apart[1])))
     if order.has("flow") and (not order.has("pcap") or not (order.flow.isascii() and order.flow.isdigit())):
         raise Usage("--flow goes with --pcap, and is a number from 0")
     if order.receive and order.octets is None:
@@ -163,7 +168,7 @@ def captured(order, profile, top):
     try:
         found = captures.packets(parts.read(order.pcap, -1))
         flows, asked = flows_of(order, kind, found), profile.asked(top)
-        if order.command == "pack":
+        if order.command != "line":
             return {"items": lines(inferred.items(kind, asked, chosen(order, flows)))}
         return {"events": lines(events(order, kind, asked, flows, found))}
     except captures.BadCapture as why:
@@ -189,8 +194,9 @@ def events(order, kind, asked, flows, found):
 
 
 def flags_of(order):
-    """The flags that go to the program."""
-    return [option(it) for it in FLAGS[order.command] if order.has(it) or it == "receive" and order.octets is not None]
+    """The flags that go to the program. Which part there is tells that items are meant, or octets."""
+    meant = ["--items"] if order.command == "fields" and any(order.has(it) for it in PACKED) else []
+    return [option(it) for it in FLAGS[order.command] if order.has(it) or it == "receive" and order.octets is not None] + meant
 
 
 def call_of(order):

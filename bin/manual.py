@@ -130,7 +130,7 @@ class Help:
         self.commands = dict(COMMAND.findall(self.texts["rohcfn"].partition("Commands:\n")[2].partition("Options:\n")[0]))
         self.kept = {it: text for it, text in self.commands.items() if it in self.texts}  # all but `help`
         self.version = re.search(r"`bin/rohcfn --version` (.*?)\.", self.texts["files"]).group(1)
-        self.options = {}
+        self.options, self.plain = {}, []
         for command in self.kept:
             self.take(self.texts[command], [command])
         self.plain = sorted(self.options, key=lambda it: it == "--help")  # those that the program itself knows
@@ -141,13 +141,13 @@ class Help:
         for short, long, value, does in OPTION.findall(text):
             of = OF.fullmatch(does)
             named, does = (of[1].split(", "), of[2]) if of else (commands, does)
-            found = self.options.setdefault(long, Option(short, long, value))
+            found = self.options.setdefault("%s %s" % (long, value) if long in self.plain and value != self.options[long].value else long, Option(short, long, value))
             found.commands += [it for it in named if it not in found.commands]
             found.does += [does] if does not in found.does else []
 
     def of(self, command):
-        """The options of a command."""
-        return [it for it in self.options.values() if command in it.commands]
+        """The options of a command. Where one with files has the name of another, it alone."""
+        return list({it.long: it for it in self.options.values() if command in it.commands}.values())
 
     def valued(self, *names, other=False):
         """The options whose values have one of these names, or another one."""

@@ -120,6 +120,10 @@ def composed(place):
          ["pack", "--top", "one", "--v2", "--context"], {"items": "8:01\n", "context": "x 8:07\n", **certificate}),
         (["pack", "a profile.fn", "--item", "8:02", "--from-context", "packed"], ["pack", *top], {"items": "8:02\n", "context": "x 8:02\n"}),
         (["unpack", "a profile.fn", "--packets", "packed", "--packet", "9:1280"], ["unpack", *top], {"packets": "8:10\n8:11\n9:1280\n"}),
+        (["fields", "a profile.fn", "--packets", "packed", "--packet=9:1280", "--context"], ["fields", *top, "--context"], {"packets": "8:10\n8:11\n9:1280\n"}),
+        (["fields", "a profile.fn", "--items", "items", "--item", "8:03", "--from-context", "context"], ["fields", *top, "--items"],
+         {"items": "8:01\n8:03\n", "context": "x 8:07\n"}),
+        (["fields", "--item=8:02", "a profile.fn", "--v2", "--certificate", "certificate"], ["fields", *top, "--v2", "--items"], {"items": "8:02\n", **certificate}),
         (["show", "a profile.fn"], ["show", *top], {}),
         (["show", "a profile.fn", "--top", "--help"], None, None),
         (["check", "a profile.fn", "--certificate", "certificate", "--v2"], ["check", *top, "--v2"], certificate),
@@ -164,7 +168,8 @@ def paths(place):
 
 def untouched(place):
     """Calls that are the filter's, and words after `--`."""
-    for words in (["pack", "--top", "two"], ["pack", "--top", "two", "--context", "--v2"], ["show", "--top=two"], [], ["line", "--top", "two", "--receive"]):
+    for words in (["pack", "--top", "two"], ["pack", "--top", "two", "--context", "--v2"], ["show", "--top=two"], [], ["line", "--top", "two", "--receive"],
+                  ["fields", "--top", "two", "--items", "--context"], ["fields", "--items", "--top=two", "--v2"]):
         seen = place.call(*words, given=b"\x00 any\n")
         check("the filter: %s" % words, seen == (7, "%s\n\x00 any\n" % ("".join("[%s]" % it for it in words) or "[]"), ""), seen)
     for words in (["pack", "--top", "two"], ["show", "--top=two"], ["line", "--top", "two", "--receive", "--wide"], []):
@@ -181,6 +186,12 @@ def usage(place):
     due = {
         ("pack", "a profile.fn"): "pack needs one of --item, --items, --pcap",
         ("unpack", "a profile.fn", "--top", "two"): "unpack needs one of --packet, --packets",
+        ("fields", "a profile.fn"): "fields needs one of --item, --items, --pcap, --packet, --packets",
+        ("fields", "a profile.fn", "--items"): "--items needs a value",
+        ("fields", "a profile.fn", "--packet", "8:01", "--items", "x"): "--items and --packet don't go together",
+        ("fields", "a profile.fn", "--pcap", "x", "--packets", "y"): "--pcap and --packets don't go together",
+        ("fields", "a profile.fn", "--item", "8:01", "--pcap", "x"): "--item and --pcap don't go together",
+        ("fields", "a profile.fn", "--item", "8:01", "--wide"): "--wide is no option of fields",
         ("line", "a profile.fn"): "line needs one of --events, --octets, --pcap",
         ("line", "a profile.fn", "--octets", "x", "--events", "y"): "--events and --octets don't go together",
         ("line", "a profile.fn", "--events", "x", "--receive"): "--receive needs --octets",
@@ -200,7 +211,8 @@ def usage(place):
         "unexpected argument 'items' found; --context has no value, --from-context FILE gives the context to begin with",
         ("show", "a profile.fn", "--tip"): "unexpected argument '--tip' found",
     }
-    for command, names in (("pack", "item items from-context certificate pcap flow"), ("unpack", "packet packets"), ("line", "events octets")):
+    for command, names in (("pack", "item items from-context certificate pcap flow"), ("unpack", "packet packets"), ("line", "events octets"),
+                           ("fields", "item items packet packets from-context certificate pcap flow")):
         due.update({(command, "--%s=1" % name): "the file of a profile is needed" for name in names.split()})
     due["show", "--diagnose"] = "the file of a profile is needed"
     with open("/dev/zero", "rb") as endless:

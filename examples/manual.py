@@ -16,7 +16,7 @@ ROOT = pathlib.Path(__file__).resolve().parent.parent
 sys.path.insert(0, str(ROOT / "bin"))  # (before this folder, which has files of the same names)
 manual, front = importlib.import_module("manual"), importlib.import_module("front")
 PAGE, BASH, ZSH = (ROOT / it for it in ("man/rohcfn.1", "completion/rohcfn.bash", "completion/_rohcfn"))
-COMMANDS = "pack unpack show check prove line help".split()
+COMMANDS = "pack unpack fields show check prove line help".split()
 EACH = ["--top", "--help", "--diagnose"]  # options of each command
 HERE = ["a file", "folder", "probe.fn"]
 MACRO = re.compile(r'\.(TH ROHCFN 1 "" Tuxabelo "User Commands"|SH [A-Z ]+|TP|PP|nf|fi|br|\\".*)')
@@ -86,7 +86,8 @@ def page():
     for old, new in ((".TP\n", ".TQ\n"), (".fi\n", ""), ("\\fR", "\\f"), ("\\-\\-top", "--top"), (".SH NAME", ".SH"), ("Packs", "'Packs")):
         check("a slip: %r" % new, slip(text.replace(old, new, 1)) is not None)
     for it in {it for command in front.INPUTS for it in options_of(command)}:
-        check("the man page on %s" % it, text.count("\\fB%s\\fR" % it.replace("-", "\\-")) == 1)
+        told = 2 if it == "--items" else 1  # (of `fields` it is also a flag without a file)
+        check("the man page on %s" % it, text.count("\\fB%s\\fR" % it.replace("-", "\\-")) == told)
     for name, *words in (["groff", "-man", "-Tascii", "-ww", "-z"], ["man", "--warnings", "-l"]):
         if is_of_linux(name):
             ran = run([name, *words, PAGE])

@@ -1,3 +1,6 @@
 pub mod Certificates
 pub mod FaultLines
+pub mod Listed
 pub mod Listings
+pub mod Spelled
+pub mod Tables

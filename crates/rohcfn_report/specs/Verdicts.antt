@@ -1,5 +1,5 @@
 -- The lines of what is wrong with a certificate (docs/FORMATS.md).
-use Rattle.std.specs.Prelude.{◌≡◌, ℕ, List, ◌++◌, Option, codes, decimal, slice_get, option_and_then, option_map}
+use Rattle.std.specs.Prelude.{◌≡◌, ℕ, List, [], ◌++◌, Option, None, Some, codes, decimal, slice_get, option_and_then, option_map}
 use Rattle.fn_normal.specs.declared.profile.Field.{Field}
 use Rattle.fn_normal.specs.declared.profile.Format.{Format}
 use Rattle.fn_normal.specs.declared.profile.Method.{Method}
@@ -30,6 +30,11 @@ field_name methods k n i = name_of (option_map (λ d. d.declared.name) (field_at
 -- both names
 abbrev pub names : List Method → ℕ → ℕ → List ℕ
 names methods k n = method_name methods k ++ codes " " ++ format_name methods k n
+
+-- the format after a point, where there is one
+abbrev pub format_words : List Method → ℕ → Option ℕ → List ℕ
+format_words methods k None = []
+format_words methods k (Some n) = codes "." ++ format_name methods k n
 
 -- the plan of a direction
 abbrev pub direction_word : Direction → List ℕ

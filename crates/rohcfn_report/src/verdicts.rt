@@ -290,7 +290,12 @@ pub(crate) fn field_name(methods: &[Method], method: usize, format: usize, field
     }
 }
 
-fn field_at(methods: &[Method], method: usize, format: usize, field: usize) -> Option<&Field>
+pub(crate) fn field_at(
+    methods: &[Method],
+    method: usize,
+    format: usize,
+    field: usize,
+) -> Option<&Field>
     ensures { option_copied result ≡ spec.field_at methods.now method format field }
 {
     format_at(methods, method, format)?.fields.get(field)

@@ -32,13 +32,13 @@ use Rattle.rohcfn_words.specs.declared.words.Direction.TheVariants.{Pack, Unpack
 use Rattle.rohcfn_words.specs.declared.words.End.{End}
 use Rattle.rohcfn_words.specs.declared.words.End.TheVariants.{Sending, Receiving}
 use Rattle.rohcfn_words.specs.declared.words.Order.{Order}
-use Rattle.rohcfn_tool.specs.Printed.{Prints, PrintsInput, AnsweredIn, AnsweredFor, AnsweredBy, AnsweredRun, Answered, IsItemLine, FaultsItem, IsPacketLine, FaultsPacket}
+use Rattle.rohcfn_tool.specs.Printed.{Prints, PrintsInput, AnsweredIn, AnsweredFor, AnsweredBy, AnsweredRun, Answered, SaysItem, FaultsItem, SaysPacket, FaultsPacket}
 use Rattle.rohcfn_tool.specs.Printed.Prints.{done as prints_done, fault as prints_fault, line as prints_line}
 use Rattle.rohcfn_tool.specs.Printed.AnsweredIn.{answered as answered_in_answered, bad_line as answered_in_bad_line}
 use Rattle.rohcfn_tool.specs.Printed.AnsweredFor.{bad_context as answered_for_bad_context, from_context as answered_for_from_context}
 use Rattle.rohcfn_tool.specs.Printed.AnsweredBy.{by_profile as answered_by_by_profile, unaccepted as answered_by_unaccepted}
 use Rattle.rohcfn_tool.specs.Printed.AnsweredRun.{both as answered_run_both, no_input as answered_run_no_input}
-use Rattle.rohcfn_tool.specs.Printed.Answered.{checked as answers_checked, lined as answers_lined, no_profile as answers_no_profile, proved as answers_proved, ran as answers_ran, shown as answers_shown}
+use Rattle.rohcfn_tool.specs.Printed.Answered.{checked as answers_checked, lined as answers_lined, no_profile as answers_no_profile, proved as answers_proved, ran as answers_ran, shown as answers_shown, told as answers_told}
 use Rattle.fn_line.specs.declared.flow.LineVersion.{LineVersion}
 use Rattle.rohcfn_tool.specs.Lined.{PrintsSent, PrintsReceived, AnsweredEvents, AnsweredHex, AnsweredEnd, LinedBy, Lined, line_version}
 use Rattle.rohcfn_tool.specs.Lined.PrintsSent.{all_sent as prints_sent_all_sent, one_refused as prints_sent_one_refused}
@@ -49,6 +49,8 @@ use Rattle.rohcfn_tool.specs.Lined.LinedBy.{not_accepted as lined_by_not_accepte
 use Rattle.rohcfn_tool.specs.Lined.Lined.{by_part as lined_by_part, no_part as lined_no_part}
 use Rattle.rohcfn_tool.specs.Program.{Fails, ForInput, Gives, RefusesBy, Replies, RunPrints, large_line}
 use Rattle.rohcfn_tool.specs.Program.RunPrints.{answered as run_prints_answered, bad_part as run_prints_bad_part, large as run_prints_large, no_words as run_prints_no_words}
+use Rattle.rohcfn_tool.specs.declared.printing.Shape.{Shape}
+use Rattle.rohcfn_tool.specs.declared.printing.Shape.TheVariants.{Line, Tree}
 use Rattle.rohcfn_tool.specs.declared.program.Reply.{Reply}
 use Rattle.rohcfn_tool.specs.declared.program.Reply.TheVariants.{Print, Tell}
 use Rattle.rohcfn_tool.proofs.ProgramReplies.{large_refused}
@@ -61,30 +63,30 @@ MayPrint Refused = Unit {0}
 MayPrint Usage = ⊥
 MayPrint (Failed why) = ⊥
 
-prints_end : (X : Type 0) (says : Entries → X → Filling → List ℕ → Type 0) (faults : Entries → ℕ → X → List ℕ → Type 0) (shows : Bool) (ctx : Entries) (n : ℕ) (xs : List X) (s : Status) (text : List ℕ) → Prints says faults shows ctx n xs s text → MayPrint s
+prints_end : (X : Type 0) (says : Entries → ℕ → X → Filling → List ℕ → Type 0) (faults : Entries → ℕ → X → List ℕ → Type 0) (shows : Bool) (ctx : Entries) (n : ℕ) (xs : List X) (s : Status) (text : List ℕ) → Prints says faults shows ctx n xs s text → MayPrint s
 prints_end X says faults shows ctx n _ _ _ (prints_done h) = tt
 prints_end X says faults shows ctx n _ s _ (prints_line {xs = xs} f text rest said more) = prints_end X says faults shows (next ctx f) (n + 1) xs s rest more
 prints_end X says faults shows ctx n _ _ _ (prints_fault text h single) = tt
 
-input_ends : (direction : Direction) (shows : Bool) (a : Accepting) (ctx : Entries) (octets : List ℕ) (s : Status) (output : List ℕ) → PrintsInput direction shows a ctx octets s output → MayPrint s
-input_ends Pack shows a ctx octets s output h = prints_end Item (IsItemLine a) (FaultsItem a) shows ctx 1 h.0 s output h.2
-input_ends Unpack shows a ctx octets s output h = prints_end (List Bool) (IsPacketLine a) (FaultsPacket a) shows ctx 1 h.0 s output h.2
+input_ends : (direction : Direction) (shape : Shape) (shows : Bool) (a : Accepting) (ctx : Entries) (octets : List ℕ) (s : Status) (output : List ℕ) → PrintsInput direction shape shows a ctx octets s output → MayPrint s
+input_ends Pack shape shows a ctx octets s output h = prints_end Item (SaysItem shape a) (FaultsItem a) shows ctx 1 h.0 s output h.2
+input_ends Unpack shape shows a ctx octets s output h = prints_end (List Bool) (SaysPacket shape a) (FaultsPacket a) shows ctx 1 h.0 s output h.2
 
-in_ends : (direction : Direction) (shows : Bool) (a : Accepting) (ctx : Entries) (octets : List ℕ) (s : Status) (output : List ℕ) → AnsweredIn direction shows a ctx octets s output → MayPrint s
-in_ends direction shows a ctx octets _ _ (answered_in_bad_line n h) = tt
-in_ends direction shows a ctx octets s output (answered_in_answered h) = input_ends direction shows a ctx octets s output h
+in_ends : (direction : Direction) (shape : Shape) (shows : Bool) (a : Accepting) (ctx : Entries) (octets : List ℕ) (s : Status) (output : List ℕ) → AnsweredIn direction shape shows a ctx octets s output → MayPrint s
+in_ends direction shape shows a ctx octets _ _ (answered_in_bad_line n h) = tt
+in_ends direction shape shows a ctx octets s output (answered_in_answered h) = input_ends direction shape shows a ctx octets s output h
 
-for_ends : (direction : Direction) (shows : Bool) (a : Accepting) (context : Option (Bor (List ℕ))) (octets : List ℕ) (s : Status) (output : List ℕ) → AnsweredFor direction shows a context octets s output → MayPrint s
-for_ends direction shows a context octets _ _ (answered_for_bad_context given n is bad) = tt
-for_ends direction shows a context octets s output (answered_for_from_context ctx starts h) = in_ends direction shows a ctx octets s output h
+for_ends : (direction : Direction) (shape : Shape) (shows : Bool) (a : Accepting) (context : Option (Bor (List ℕ))) (octets : List ℕ) (s : Status) (output : List ℕ) → AnsweredFor direction shape shows a context octets s output → MayPrint s
+for_ends direction shape shows a context octets _ _ (answered_for_bad_context given n is bad) = tt
+for_ends direction shape shows a context octets s output (answered_for_from_context ctx starts h) = in_ends direction shape shows a ctx octets s output h
 
-by_ends : (direction : Direction) (order : Order) (profile : List ℕ) (parts : Parts) (octets : List ℕ) (s : Status) (output : List ℕ) → AnsweredBy direction order profile parts octets s output → MayPrint s
-by_ends direction order profile parts octets _ _ (answered_by_unaccepted text h) = tt
-by_ends direction order profile parts octets s output (answered_by_by_profile a accepts h) = for_ends direction order.shows_context a parts.context octets s output h
+by_ends : (direction : Direction) (shape : Shape) (order : Order) (profile : List ℕ) (parts : Parts) (octets : List ℕ) (s : Status) (output : List ℕ) → AnsweredBy direction shape order profile parts octets s output → MayPrint s
+by_ends direction shape order profile parts octets _ _ (answered_by_unaccepted text h) = tt
+by_ends direction shape order profile parts octets s output (answered_by_by_profile a accepts h) = for_ends direction shape order.shows_context a parts.context octets s output h
 
-run_ends : (direction : Direction) (order : Order) (profile : List ℕ) (parts : Parts) (s : Status) (output : List ℕ) → AnsweredRun direction order profile parts s output → MayPrint s
-run_ends direction order profile parts _ _ (answered_run_no_input is) = tt
-run_ends direction order profile parts s output (answered_run_both given is h) = by_ends direction order profile parts given.now s output h
+run_ends : (direction : Direction) (shape : Shape) (order : Order) (profile : List ℕ) (parts : Parts) (s : Status) (output : List ℕ) → AnsweredRun direction shape order profile parts s output → MayPrint s
+run_ends direction shape order profile parts _ _ (answered_run_no_input is) = tt
+run_ends direction shape order profile parts s output (answered_run_both given is h) = by_ends direction shape order profile parts given.now s output h
 
 sent_ends : (v : LineVersion) (a : Accepting) (events : List Event) (s : Status) (output : List ℕ) → PrintsSent v a events s output → MayPrint s
 sent_ends v a events _ _ (prints_sent_all_sent octets found items ran are) = tt
@@ -135,7 +137,8 @@ answer_ends order parts _ _ (answers_no_profile is) = tt
 answer_ends order parts s output (answers_shown profile is asks h) = shown_ends order.top.now profile.now s output h
 answer_ends order parts s output (answers_checked profile is asks h) = checked_ends order.top.now profile.now (origin_of order.version parts.certificate) s output h
 answer_ends order parts s output (answers_proved profile is asks h) = proved_ends order profile.now s output h
-answer_ends order parts s output (answers_ran profile direction is asks h) = run_ends direction order profile.now parts s output h
+answer_ends order parts s output (answers_ran profile direction is asks h) = run_ends direction Line order profile.now parts s output h
+answer_ends order parts s output (answers_told profile direction is asks h) = run_ends direction Tree order profile.now parts s output h
 answer_ends order parts s output (answers_lined profile end is asks h) = lined_ends end order profile.now parts s output h
 
 print_ends : (given : List (List ℕ)) (input : List ℕ) (s : Status) (output : List ℕ) → RunPrints given input s output → MayPrint s

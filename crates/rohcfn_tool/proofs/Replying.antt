@@ -16,6 +16,7 @@ use Rattle.fn_checker.specs.Accepted.{Accepting}
 use Rattle.rohcfn_input.specs.declared.inputs.BadLine.{BadLine}
 use Rattle.rohcfn_input.specs.declared.inputs.BadLine.TheVariants as bad
 use Rattle.rohcfn_words.specs.declared.words.Direction.{Direction}
+use Rattle.rohcfn_tool.specs.declared.printing.Shape.{Shape}
 use Rattle.rohcfn_input.specs.Inputs.{BlamesContext}
 use Rattle.rohcfn_tool.specs.Printed.{AnsweredFor, bad_context, context_line, IsBadInput, IsEnd, IsFinished, IsStep, AnsweredIn, Prints, bad_line, bad_line_text, done, line, fault}
 use Rattle.rohcfn_input.specs.Refusals.{Holds, IsRefusal}
@@ -24,7 +25,7 @@ use Rattle.rohcfn_input.proofs.AnswersHeld.{refusal_is}
 -- ---- a line for each input
 
 abbrev pub Says : Type 0 → Type 1
-Says X = Entries → X → Filling → List ℕ → Type 0
+Says X = Entries → ℕ → X → Filling → List ℕ → Type 0
 
 abbrev pub Faults : Type 0 → Type 1
 Faults X = Entries → ℕ → X → List ℕ → Type 0
@@ -72,22 +73,22 @@ module _ {X : Type 0} (says : Says X) (faults : Faults X) (shows : Bool) (start 
 
 -- ---- a context that can't be read
 
-context_bad : (direction : Direction) (shows : Bool) (a : Accepting) (part : Option (Bor (List ℕ))) (input : List ℕ) (n : ℕ) (p : Option (Bor (List ℕ))) → part ≡ p → BlamesContext (bad.Number n) p → AnsweredFor direction shows a part input status.Refused (context_line n ++ 10 ∷ [])
-context_bad direction shows a part input n None is h = absurd h
-context_bad direction shows a part input n (Some octets) is h = bad_context octets n is h
+context_bad : (direction : Direction) (shape : Shape) (shows : Bool) (a : Accepting) (part : Option (Bor (List ℕ))) (input : List ℕ) (n : ℕ) (p : Option (Bor (List ℕ))) → part ≡ p → BlamesContext (bad.Number n) p → AnsweredFor direction shape shows a part input status.Refused (context_line n ++ 10 ∷ [])
+context_bad direction shape shows a part input n None is h = absurd h
+context_bad direction shape shows a part input n (Some octets) is h = bad_context octets n is h
 
-pub bad_context_is : (direction : Direction) (shows : Bool) (a : Accepting) (part : Option (Bor (List ℕ))) (input : List ℕ) (e : BadLine) (n m : ℕ) (written : List ℕ) (r : Result Answer AllocError) → BlamesContext e part → e ≡ bad.Number n → written ≡ context_line m → m ≡ n → IfOk r (IsRefusal written)
-    → IfOk r (Holds (AnsweredFor direction shows a part input))
-bad_context_is direction shows a part input e n m written r blames is same number g =
+pub bad_context_is : (direction : Direction) (shape : Shape) (shows : Bool) (a : Accepting) (part : Option (Bor (List ℕ))) (input : List ℕ) (e : BadLine) (n m : ℕ) (written : List ℕ) (r : Result Answer AllocError) → BlamesContext e part → e ≡ bad.Number n → written ≡ context_line m → m ≡ n → IfOk r (IsRefusal written)
+    → IfOk r (Holds (AnsweredFor direction shape shows a part input))
+bad_context_is direction shape shows a part input e n m written r blames is same number g =
     let here : BlamesContext (bad.Number n) part = subst (λ (x : BadLine). BlamesContext x part) is blames in
-    refusal_is (AnsweredFor direction shows a part input) (context_line n) written r (context_bad direction shows a part input n part (λ i. part) here) (same ∙ ap context_line number) g
+    refusal_is (AnsweredFor direction shape shows a part input) (context_line n) written r (context_bad direction shape shows a part input n part (λ i. part) here) (same ∙ ap context_line number) g
 
 -- ---- items or packets of which a line can't be read
 
-pub bad_input_is : (direction : Direction) (shows : Bool) (a : Accepting) (ctx : Entries) (input : List ℕ) (n m : ℕ) (written : List ℕ) (r : Result Answer AllocError) → IsBadInput direction input n → written ≡ bad_line_text direction m → m ≡ n → IfOk r (IsRefusal written)
-    → IfOk r (Holds (AnsweredIn direction shows a ctx input))
-bad_input_is direction shows a ctx input n m written r is same number g =
-    refusal_is (AnsweredIn direction shows a ctx input) (bad_line_text direction n) written r (bad_line n is) (same ∙ ap (bad_line_text direction) number) g
+pub bad_input_is : (direction : Direction) (shape : Shape) (shows : Bool) (a : Accepting) (ctx : Entries) (input : List ℕ) (n m : ℕ) (written : List ℕ) (r : Result Answer AllocError) → IsBadInput direction input n → written ≡ bad_line_text direction m → m ≡ n → IfOk r (IsRefusal written)
+    → IfOk r (Holds (AnsweredIn direction shape shows a ctx input))
+bad_input_is direction shape shows a ctx input n m written r is same number g =
+    refusal_is (AnsweredIn direction shape shows a ctx input) (bad_line_text direction n) written r (bad_line n is) (same ∙ ap (bad_line_text direction) number) g
 
 -- ---- after the last line
 

@@ -1,5 +1,5 @@
 -- The line of one item or packet.
-use Rattle.std.proofs.Common.{◌≡◌, ◌∙◌, ℕ, Bool, List, [], ◌∷◌, ◌++◌, map, codes, decimal, true, false, refl, ap, sym, subst, append_assoc}
+use Rattle.std.proofs.Common.{◌≡◌, ◌∙◌, ℕ, Bool, List, [], ◌∷◌, ◌++◌, map, codes, decimal, true, false, refl, ap, sym, subst, append_assoc, length}
 use Rattle.std.specs.Prelude.{string_bytes}
 use Rattle.fn_bits.specs.Cursor.{Place}
 use Rattle.fn_bits.specs.Text.{IsText}
@@ -8,7 +8,7 @@ use Rattle.fn_normal.specs.declared.profile.Method.{Method}
 use Rattle.fn_profile.specs.Named.{AreWords}
 use Rattle.fn_profile.specs.Resolved.{IsSound, Resolved}
 use Rattle.fn_filling.specs.declared.filling.Item.{Item}
-use Rattle.fn_filling.specs.Fillings.{item}
+use Rattle.fn_filling.specs.Fillings.{item, packed}
 use Rattle.fn_checker.specs.Accepted.{Accepting}
 use Rattle.fn_engine.specs.Reading as reading
 use Rattle.fn_engine.specs.Writing as writing
@@ -19,43 +19,50 @@ use Rattle.fn_engine.specs.declared.writer.PackFault.TheVariants as writer
 use Rattle.fn_engine.specs.declared.writer.Written.{Written}
 use Rattle.rohcfn_input.specs.ItemTexts.{HasMore, IsItemText}
 use Rattle.rohcfn_tool.proofs.PacketLines.{packet_faults}
-use Rattle.rohcfn_tool.specs.Printed.{IsBitsLine, IsItemStep, IsPacketFault, IsPacketStep, IsReadLine, IsRefusedItem, IsRefusedPacket, IsTaken}
+use Rattle.rohcfn_tool.specs.Printed.{HasLine, IsFoundText, IsItemStep, IsPacketFault, IsPacketStep, IsReadLine, IsRefusedItem, IsRefusedPacket, IsTaken, IsWrittenText, SaysItem, SaysPacket, tree_text}
+use Rattle.rohcfn_tool.specs.declared.printing.Shape.{Shape}
+use Rattle.rohcfn_tool.specs.declared.printing.Shape.TheVariants.{Line, Tree}
 
 -- ---- items
 
-pub packed_step : (a : Accepting) (old new : Entries) (before after : List ℕ) (n : ℕ) (it : Item) (w : Written) → writing.IsWritten a old it w → IsBitsLine w.packed before after → new ≡ overridden old (map (λ e. (string_bytes e.0, e.1)) w.entries.items)
-    → IsItemStep a old new before after n it false
-packed_step a old new before after n it w is text reached =
-    (w.filling, (text.0, record { best = is.best; spelled = subst (IsText text.0) is.packed_is text.1 }, text.2), reached ∙ ap (overridden old) is.entries_are)
+-- what is printed of the filling that was written is said of the item
+written_says : (shape : Shape) (a : Accepting) (ctx : Entries) (before after : List ℕ) (n : ℕ) (it : Item) (w : Written) → writing.IsWritten a ctx it w → IsWrittenText shape a n w.packed w.filling before after → HasLine (SaysItem shape a ctx n it w.filling) before after
+written_says Line a ctx before after n it w is text = (text.0, record { best = is.best; spelled = subst (IsText text.0) is.packed_is text.1 }, text.2)
+written_says Tree a ctx before after n it w is text =
+    (text.0, record { best = is.best; listed = text.1 ∙ ap (λ bits. tree_text a (codes "item") n (length bits) w.filling) is.packed_is }, text.2)
+
+pub packed_step : (shape : Shape) (a : Accepting) (old new : Entries) (before after : List ℕ) (n : ℕ) (it : Item) (w : Written) → writing.IsWritten a old it w → IsWrittenText shape a n w.packed w.filling before after
+    → new ≡ overridden old (map (λ e. (string_bytes e.0, e.1)) w.entries.items) → IsItemStep shape a old new before after n it false
+packed_step shape a old new before after n it w is text reached =
+    (w.filling, written_says shape a old before after n it w is text, reached ∙ ap (overridden old) is.entries_are)
 
 -- of an item no missing flow is blamed
 pub no_flow_blamed : (a : Accepting) (ctx : Entries) (it : Item) (e : PackFault) → writing.Blames e a ctx it → ¬ (e ≡ writer.Flow)
 no_flow_blamed a ctx it e blames is = subst (λ (x : PackFault). writing.Blames x a ctx it) is blames
 
-pub item_refused : (a : Accepting) (old : Entries) (before after : List ℕ) (n : ℕ) (it : Item) (e : PackFault) → writing.Blames e a old it → IsRefusedItem e n before after → IsItemStep a old old before after n it true
-item_refused a old before after n it e blames is = (is.0, ((e, blames, is.1.0), is.1.1), is.2)
+pub item_refused : (shape : Shape) (a : Accepting) (old : Entries) (before after : List ℕ) (n : ℕ) (it : Item) (e : PackFault) → writing.Blames e a old it → IsRefusedItem e n before after → IsItemStep shape a old old before after n it true
+item_refused shape a old before after n it e blames is = (is.0, ((e, blames, is.1.0), is.1.1), is.2)
 
 -- ---- packets
 
-pub read_step : (a : Accepting) (old new : Entries) (before after : List ℕ) (n : ℕ) (packet : List Bool) (from to : Place) (r : Read) → from ≡ record { used = []; left = packet } → reading.IsRead a old from to r → IsReadLine r.item r.bits before after
-    → new ≡ overridden old (map (λ e. (string_bytes e.0, e.1)) r.entries.items) → IsPacketStep a old new before after n packet false
-read_step a old new before after n packet from to r start is text reached =
-    let item_here = subst (λ it. IsTaken it r.bits text.0) is.item_is text.1 in (
-      r.filling,
-      (
-        text.0,
-        record {
-          fits = record { fits = is.fits; rest = to.left; front = sym (ap (λ (p : Place). p.left) start) ∙ is.advances.left };
-          taken = subst (λ k. IsTaken (item r.filling) k text.0) is.bits_is item_here;
-        },
-        text.2,
-      ),
-      reached ∙ ap (overridden old) is.entries_are,
-    )
+-- what is printed of the filling that was read is said of the packet
+found_says : (shape : Shape) (a : Accepting) (ctx : Entries) (before after : List ℕ) (n : ℕ) (packet : List Bool) (r : Read) → reading.Fronts a ctx packet r.filling → r.item ≡ item r.filling → r.bits ≡ length (packed r.filling)
+    → IsFoundText shape a (codes "packet") n r.bits r.item r.filling before after → HasLine (SaysPacket shape a ctx n packet r.filling) before after
+found_says Line a ctx before after n packet r fits item_is bits_is text =
+    let item_here = subst (λ it. IsTaken it r.bits text.0) item_is text.1 in
+    (text.0, record { fits = fits; taken = subst (λ k. IsTaken (item r.filling) k text.0) bits_is item_here }, text.2)
+found_says Tree a ctx before after n packet r fits item_is bits_is text =
+    (text.0, record { fits = fits; listed = text.1 ∙ ap (λ k. tree_text a (codes "packet") n k r.filling) bits_is }, text.2)
 
-pub packet_refused : (a : Accepting) (old : Entries) (before after : List ℕ) (n : ℕ) (packet : List Bool) (from : Place) (e : UnpackFault) → from ≡ record { used = []; left = packet } → reading.Blames e a old from.left → IsRefusedPacket a e n before after
-    → IsPacketStep a old old before after n packet true
-packet_refused a old before after n packet from e start blames is =
+pub read_step : (shape : Shape) (a : Accepting) (old new : Entries) (before after : List ℕ) (n : ℕ) (packet : List Bool) (from to : Place) (r : Read) → from ≡ record { used = []; left = packet } → reading.IsRead a old from to r
+    → IsFoundText shape a (codes "packet") n r.bits r.item r.filling before after → new ≡ overridden old (map (λ e. (string_bytes e.0, e.1)) r.entries.items) → IsPacketStep shape a old new before after n packet false
+read_step shape a old new before after n packet from to r start is text reached =
+    let fits : reading.Fronts a old packet r.filling = record { fits = is.fits; rest = to.left; front = sym (ap (λ (p : Place). p.left) start) ∙ is.advances.left } in
+    (r.filling, found_says shape a old before after n packet r fits is.item_is is.bits_is text, reached ∙ ap (overridden old) is.entries_are)
+
+pub packet_refused : (shape : Shape) (a : Accepting) (old : Entries) (before after : List ℕ) (n : ℕ) (packet : List Bool) (from : Place) (e : UnpackFault) → from ≡ record { used = []; left = packet } → reading.Blames e a old from.left → IsRefusedPacket a e n before after
+    → IsPacketStep shape a old old before after n packet true
+packet_refused shape a old before after n packet from e start blames is =
     (is.0, ((e, subst (reading.Blames e a old) (ap (λ (q : Place). q.left) start) blames, is.1.0), is.1.1), is.2)
 
 pub packet_faulted : (a : Accepting) (n : ℕ) (e : UnpackFault) (p : Resolved) (methods : List Method) (text line before after : List ℕ) → p ≡ a.profile → methods ≡ p.methods → IsPacketFault e methods n text → IsSound p → line ≡ text → after ≡ before ++ line ++ 10 ∷ []

@@ -23,7 +23,7 @@ use Rattle.rohcfn_input.specs.declared.status.Answer.{Answer}
 use Rattle.rohcfn_input.specs.declared.status.Status.{Status}
 use Rattle.rohcfn_input.specs.declared.status.Status.TheVariants as status
 use Rattle.rohcfn_words.specs.declared.words.Command.TheVariants as command
-use Rattle.rohcfn_words.specs.declared.words.Command.TheVariants.{Show, Check, Prove, Run}
+use Rattle.rohcfn_words.specs.declared.words.Command.TheVariants.{Show, Check, Prove, Run, Fields}
 use Rattle.rohcfn_words.specs.declared.words.Direction.{Direction}
 use Rattle.rohcfn_words.specs.declared.words.Direction.TheVariants.{Pack, Unpack}
 use Rattle.rohcfn_words.specs.declared.words.End.{End}
@@ -33,7 +33,10 @@ use Rattle.rohcfn_input.specs.Inputs.{HasLines, IsBadContext, IsBadLine, IsBits,
 use Rattle.rohcfn_input.specs.OneLine.{IsLine}
 use Rattle.rohcfn_input.specs.ItemTexts.{IsItemText}
 use Rattle.rohcfn_tool.specs.Lined.{Lined}
-use Rattle.rohcfn_report.specs.Verdicts.{format_name, method_name}
+use Rattle.rohcfn_tool.specs.declared.printing.Shape.{Shape}
+use Rattle.rohcfn_tool.specs.declared.printing.Shape.TheVariants.{Line, Tree}
+use Rattle.rohcfn_report.specs.Fields.{fields_text}
+use Rattle.rohcfn_report.specs.Verdicts.{format_words, method_name}
 use Rattle.rohcfn_report.specs.Reports.{ShownBy, CheckedOctets, ProvedOctets}
 use Rattle.rohcfn_input.specs.Refusals.{Holds}
 
@@ -53,6 +56,31 @@ pub record IsPacketLine (a : Accepting) (ctx : Entries) (packet : List Bool) (f 
   pub fits : reading.Fronts a ctx packet f
   pub taken : IsTaken (item f) (length (packed f)) text
 
+-- ---- the fields of an item or a packet
+
+-- the fields of a filling of the top, in a line each after the head line: of what it is, its number and how many bits the packet has
+abbrev pub tree_text : Accepting → List ℕ → ℕ → ℕ → Filling → List ℕ
+tree_text a what n bits f = fields_text a.profile.methods a.profile.top what n bits f
+
+-- for the item of that number: the fields of the best filling that fits in the context and has the item
+pub record IsItemTree (a : Accepting) (ctx : Entries) (n : ℕ) (it : Item) (f : Filling) (text : List ℕ) : Type 0 where
+  pub best : Best a.profile.methods a.certificate.methods a.profile.top (bits_at ctx) it f
+  pub listed : text ≡ tree_text a (codes "item") n (length (packed f)) f
+
+-- for the packet of that number: the fields of a filling that fits in the context and whose packed bits are at its front
+pub record IsPacketTree (a : Accepting) (ctx : Entries) (n : ℕ) (packet : List Bool) (f : Filling) (text : List ℕ) : Type 0 where
+  pub fits : reading.Fronts a ctx packet f
+  pub listed : text ≡ tree_text a (codes "packet") n (length (packed f)) f
+
+-- what is said of the item or the packet of a number by its filling: a line, or the fields
+abbrev pub SaysItem : Shape → Accepting → Entries → ℕ → Item → Filling → List ℕ → Type 0
+SaysItem Line a ctx n it f text = IsItemLine a ctx it f text
+SaysItem Tree a ctx n it f text = IsItemTree a ctx n it f text
+
+abbrev pub SaysPacket : Shape → Accepting → Entries → ℕ → List Bool → Filling → List ℕ → Type 0
+SaysPacket Line a ctx n packet f text = IsPacketLine a ctx packet f text
+SaysPacket Tree a ctx n packet f text = IsPacketTree a ctx n packet f text
+
 -- ---- the line of a refusal
 
 -- a refused item, by its number from 1; that a line lacks a flow is said of events alone
@@ -62,11 +90,6 @@ IsItemFault (writer.Asked name) n text = text ≡ codes "item " ++ decimal n ++ 
 IsItemFault writer.NoFormat n text = text ≡ codes "item " ++ decimal n ++ codes ": F3 NoFormat"
 IsItemFault writer.Flow n text = ⊥
 IsItemFault writer.OutOfMemory n text = ⊥
-
--- the format after a point, where there is one
-abbrev pub format_words : List Method → ℕ → Option ℕ → List ℕ
-format_words methods k None = []
-format_words methods k (Some n) = codes "." ++ format_name methods k n
 
 -- a refused packet, by its number from 1; the refusal names the method at work, and its format
 abbrev pub refused_packet : List Method → ℕ → Blamed → List ℕ
@@ -91,19 +114,19 @@ abbrev pub IsEnd : Bool → Entries → List ℕ → Type 0
 IsEnd false ctx text = text ≡ []
 IsEnd true ctx text = (rest : List ℕ) × IsContextText ctx rest × (text ≡ codes "=== context\n" ++ rest)
 
--- What is printed for inputs, counted from n, in a context. Each has a line that is that of a filling, whose entries go over the context; the first that is
+-- What is printed for inputs, counted from n, in a context. Each has a text, which is that of a filling whose entries go over the context; the first that is
 -- refused has the line of its fault, which is one line and the last.
-pub data Prints {X : Type 0} (says : Entries → X → Filling → List ℕ → Type 0) (faults : Entries → ℕ → X → List ℕ → Type 0) (shows : Bool) : Entries → ℕ → List X → Status → List ℕ → Type 0 where
+pub data Prints {X : Type 0} (says : Entries → ℕ → X → Filling → List ℕ → Type 0) (faults : Entries → ℕ → X → List ℕ → Type 0) (shows : Bool) : Entries → ℕ → List X → Status → List ℕ → Type 0 where
   done : {ctx : Entries} {n : ℕ} {text : List ℕ} → IsEnd shows ctx text → Prints says faults shows ctx n [] status.Done text
-  line : {ctx : Entries} {n : ℕ} {x : X} {xs : List X} {s : Status} (f : Filling) (text rest : List ℕ) → says ctx x f text → Prints says faults shows (next ctx f) (n + 1) xs s rest
+  line : {ctx : Entries} {n : ℕ} {x : X} {xs : List X} {s : Status} (f : Filling) (text rest : List ℕ) → says ctx n x f text → Prints says faults shows (next ctx f) (n + 1) xs s rest
       → Prints says faults shows ctx n (x ∷ xs) s (text ++ 10 ∷ rest)
   fault : {ctx : Entries} {n : ℕ} {x : X} {xs : List X} (text : List ℕ) → faults ctx n x text → IsLine text → Prints says faults shows ctx n (x ∷ xs) status.Refused (text ++ 10 ∷ [])
 
-abbrev pub PrintsItems : Accepting → Bool → Entries → ℕ → List Item → Status → List ℕ → Type 0
-PrintsItems a shows = Prints (IsItemLine a) (FaultsItem a) shows
+abbrev pub PrintsItems : Shape → Accepting → Bool → Entries → ℕ → List Item → Status → List ℕ → Type 0
+PrintsItems shape a shows = Prints (SaysItem shape a) (FaultsItem a) shows
 
-abbrev pub PrintsPackets : Accepting → Bool → Entries → ℕ → List (List Bool) → Status → List ℕ → Type 0
-PrintsPackets a shows = Prints (IsPacketLine a) (FaultsPacket a) shows
+abbrev pub PrintsPackets : Shape → Accepting → Bool → Entries → ℕ → List (List Bool) → Status → List ℕ → Type 0
+PrintsPackets shape a shows = Prints (SaysPacket shape a) (FaultsPacket a) shows
 
 -- ---- by an accepted profile
 
@@ -128,40 +151,40 @@ IsBadInput Pack octets n = IsBadLine IsItem octets n
 IsBadInput Unpack octets n = IsBadLine IsBits octets n
 
 -- the octets are those of items or packets, for which this is printed
-abbrev pub PrintsInput : Direction → Bool → Accepting → Entries → List ℕ → Status → List ℕ → Type 0
-PrintsInput Pack shows a ctx octets s output = (items : List Item) × HasLines IsItem octets items × PrintsItems a shows ctx 1 items s output
-PrintsInput Unpack shows a ctx octets s output = (packets : List (List Bool)) × HasLines IsBits octets packets × PrintsPackets a shows ctx 1 packets s output
+abbrev pub PrintsInput : Direction → Shape → Bool → Accepting → Entries → List ℕ → Status → List ℕ → Type 0
+PrintsInput Pack shape shows a ctx octets s output = (items : List Item) × HasLines IsItem octets items × PrintsItems shape a shows ctx 1 items s output
+PrintsInput Unpack shape shows a ctx octets s output = (packets : List (List Bool)) × HasLines IsBits octets packets × PrintsPackets shape a shows ctx 1 packets s output
 
 -- What is answered in a direction, from a context on.
-pub data AnsweredIn (direction : Direction) (shows : Bool) (a : Accepting) (ctx : Entries) (input : List ℕ) : Status → List ℕ → Type 0 where
+pub data AnsweredIn (direction : Direction) (shape : Shape) (shows : Bool) (a : Accepting) (ctx : Entries) (input : List ℕ) : Status → List ℕ → Type 0 where
   -- a line can't be read
-  bad_line : (n : ℕ) → IsBadInput direction input n → AnsweredIn direction shows a ctx input status.Refused (bad_line_text direction n ++ 10 ∷ [])
+  bad_line : (n : ℕ) → IsBadInput direction input n → AnsweredIn direction shape shows a ctx input status.Refused (bad_line_text direction n ++ 10 ∷ [])
   -- a line for each item or packet
-  answered : {s : Status} {output : List ℕ} → PrintsInput direction shows a ctx input s output → AnsweredIn direction shows a ctx input s output
+  answered : {s : Status} {output : List ℕ} → PrintsInput direction shape shows a ctx input s output → AnsweredIn direction shape shows a ctx input s output
 
 abbrev pub context_line : ℕ → List ℕ
 context_line n = codes "context:" ++ decimal n ++ codes ": C1 bad line"
 
 -- What is answered in a direction, by the part of the context and the octets of items or packets.
-pub data AnsweredFor (direction : Direction) (shows : Bool) (a : Accepting) (context : Option (Bor (List ℕ))) (input : List ℕ) : Status → List ℕ → Type 0 where
+pub data AnsweredFor (direction : Direction) (shape : Shape) (shows : Bool) (a : Accepting) (context : Option (Bor (List ℕ))) (input : List ℕ) : Status → List ℕ → Type 0 where
   -- a line of the context can't be read
-  bad_context : (octets : Bor (List ℕ)) (n : ℕ) → context ≡ Some octets → IsBadContext octets.now n → AnsweredFor direction shows a context input status.Refused (context_line n ++ 10 ∷ [])
+  bad_context : (octets : Bor (List ℕ)) (n : ℕ) → context ≡ Some octets → IsBadContext octets.now n → AnsweredFor direction shape shows a context input status.Refused (context_line n ++ 10 ∷ [])
   -- from the context on
-  from_context : {s : Status} {output : List ℕ} (ctx : Entries) → StartsAt context ctx → AnsweredIn direction shows a ctx input s output → AnsweredFor direction shows a context input s output
+  from_context : {s : Status} {output : List ℕ} (ctx : Entries) → StartsAt context ctx → AnsweredIn direction shape shows a ctx input s output → AnsweredFor direction shape shows a context input s output
 
 -- ---- by the octets of a profile
 
 -- What is answered in a direction, by the octets of a profile, of its certificate and of a context, if there are such, and of items or packets.
-pub data AnsweredBy (direction : Direction) (order : Order) (profile : List ℕ) (parts : Parts) (input : List ℕ) : Status → List ℕ → Type 0 where
+pub data AnsweredBy (direction : Direction) (shape : Shape) (order : Order) (profile : List ℕ) (parts : Parts) (input : List ℕ) : Status → List ℕ → Type 0 where
   -- something is wrong with the profile or its certificate
-  unaccepted : (text : List ℕ) → RefusesProfile order.top.now profile (origin_of order.version parts.certificate) text → AnsweredBy direction order profile parts input status.Refused (text ++ 10 ∷ [])
+  unaccepted : (text : List ℕ) → RefusesProfile order.top.now profile (origin_of order.version parts.certificate) text → AnsweredBy direction shape order profile parts input status.Refused (text ++ 10 ∷ [])
   -- by the profile that the octets stand for, with a certificate that is valid for it
-  by_profile : {s : Status} {output : List ℕ} (a : Accepting) → AcceptsProfile order.top.now profile (origin_of order.version parts.certificate) a → AnsweredFor direction order.shows_context a parts.context input s output → AnsweredBy direction order profile parts input s output
+  by_profile : {s : Status} {output : List ℕ} (a : Accepting) → AcceptsProfile order.top.now profile (origin_of order.version parts.certificate) a → AnsweredFor direction shape order.shows_context a parts.context input s output → AnsweredBy direction shape order profile parts input s output
 
 -- What is answered in a direction, by the octets of a profile and the parts.
-pub data AnsweredRun (direction : Direction) (order : Order) (profile : List ℕ) (parts : Parts) : Status → List ℕ → Type 0 where
-  no_input : input_of direction parts ≡ None → AnsweredRun direction order profile parts status.Refused ((codes "bundle: I4 bad part " ++ input_name direction) ++ 10 ∷ [])
-  both : {s : Status} {output : List ℕ} (input : Bor (List ℕ)) → input_of direction parts ≡ Some input → AnsweredBy direction order profile parts input.now s output → AnsweredRun direction order profile parts s output
+pub data AnsweredRun (direction : Direction) (shape : Shape) (order : Order) (profile : List ℕ) (parts : Parts) : Status → List ℕ → Type 0 where
+  no_input : input_of direction parts ≡ None → AnsweredRun direction shape order profile parts status.Refused ((codes "bundle: I4 bad part " ++ input_name direction) ++ 10 ∷ [])
+  both : {s : Status} {output : List ℕ} (input : Bor (List ℕ)) → input_of direction parts ≡ Some input → AnsweredBy direction shape order profile parts input.now s output → AnsweredRun direction shape order profile parts s output
 
 -- What is answered to an order with these parts.
 pub data Answered (order : Order) (parts : Parts) : Status → List ℕ → Type 0 where
@@ -173,7 +196,9 @@ pub data Answered (order : Order) (parts : Parts) : Status → List ℕ → Type
   proved : {s : Status} {output : List ℕ} (profile : Bor (List ℕ)) → parts.profile ≡ Some profile → order.command ≡ Prove
       → ProvedOctets order.version order.top.now profile.now s output → Answered order parts s output
   ran : {s : Status} {output : List ℕ} (profile : Bor (List ℕ)) (direction : Direction) → parts.profile ≡ Some profile → order.command ≡ Run direction
-      → AnsweredRun direction order profile.now parts s output → Answered order parts s output
+      → AnsweredRun direction Line order profile.now parts s output → Answered order parts s output
+  told : {s : Status} {output : List ℕ} (profile : Bor (List ℕ)) (direction : Direction) → parts.profile ≡ Some profile → order.command ≡ Fields direction
+      → AnsweredRun direction Tree order profile.now parts s output → Answered order parts s output
   lined : {s : Status} {output : List ℕ} (profile : Bor (List ℕ)) (end : End) → parts.profile ≡ Some profile → order.command ≡ command.Line end
       → Lined end order profile.now parts s output → Answered order parts s output
 
@@ -182,17 +207,17 @@ pub data Answered (order : Order) (parts : Parts) : Status → List ℕ → Type
 abbrev pub Answers : Order → Parts → Answer → Type 0
 Answers order parts = Holds (Answered order parts)
 
-abbrev pub AnswersRun : Direction → Order → List ℕ → Parts → Answer → Type 0
-AnswersRun direction order profile parts = Holds (AnsweredRun direction order profile parts)
+abbrev pub AnswersRun : Direction → Shape → Order → List ℕ → Parts → Answer → Type 0
+AnswersRun direction shape order profile parts = Holds (AnsweredRun direction shape order profile parts)
 
-abbrev pub AnswersBy : Direction → Order → List ℕ → Parts → List ℕ → Answer → Type 0
-AnswersBy direction order profile parts input = Holds (AnsweredBy direction order profile parts input)
+abbrev pub AnswersBy : Direction → Shape → Order → List ℕ → Parts → List ℕ → Answer → Type 0
+AnswersBy direction shape order profile parts input = Holds (AnsweredBy direction shape order profile parts input)
 
-abbrev pub AnswersFor : Direction → Bool → Accepting → Option (Bor (List ℕ)) → List ℕ → Answer → Type 0
-AnswersFor direction shows a context input = Holds (AnsweredFor direction shows a context input)
+abbrev pub AnswersFor : Direction → Shape → Bool → Accepting → Option (Bor (List ℕ)) → List ℕ → Answer → Type 0
+AnswersFor direction shape shows a context input = Holds (AnsweredFor direction shape shows a context input)
 
-abbrev pub AnswersIn : Direction → Bool → Accepting → Entries → List ℕ → Answer → Type 0
-AnswersIn direction shows a ctx input = Holds (AnsweredIn direction shows a ctx input)
+abbrev pub AnswersIn : Direction → Shape → Bool → Accepting → Entries → List ℕ → Answer → Type 0
+AnswersIn direction shape shows a ctx input = Holds (AnsweredIn direction shape shows a ctx input)
 
 -- these lines, and what follows the last
 pub record IsFinished (shows : Bool) (ctx : Entries) (lines : List ℕ) (a : Answer) : Type 0 where
@@ -220,13 +245,26 @@ IsBitsLine bits = HasLine (λ text. IsText text bits)
 abbrev pub IsReadLine : Item → ℕ → List ℕ → List ℕ → Type 0
 IsReadLine it count = HasLine (IsTaken it count)
 
--- The output goes on by a line for an input, after which the context is the next; or, where it was refused, by the one line of its refusal.
-abbrev pub IsStep : {X : Type 0} → (Entries → X → Filling → List ℕ → Type 0) → (Entries → ℕ → X → List ℕ → Type 0) → Entries → Entries → List ℕ → List ℕ → ℕ → X → Bool → Type 0
-IsStep says faults old new before after n x false = (f : Filling) × HasLine (says old x f) before after × (new ≡ next old f)
+-- the fields of a filling
+abbrev pub IsTreeText : Accepting → List ℕ → ℕ → ℕ → Filling → List ℕ → List ℕ → Type 0
+IsTreeText a what n bits f = HasLine (λ text. text ≡ tree_text a what n bits f)
+
+-- what is printed of a filling that was written, and of one that was read
+abbrev pub IsWrittenText : Shape → Accepting → ℕ → List Bool → Filling → List ℕ → List ℕ → Type 0
+IsWrittenText Line a n bits f = IsBitsLine bits
+IsWrittenText Tree a n bits f = IsTreeText a (codes "item") n (length bits) f
+
+abbrev pub IsFoundText : Shape → Accepting → List ℕ → ℕ → ℕ → Item → Filling → List ℕ → List ℕ → Type 0
+IsFoundText Line a what n bits it f = IsReadLine it bits
+IsFoundText Tree a what n bits it f = IsTreeText a what n bits f
+
+-- The output goes on by what is said of an input, after which the context is the next; or, where it was refused, by the one line of its refusal.
+abbrev pub IsStep : {X : Type 0} → (Entries → ℕ → X → Filling → List ℕ → Type 0) → (Entries → ℕ → X → List ℕ → Type 0) → Entries → Entries → List ℕ → List ℕ → ℕ → X → Bool → Type 0
+IsStep says faults old new before after n x false = (f : Filling) × HasLine (says old n x f) before after × (new ≡ next old f)
 IsStep says faults old new before after n x true = HasLine (λ text. faults old n x text × IsLine text) before after
 
-abbrev pub IsItemStep : Accepting → Entries → Entries → List ℕ → List ℕ → ℕ → Item → Bool → Type 0
-IsItemStep a old new before after n it = IsStep (IsItemLine a) (FaultsItem a) old new before after n it
+abbrev pub IsItemStep : Shape → Accepting → Entries → Entries → List ℕ → List ℕ → ℕ → Item → Bool → Type 0
+IsItemStep shape a old new before after n it = IsStep (SaysItem shape a) (FaultsItem a) old new before after n it
 
-abbrev pub IsPacketStep : Accepting → Entries → Entries → List ℕ → List ℕ → ℕ → List Bool → Bool → Type 0
-IsPacketStep a old new before after n packet = IsStep (IsPacketLine a) (FaultsPacket a) old new before after n packet
+abbrev pub IsPacketStep : Shape → Accepting → Entries → Entries → List ℕ → List ℕ → ℕ → List Bool → Bool → Type 0
+IsPacketStep shape a old new before after n packet = IsStep (SaysPacket shape a) (FaultsPacket a) old new before after n packet

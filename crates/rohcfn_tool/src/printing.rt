@@ -1,4 +1,4 @@
-//! The lines for items and packets.
+//! The lines and the fields for items and packets.
 
 ghost use Rattle.std.specs.Prelude.{◌≡◌, ◌≢◌, ◌∷◌, ◌++◌, [], true, IfOk, OnOk, codes, decimal, string_bytes};
 ghost use Rattle.rohcfn_input.specs.OneLine.{IsLine};
@@ -8,29 +8,48 @@ use fn_bits::{Bits, Cursor};
 use fn_checker::Accepted;
 use fn_context::Context;
 use fn_engine::{PackFault, Read, UnpackFault, Written, pack, unpack};
-use fn_filling::Item;
+use fn_filling::{Filling, Item};
 use fn_normal::Method;
 use fn_reader::Blamed;
 use itoa::Buffer;
 use rohcfn_input::spelling::{push_bits, push_item_text, push_line};
 use rohcfn_input::status::{Answer, Status};
+use rohcfn_report::fields::{Head, fields_text};
 use rohcfn_report::verdicts::{format_name, method_name};
 use std::alloc::{AllocError, Global};
 
-/// A line of packed bits for each item, up to the first that is refused, and after the last the context that is reached, where it is wanted.
+/// What is printed for an item or a packet.
+#[derive(Clone, Copy)]
+pub enum Shape {
+    /// The packed bits, or the item, in a line.
+    Line,
+    /// The fields of the filling, in a line each.
+    Tree,
+}
+
+/// A line of packed bits or the fields for each item, up to the first that is refused, and after the last the context that is reached, where it is wanted.
 pub(crate) fn pack_all(
     alloc: Global,
+    shape: Shape,
     shows: bool,
     accepted: &Accepted,
     start: Context,
     items: &[Item],
 ) -> Result<Answer, AllocError>
-    ensures { IfOk result (λ a. spec.PrintsItems accepted.now shows start 1 items.now a.status (string_bytes a.output)) }
+    ensures { IfOk result (λ a. spec.PrintsItems shape accepted.now shows start 1 items.now a.status (string_bytes a.output)) }
 {
     let mut context = start;
     let mut output = String::new(alloc);
     for (i, item) in items.iter().enumerate() {
-        let refused = pack_one(alloc, accepted, &mut context, &mut output, i + 1, item)?;
+        let refused = pack_one(
+            alloc,
+            shape,
+            accepted,
+            &mut context,
+            &mut output,
+            i + 1,
+            item,
+        )?;
         if refused {
             return Ok(Answer {
                 status: Status::Refused,
@@ -41,20 +60,29 @@ pub(crate) fn pack_all(
     finish(alloc, shows, output, &context)
 }
 
-/// A line for each packet, its item and how many bits it took, likewise.
+/// A line for each packet, its item and how many bits it took, or its fields, likewise.
 pub(crate) fn unpack_all(
     alloc: Global,
+    shape: Shape,
     shows: bool,
     accepted: &Accepted,
     start: Context,
     packets: &[Bits],
 ) -> Result<Answer, AllocError>
-    ensures { IfOk result (λ a. spec.PrintsPackets accepted.now shows start 1 packets.now a.status (string_bytes a.output)) }
+    ensures { IfOk result (λ a. spec.PrintsPackets shape accepted.now shows start 1 packets.now a.status (string_bytes a.output)) }
 {
     let mut context = start;
     let mut output = String::new(alloc);
     for (i, packet) in packets.iter().enumerate() {
-        let refused = unpack_one(alloc, accepted, &mut context, &mut output, i + 1, packet)?;
+        let refused = unpack_one(
+            alloc,
+            shape,
+            accepted,
+            &mut context,
+            &mut output,
+            i + 1,
+            packet,
+        )?;
         if refused {
             return Ok(Answer {
                 status: Status::Refused,
@@ -100,26 +128,27 @@ fn with_context(alloc: Global, output: String, context: &Context) -> Result<Answ
 
 // ---- items
 
-/// Adds the line of an item, whose number counts from 1. The context goes on to the next. Whether it was refused.
+/// Adds the line or the fields of an item, whose number counts from 1. The context goes on to the next. Whether it was refused.
 fn pack_one(
     alloc: Global,
+    shape: Shape,
     accepted: &Accepted,
     context: &mut Context,
     output: &mut String,
     number: usize,
     item: &Item,
 ) -> Result<bool, AllocError>
-    ensures { IfOk result (spec.IsItemStep accepted.now context.old context.new (string_bytes output.old) (string_bytes output.new) number item.now) }
+    ensures { IfOk result (spec.IsItemStep shape accepted.now context.old context.new (string_bytes output.old) (string_bytes output.new) number item.now) }
 {
     match pack(alloc, accepted, context, item) {
         Ok(
             Written {
                 packed,
-                filling: _,
+                filling,
                 entries,
             },
         ) => {
-            push_packed(alloc, output, &packed)?;
+            push_written(alloc, shape, accepted, output, number, &packed, &filling)?;
             context.replace(entries)?;
             Ok(false)
         }
@@ -128,6 +157,44 @@ fn pack_one(
             Ok(true)
         }
     }
+}
+
+/// Adds the line of packed bits, or the fields of their filling.
+fn push_written(
+    alloc: Global,
+    shape: Shape,
+    accepted: &Accepted,
+    output: &mut String,
+    number: usize,
+    packed: &Bits,
+    filling: &Filling,
+) -> Result<(), AllocError>
+    ensures { OnOk result (spec.IsWrittenText shape accepted.now number packed.now filling.now (string_bytes output.old) (string_bytes output.new)) }
+{
+    match shape {
+        Shape::Line => push_packed(alloc, output, packed),
+        Shape::Tree => {
+            let what = "item";
+            let bits = packed.len();
+            let head = Head { what, number, bits };
+            push_fields(alloc, accepted, output, head, filling)
+        }
+    }
+}
+
+/// Adds the fields of a filling of the top.
+fn push_fields(
+    alloc: Global,
+    accepted: &Accepted,
+    output: &mut String,
+    head: Head<'_>,
+    filling: &Filling,
+) -> Result<(), AllocError>
+    ensures { OnOk result (spec.IsTreeText accepted.now head.entry.what.now head.entry.number head.entry.bits filling.now (string_bytes output.old) (string_bytes output.new)) }
+{
+    let profile = accepted.profile();
+    let text = fields_text(alloc, profile.methods(), profile.top(), head, filling)?;
+    push_line(output, text.as_str())
 }
 
 /// Adds a line of bits.
@@ -186,28 +253,31 @@ fn asked_line(alloc: Global, number: usize, name: &str) -> Result<String, AllocE
 
 // ---- packets
 
-/// Adds the line of a packet, whose number counts from 1. The context goes on to the next. Whether it was refused.
+/// Adds the line or the fields of a packet, whose number counts from 1. The context goes on to the next. Whether it was refused.
 fn unpack_one(
     alloc: Global,
+    shape: Shape,
     accepted: &Accepted,
     context: &mut Context,
     output: &mut String,
     number: usize,
     packet: &Bits,
 ) -> Result<bool, AllocError>
-    ensures { IfOk result (spec.IsPacketStep accepted.now context.old context.new (string_bytes output.old) (string_bytes output.new) number packet.now) }
+    ensures { IfOk result (spec.IsPacketStep shape accepted.now context.old context.new (string_bytes output.old) (string_bytes output.new) number packet.now) }
 {
     let mut cursor = Cursor::new(packet);
     match unpack(alloc, accepted, context, &mut cursor) {
         Ok(
             Read {
                 item,
-                filling: _,
+                filling,
                 bits,
                 entries,
             },
         ) => {
-            push_read(alloc, output, &item, bits)?;
+            let what = "packet";
+            let head = Head { what, number, bits };
+            push_found(alloc, shape, accepted, output, head, &item, &filling)?;
             context.replace(entries)?;
             Ok(false)
         }
@@ -234,6 +304,24 @@ fn refuse_packet(
     let line = packet_fault(alloc, profile.methods(), number, fault)?;
     push_line(output, line.as_str())?;
     Ok(())
+}
+
+/// Adds the line of an item that was read, or the fields of its filling.
+fn push_found(
+    alloc: Global,
+    shape: Shape,
+    accepted: &Accepted,
+    output: &mut String,
+    head: Head<'_>,
+    item: &Item,
+    filling: &Filling,
+) -> Result<(), AllocError>
+    ensures { OnOk result (spec.IsFoundText shape accepted.now head.entry.what.now head.entry.number head.entry.bits item.now filling.now (string_bytes output.old) (string_bytes output.new)) }
+{
+    match shape {
+        Shape::Line => push_read(alloc, output, item, head.bits),
+        Shape::Tree => push_fields(alloc, accepted, output, head, filling),
+    }
 }
 
 /// Adds a line of an item, and how many bits its packet took.

@@ -5,7 +5,7 @@ ghost use Rattle.rohcfn_tool.specs.FaultLaws.{AreOneLine};
 ghost use Rattle.rohcfn_tool.specs.Printed as spec;
 
 use crate::lined::answer_line;
-use crate::printing::{pack_all, unpack_all};
+use crate::printing::{Shape, pack_all, unpack_all};
 use fn_checker::Accepted;
 use fn_context::Context;
 use rohcfn_input::bundle::Parts;
@@ -19,8 +19,8 @@ use rohcfn_report::showing::answer_listing;
 use rohcfn_words::words::{Command, Direction, Order};
 use std::alloc::{AllocError, Global};
 
-/// What is printed for an order: the listing of a profile, the verdict on a certificate, a certificate, a line for each item or packet up to the first refusal, the
-/// octets and items of a line of flows, or the one line of another fault.
+/// What is printed for an order: the listing of a profile, the verdict on a certificate, a certificate, a line or the fields for each item or packet up to the first
+/// refusal, the octets and items of a line of flows, or the one line of another fault.
 ///
 /// The order of faults: the missing part `profile`, another missing part, the profile, its certificate, a line of the context, a line of the items, packets or events
 /// or octets that are no hex, and then each item, packet or event.
@@ -37,7 +37,12 @@ pub fn answer(alloc: Global, order: &Order<'_>, parts: &Parts<'_>) -> Result<Ans
             answer_check(alloc, order.top, profile, origin)
         }
         Command::Prove => answer_prove(alloc, order.version, order.top, profile),
-        Command::Run(direction) => answer_run(alloc, direction, order, profile, parts),
+        Command::Run(direction) => {
+            answer_run(alloc, direction, Shape::Line, order, profile, parts)
+        }
+        Command::Fields(direction) => {
+            answer_run(alloc, direction, Shape::Tree, order, profile, parts)
+        }
         Command::Line(end) => answer_line(alloc, end, order, profile, parts),
     }
 }
@@ -46,19 +51,28 @@ pub fn answer(alloc: Global, order: &Order<'_>, parts: &Parts<'_>) -> Result<Ans
 fn answer_run(
     alloc: Global,
     direction: Direction,
+    shape: Shape,
     order: &Order<'_>,
     profile: &[u8],
     parts: &Parts<'_>,
 ) -> Result<Answer, AllocError>
-    ensures { IfOk result (spec.AnswersRun direction order.now profile.now parts.now) }
+    ensures { IfOk result (spec.AnswersRun direction shape order.now profile.now parts.now) }
 {
     match direction {
         Direction::Pack => match parts.items {
-            Some(items) => answer_by(alloc, Direction::Pack, order, profile, parts, items),
+            Some(items) => answer_by(alloc, Direction::Pack, shape, order, profile, parts, items),
             None => refusal(alloc, "bundle: I4 bad part items"),
         },
         Direction::Unpack => match parts.packets {
-            Some(packets) => answer_by(alloc, Direction::Unpack, order, profile, parts, packets),
+            Some(packets) => answer_by(
+                alloc,
+                Direction::Unpack,
+                shape,
+                order,
+                profile,
+                parts,
+                packets,
+            ),
             None => refusal(alloc, "bundle: I4 bad part packets"),
         },
     }
@@ -68,17 +82,18 @@ fn answer_run(
 fn answer_by(
     alloc: Global,
     direction: Direction,
+    shape: Shape,
     order: &Order<'_>,
     profile: &[u8],
     parts: &Parts<'_>,
     input: &[u8],
 ) -> Result<Answer, AllocError>
-    ensures { IfOk result (spec.AnswersBy direction order.now profile.now parts.now input.now) }
+    ensures { IfOk result (spec.AnswersBy direction shape order.now profile.now parts.now input.now) }
 {
     match accept(alloc, order.top, profile, Origin::of(order.version, parts))? {
         Judged::Accepted(accepted) => {
             let shows = order.shows_context;
-            answer_for(alloc, direction, shows, &accepted, parts, input)
+            answer_for(alloc, direction, shape, shows, &accepted, parts, input)
         }
         Judged::Refused(line) => refusal(alloc, line.as_str()),
     }
@@ -88,15 +103,16 @@ fn answer_by(
 fn answer_for(
     alloc: Global,
     direction: Direction,
+    shape: Shape,
     shows: bool,
     accepted: &Accepted,
     parts: &Parts<'_>,
     input: &[u8],
 ) -> Result<Answer, AllocError>
-    ensures { IfOk result (spec.AnswersFor direction shows accepted.now parts.now.context input.now) }
+    ensures { IfOk result (spec.AnswersFor direction shape shows accepted.now parts.now.context input.now) }
 {
     match read_context(alloc, parts) {
-        Ok(context) => answer_lines(alloc, direction, shows, accepted, context, input),
+        Ok(context) => answer_lines(alloc, direction, shape, shows, accepted, context, input),
         Err(BadLine::Number(number)) => {
             let line = context_line(alloc, number)?;
             refusal(alloc, line.as_str())
@@ -109,31 +125,33 @@ fn answer_for(
 fn answer_lines(
     alloc: Global,
     direction: Direction,
+    shape: Shape,
     shows: bool,
     accepted: &Accepted,
     context: Context,
     input: &[u8],
 ) -> Result<Answer, AllocError>
-    ensures { IfOk result (spec.AnswersIn direction shows accepted.now context input.now) }
+    ensures { IfOk result (spec.AnswersIn direction shape shows accepted.now context input.now) }
 {
     match direction {
-        Direction::Pack => answer_items(alloc, shows, accepted, context, input),
-        Direction::Unpack => answer_packets(alloc, shows, accepted, context, input),
+        Direction::Pack => answer_items(alloc, shape, shows, accepted, context, input),
+        Direction::Unpack => answer_packets(alloc, shape, shows, accepted, context, input),
     }
 }
 
 /// The answer to the octets of items.
 fn answer_items(
     alloc: Global,
+    shape: Shape,
     shows: bool,
     accepted: &Accepted,
     context: Context,
     input: &[u8],
 ) -> Result<Answer, AllocError>
-    ensures { IfOk result (spec.AnswersIn Direction.Pack shows accepted.now context input.now) }
+    ensures { IfOk result (spec.AnswersIn Direction.Pack shape shows accepted.now context input.now) }
 {
     match read_items(alloc, input) {
-        Ok(items) => pack_all(alloc, shows, accepted, context, items.as_slice()),
+        Ok(items) => pack_all(alloc, shape, shows, accepted, context, items.as_slice()),
         Err(BadLine::Number(number)) => {
             let line = bad_line(alloc, Direction::Pack, number)?;
             refusal(alloc, line.as_str())
@@ -145,15 +163,16 @@ fn answer_items(
 /// The answer to the octets of packets.
 fn answer_packets(
     alloc: Global,
+    shape: Shape,
     shows: bool,
     accepted: &Accepted,
     context: Context,
     input: &[u8],
 ) -> Result<Answer, AllocError>
-    ensures { IfOk result (spec.AnswersIn Direction.Unpack shows accepted.now context input.now) }
+    ensures { IfOk result (spec.AnswersIn Direction.Unpack shape shows accepted.now context input.now) }
 {
     match read_packets(alloc, input) {
-        Ok(packets) => unpack_all(alloc, shows, accepted, context, packets.as_slice()),
+        Ok(packets) => unpack_all(alloc, shape, shows, accepted, context, packets.as_slice()),
         Err(BadLine::Number(number)) => {
             let line = bad_line(alloc, Direction::Unpack, number)?;
             refusal(alloc, line.as_str())

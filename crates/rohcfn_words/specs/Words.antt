@@ -9,7 +9,8 @@ use Rattle.clap.specs.declared.error.kind.ErrorKind.TheVariants.{DisplayHelp, Ou
 use Rattle.fn_cert.specs.declared.certificate.Version.{Version}
 use Rattle.fn_cert.specs.declared.certificate.Version.TheVariants.{One, Two}
 use Rattle.rohcfn_words.specs.declared.words.Command.{Command}
-use Rattle.rohcfn_words.specs.declared.words.Command.TheVariants.{Show, Check, Prove, Run, Line}
+use Rattle.rohcfn_words.specs.declared.words.Command.TheVariants.{Show, Check, Prove, Run, Fields, Line}
+use Rattle.rohcfn_words.specs.declared.words.Direction.{Direction}
 use Rattle.rohcfn_words.specs.declared.words.Direction.TheVariants.{Pack, Unpack}
 use Rattle.rohcfn_words.specs.declared.words.End.{End}
 use Rattle.rohcfn_words.specs.declared.words.End.TheVariants.{Sending, Receiving}
@@ -32,7 +33,13 @@ context_flag = record (new_rule (codes "context")) {
   action = Some SetTrue;
 }
 
--- `--v2`, `--receive` and `--wide`, likewise
+-- `--items`, `--v2`, `--receive` and `--wide`, likewise
+abbrev pub items_flag : Rule
+items_flag = record (new_rule (codes "items")) {
+  long = Some (codes "items");
+  action = Some SetTrue;
+}
+
 abbrev pub version_flag : Rule
 version_flag = record (new_rule (codes "v2")) {
   long = Some (codes "v2");
@@ -62,6 +69,9 @@ with_version name = with_rule (with_top name) version_flag
 abbrev pub with_flags : List ℕ → App
 with_flags name = with_rule (with_version name) context_flag
 
+abbrev pub with_items : List ℕ → App
+with_items name = with_rule (with_flags name) items_flag
+
 abbrev pub with_receive : List ℕ → App
 with_receive name = with_rule (with_version name) receive_flag
 
@@ -75,8 +85,8 @@ bare_program = on_top (λ top. record top { no_binary_name = true; subcommand_re
 
 -- with its commands
 unfoldable pub program : App
-program = with_subcommand (with_subcommand (with_subcommand (with_subcommand (with_subcommand (with_subcommand bare_program (with_flags (codes "pack")).top)
-    (with_flags (codes "unpack")).top) (with_top (codes "show")).top) (with_version (codes "check")).top) (with_version (codes "prove")).top) (with_wide (codes "line")).top
+program = with_subcommand (with_subcommand (with_subcommand (with_subcommand (with_subcommand (with_subcommand (with_subcommand bare_program (with_flags (codes "pack")).top)
+    (with_flags (codes "unpack")).top) (with_items (codes "fields")).top) (with_top (codes "show")).top) (with_version (codes "check")).top) (with_version (codes "prove")).top) (with_wide (codes "line")).top
 
 -- a command, the name of a method, whether the last context is printed, the version of a certificate that is made, and whether the line is the wide one
 pub record Asked : Type 0 where
@@ -93,14 +103,19 @@ asked order = record { command = order.command; top = order.top.now; shows_conte
 abbrev pub end_at : Bool → End
 end_at receives = if receives then Receiving else Sending
 
--- a command by its name, and by whether the receiving end is asked for
-abbrev pub command_named : List ℕ → Bool → Option Command
-command_named name receives = if bytes_eq name (codes "pack") then Some (Run Pack)
+-- the direction of `fields`: of items, where these are asked for, else of packets
+abbrev pub direction_at : Bool → Direction
+direction_at packs = if packs then Pack else Unpack
+
+-- a command by its name, and by whether the receiving end and items are asked for
+abbrev pub command_named : List ℕ → Bool → Bool → Option Command
+command_named name receives packs = if bytes_eq name (codes "pack") then Some (Run Pack)
     else (if bytes_eq name (codes "unpack") then Some (Run Unpack)
+    else (if bytes_eq name (codes "fields") then Some (Fields (direction_at packs))
     else (if bytes_eq name (codes "show") then Some Show
     else (if bytes_eq name (codes "check") then Some Check
     else (if bytes_eq name (codes "prove") then Some Prove
-    else (if bytes_eq name (codes "line") then Some (Line (end_at receives)) else None)))))
+    else (if bytes_eq name (codes "line") then Some (Line (end_at receives)) else None))))))
 
 -- the flag was given
 abbrev pub is_set : Option (List ℕ) → Bool
@@ -119,7 +134,7 @@ asked_by (Some command) (Some top) context second wide = Some (record { command 
 -- a command's name, and the values of its flags
 abbrev pub asked_in : Option (List ℕ × List Row) → Option Asked
 asked_in None = None
-asked_in (Some met) = asked_by (command_named met.0 (is_set (first_of (codes "receive") met.1))) (first_of (codes "top") met.1) (is_set (first_of (codes "context") met.1)) (is_set (first_of (codes "v2") met.1)) (is_set (first_of (codes "wide") met.1))
+asked_in (Some met) = asked_by (command_named met.0 (is_set (first_of (codes "receive") met.1)) (is_set (first_of (codes "items") met.1))) (first_of (codes "top") met.1) (is_set (first_of (codes "context") met.1)) (is_set (first_of (codes "v2") met.1)) (is_set (first_of (codes "wide") met.1))
 
 -- words with a fault ask for nothing
 abbrev pub asked_unless : Kinds → Option (List ℕ × List Row) → Option Asked
@@ -167,6 +182,9 @@ pub record ReadsWords : Type 0 where
   pub line_receive : asked_of (codes "line" ∷ codes "--top" ∷ codes "plain" ∷ codes "--receive" ∷ []) ≡ Some (record { command = Line Receiving; top = codes "plain"; shows_context = false; version = One; is_wide = false })
   pub line_wide : asked_of (codes "line" ∷ codes "--top" ∷ codes "plain" ∷ codes "--wide" ∷ []) ≡ Some (record { command = Line Sending; top = codes "plain"; shows_context = false; version = One; is_wide = true })
   pub line_wide_receive : asked_of (codes "line" ∷ codes "--wide" ∷ codes "--receive" ∷ codes "--top" ∷ codes "plain" ∷ []) ≡ Some (record { command = Line Receiving; top = codes "plain"; shows_context = false; version = One; is_wide = true })
+  pub fields : asked_of (codes "fields" ∷ codes "--top" ∷ codes "plain" ∷ []) ≡ Some (record { command = Fields Unpack; top = codes "plain"; shows_context = false; version = One; is_wide = false })
+  pub fields_items : asked_of (codes "fields" ∷ codes "--top" ∷ codes "plain" ∷ codes "--items" ∷ codes "--context" ∷ []) ≡ Some (record { command = Fields Pack; top = codes "plain"; shows_context = true; version = One; is_wide = false })
+  pub pack_items : asked_of (codes "pack" ∷ codes "--top" ∷ codes "plain" ∷ codes "--items" ∷ []) ≡ None
   pub pack_wide : asked_of (codes "pack" ∷ codes "--top" ∷ codes "plain" ∷ codes "--wide" ∷ []) ≡ None
   pub pack_receive : asked_of (codes "pack" ∷ codes "--top" ∷ codes "plain" ∷ codes "--receive" ∷ []) ≡ None
   pub line_context : asked_of (codes "line" ∷ codes "--top" ∷ codes "plain" ∷ codes "--context" ∷ []) ≡ None

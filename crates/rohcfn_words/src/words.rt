@@ -2,7 +2,7 @@
 ghost use Rattle.std.specs.Prelude.{◌≡◌, ◌↔◌, None, Some, false, map, IfOk, IfErr, option_map};
 ghost use Rattle.clap.specs.Words.{app_of, kind_of, subcommand_rows_of};
 ghost use Rattle.clap.specs.declared.builder.command.Command.TheViews.{out-Command as fields_of};
-ghost use Rattle.rohcfn_words.specs.Words.{ReadsWords, RefusesError, RefusesWords, asked, asked_in, asked_of, command_named, end_at, is_set, program, version_asked, with_flags, with_receive, with_top, with_version, with_wide};
+ghost use Rattle.rohcfn_words.specs.Words.{ReadsWords, RefusesError, RefusesWords, asked, asked_in, asked_of, command_named, direction_at, end_at, is_set, program, version_asked, with_flags, with_items, with_receive, with_top, with_version, with_wide};
 
 use clap::error::ErrorKind;
 use clap::{Arg, ArgAction, ArgMatches};
@@ -21,6 +21,8 @@ pub enum Command {
     Prove,
     /// Turns lines into lines by the part `profile`.
     Run(Direction),
+    /// Lists for each line the fields of the filling that it belongs to.
+    Fields(Direction),
     /// Sends or receives packets of several flows on one line, by the part `profile`.
     Line(End),
 }
@@ -75,9 +77,9 @@ impl From<AllocError> for WordsError {
     }
 }
 
-/// Reads the words that follow the program's name: a command, `pack`, `unpack`, `show`, `check`, `prove` or `line`, and
-/// its flags: `--top NAME`, for all commands but `show` also `--v2`, for `pack` and `unpack` also `--context`, and for `line`
-/// also `--receive` and `--wide`.
+/// Reads the words that follow the program's name: a command, `pack`, `unpack`, `fields`, `show`, `check`, `prove` or
+/// `line`, and its flags: `--top NAME`, for all commands but `show` also `--v2`, for `pack`, `unpack` and `fields` also
+/// `--context`, for `fields` also `--items`, and for `line` also `--receive` and `--wide`.
 ///
 /// The clauses say it by clap's own account of a command line (`asked_of`), on which clap's parse is
 /// proved exact. Words that ask for help alone are no usage fault. The clauses say nothing of the text, and not
@@ -113,6 +115,8 @@ A bundle is read from standard input: parts, each after a line `=== PART`. For e
   rohcfn check --top plain <BUNDLE           profile > `accepted`
   rohcfn pack --top plain <BUNDLE            profile, items > a line of bits for each item
   rohcfn unpack --top plain <BUNDLE          profile, packets > the item of each packet
+  rohcfn fields --top plain <BUNDLE          profile, packets > the fields of each packet
+  rohcfn fields --top plain --items <BUNDLE  profile, items > the fields of each item's packet
   rohcfn line --top plain <BUNDLE            profile, events > octets in hex, then `FLOW ITEM` lines
   rohcfn line --top plain --receive <BUNDLE  profile, octets > `FLOW ITEM` lines
 
@@ -136,22 +140,24 @@ fn program<'a>(alloc: Global) -> Result<clap::Command<'a>, AllocError>
     let one = bare.subcommand(pack)?;
     let unpack = with_flags(alloc, "unpack", "Unpacks the part packets")?;
     let two = one.subcommand(unpack)?;
+    let fields = with_items(alloc, "fields", "Lists the fields of the part packets")?;
+    let three = two.subcommand(fields)?;
     let show = with_top(
         alloc,
         "show",
         "Shows the methods, bounds and constraints of the part profile",
     )?;
-    let three = two.subcommand(show)?;
+    let four = three.subcommand(show)?;
     let check = with_version(
         alloc,
         "check",
         "Checks the part certificate against the part profile",
     )?;
-    let four = three.subcommand(check)?;
+    let five = four.subcommand(check)?;
     let prove = with_version(alloc, "prove", "Makes a certificate for the part profile")?;
-    let five = four.subcommand(prove)?;
+    let six = five.subcommand(prove)?;
     let line = with_wide(alloc, "line", "Sends the part events on a line of flows")?;
-    five.subcommand(line)
+    six.subcommand(line)
 }
 
 // A command with the flag `--top`.
@@ -206,6 +212,22 @@ fn with_flags<'a>(
     with_version(alloc, name, about)?.arg(context)
 }
 
+// A command with the flags `--top`, `--v2`, `--context` and `--items`.
+fn with_items<'a>(
+    alloc: Global,
+    name: &'a str,
+    about: &'a str,
+) -> Result<clap::Command<'a>, AllocError>
+    ensures app { IfOk result (λ command. app_of command ≡ with_items name.entry.now) }
+    ensures local { IfOk result (λ command. (fields_of command).has_globals ≡ false) }
+{
+    let items = Arg::new(alloc, "items")
+        .long("items")
+        .help("Lists those of the part items instead")
+        .action(ArgAction::SetTrue);
+    with_flags(alloc, name, about)?.arg(items)
+}
+
 // A command with the flags `--top`, `--v2` and `--receive`.
 fn with_receive<'a>(
     alloc: Global,
@@ -244,7 +266,8 @@ fn order_in<'a>(matches: &ArgMatches<'a>) -> Option<Order<'a>>
 {
     let (name, flags) = matches.subcommand()?;
     let receives = is_set(flags.get_str("receive"));
-    let command = command_of(name, receives)?;
+    let packs = is_set(flags.get_str("items"));
+    let command = command_of(name, receives, packs)?;
     let top = flags.get_str("top")?;
     let shows_context = is_set(flags.get_str("context"));
     let version = version_asked(is_set(flags.get_str("v2")));
@@ -275,13 +298,15 @@ fn is_set(text: Option<&str>) -> bool
     }
 }
 
-fn command_of(name: &str, receives: bool) -> Option<Command>
-    ensures { result ≡ command_named name.now receives }
+fn command_of(name: &str, receives: bool, packs: bool) -> Option<Command>
+    ensures { result ≡ command_named name.now receives packs }
 {
     if name == "pack" {
         Some(Command::Run(Direction::Pack))
     } else if name == "unpack" {
         Some(Command::Run(Direction::Unpack))
+    } else if name == "fields" {
+        Some(Command::Fields(direction_of(packs)))
     } else if name == "show" {
         Some(Command::Show)
     } else if name == "check" {
@@ -292,6 +317,16 @@ fn command_of(name: &str, receives: bool) -> Option<Command>
         Some(Command::Line(end_of(receives)))
     } else {
         None
+    }
+}
+
+fn direction_of(packs: bool) -> Direction
+    ensures { result ≡ direction_at packs }
+{
+    if packs {
+        Direction::Pack
+    } else {
+        Direction::Unpack
     }
 }
 

@@ -3,10 +3,10 @@ use Rattle.rohcfn_tool.proofs.printing.pack_one.Goals as goal
 
 pub returns-in-Ok : goal.returns-in-Ok
 returns-in-Ok c =
-    packed_step c.args.accepted.now c.args.context.now _ _ _ c.args.number c.args.item.now c.in-Ok.field-0 c.in-Ok.ensures.written c.in_ok-push_packed-in-Ok.ensures c.in_ok-replace-in-Ok.ensures.ok
+    packed_step c.args.shape c.args.accepted.now c.args.context.now _ _ _ c.args.number c.args.item.now c.in-Ok.field-0 c.in-Ok.ensures.written c.in_ok-push_written-in-Ok.ensures c.in_ok-replace-in-Ok.ensures.ok
 
 pub returns : goal.returns
-returns c = item_refused c.args.accepted.now c.args.context.now _ _ c.args.number c.args.item.now c.in-Err.fault c.in-Err.ensures.fault c.in_ok-refuse_item-in-Err.ensures
+returns c = item_refused c.args.shape c.args.accepted.now c.args.context.now _ _ c.args.number c.args.item.now c.in-Err.fault c.in-Err.ensures.fault c.in_ok-refuse_item-in-Err.ensures
 
 pub refuse_item-requires : goal.refuse_item-requires
 refuse_item-requires c = no_flow_blamed c.args.accepted.now c.args.context.now c.args.item.now c.in-Err.fault c.in-Err.ensures.fault

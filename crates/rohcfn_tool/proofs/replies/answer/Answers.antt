@@ -1,6 +1,7 @@
 use Rattle.std.proofs.Common.{refl, subst}
 use Rattle.rohcfn_tool.specs.Lined.{Lined}
-use Rattle.rohcfn_tool.specs.Printed.{Answered, AnsweredRun, no_profile, shown, checked, proved, ran, lined}
+use Rattle.rohcfn_tool.specs.Printed.{Answered, AnsweredRun, no_profile, shown, checked, proved, ran, told, lined}
+use Rattle.rohcfn_tool.specs.declared.printing.Shape.TheVariants.{Line, Tree}
 use Rattle.rohcfn_report.specs.Reports.{CheckedOctets, ProvedOctets, ShownBy}
 use Rattle.rohcfn_input.proofs.AnswersHeld.{passed_on, refusal_is}
 use Rattle.rohcfn_tool.proofs.replies.answer.Goals as goal
@@ -23,7 +24,11 @@ returns-in-Prove c =
 
 pub returns-in-Run : goal.returns-in-Run
 returns-in-Run c =
-    passed_on (AnsweredRun c.in-Run.direction c.args.order.now c.in-Some.profile.now c.args.parts.now) (Answered c.args.order.now c.args.parts.now) c.answer_run.result (λ s out h. ran c.in-Some.profile c.in-Run.direction c.in-Some.is c.in-Run.is h) c.answer_run.ensures
+    passed_on (AnsweredRun c.in-Run.direction Line c.args.order.now c.in-Some.profile.now c.args.parts.now) (Answered c.args.order.now c.args.parts.now) c.answer_run.result (λ s out h. ran c.in-Some.profile c.in-Run.direction c.in-Some.is c.in-Run.is h) c.answer_run.ensures
+
+pub returns-in-Fields : goal.returns-in-Fields
+returns-in-Fields c =
+    passed_on (AnsweredRun c.in-Fields.direction Tree c.args.order.now c.in-Some.profile.now c.args.parts.now) (Answered c.args.order.now c.args.parts.now) c.answer_run-in-Fields.result (λ s out h. told c.in-Some.profile c.in-Fields.direction c.in-Some.is c.in-Fields.is h) c.answer_run-in-Fields.ensures
 
 pub returns-in-Line : goal.returns-in-Line
 returns-in-Line c =
