@@ -1,6 +1,7 @@
 pub mod Accepting
 pub mod BitTexts
 pub mod Fields
+pub mod Linting
 pub mod ProfileLines
 pub mod Provings
 pub mod Reports

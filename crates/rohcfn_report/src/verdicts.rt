@@ -265,7 +265,7 @@ pub fn method_name(methods: &[Method], method: usize) -> &str
     }
 }
 
-fn format_at(methods: &[Method], method: usize, format: usize) -> Option<&Format>
+pub(crate) fn format_at(methods: &[Method], method: usize, format: usize) -> Option<&Format>
     ensures { option_copied result ≡ spec.format_at methods.now method format }
 {
     methods.get(method)?.formats.get(format)

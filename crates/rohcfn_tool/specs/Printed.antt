@@ -23,7 +23,7 @@ use Rattle.rohcfn_input.specs.declared.status.Answer.{Answer}
 use Rattle.rohcfn_input.specs.declared.status.Status.{Status}
 use Rattle.rohcfn_input.specs.declared.status.Status.TheVariants as status
 use Rattle.rohcfn_words.specs.declared.words.Command.TheVariants as command
-use Rattle.rohcfn_words.specs.declared.words.Command.TheVariants.{Show, Check, Prove, Run, Fields}
+use Rattle.rohcfn_words.specs.declared.words.Command.TheVariants.{Show, Lint, Check, Prove, Run, Fields}
 use Rattle.rohcfn_words.specs.declared.words.Direction.{Direction}
 use Rattle.rohcfn_words.specs.declared.words.Direction.TheVariants.{Pack, Unpack}
 use Rattle.rohcfn_words.specs.declared.words.End.{End}
@@ -37,6 +37,7 @@ use Rattle.rohcfn_tool.specs.declared.printing.Shape.{Shape}
 use Rattle.rohcfn_tool.specs.declared.printing.Shape.TheVariants.{Line, Tree}
 use Rattle.rohcfn_report.specs.Fields.{fields_text}
 use Rattle.rohcfn_report.specs.Verdicts.{format_words, method_name}
+use Rattle.rohcfn_report.specs.Linting.{LintedBy}
 use Rattle.rohcfn_report.specs.Reports.{ShownBy, CheckedOctets, ProvedOctets}
 use Rattle.rohcfn_input.specs.Refusals.{Holds}
 
@@ -191,6 +192,8 @@ pub data Answered (order : Order) (parts : Parts) : Status → List ℕ → Type
   no_profile : parts.profile ≡ None → Answered order parts status.Refused (codes "bundle: I4 bad part profile" ++ 10 ∷ [])
   shown : {s : Status} {output : List ℕ} (profile : Bor (List ℕ)) → parts.profile ≡ Some profile → order.command ≡ Show
       → ShownBy order.top.now profile.now s output → Answered order parts s output
+  linted : {s : Status} {output : List ℕ} (profile : Bor (List ℕ)) → parts.profile ≡ Some profile → order.command ≡ Lint
+      → LintedBy order.top.now profile.now s output → Answered order parts s output
   checked : {s : Status} {output : List ℕ} (profile : Bor (List ℕ)) → parts.profile ≡ Some profile → order.command ≡ Check
       → CheckedOctets order.top.now profile.now (origin_of order.version parts.certificate) s output → Answered order parts s output
   proved : {s : Status} {output : List ℕ} (profile : Bor (List ℕ)) → parts.profile ≡ Some profile → order.command ≡ Prove

@@ -15,6 +15,8 @@ use thiserror::Error;
 pub enum Command {
     /// Lists what the part `profile` says.
     Show,
+    /// Tells by which formats of the part `profile` nothing can be packed.
+    Lint,
     /// Checks the part `certificate` against the part `profile`.
     Check,
     /// Makes a certificate for the part `profile`.
@@ -77,8 +79,8 @@ impl From<AllocError> for WordsError {
     }
 }
 
-/// Reads the words that follow the program's name: a command, `pack`, `unpack`, `fields`, `show`, `check`, `prove` or
-/// `line`, and its flags: `--top NAME`, for all commands but `show` also `--v2`, for `pack`, `unpack` and `fields` also
+/// Reads the words that follow the program's name: a command, `pack`, `unpack`, `fields`, `show`, `lint`, `check`,
+/// `prove` or `line`, and its flags: `--top NAME`, for all commands but `show` and `lint` also `--v2`, for `pack`, `unpack` and `fields` also
 /// `--context`, for `fields` also `--items`, and for `line` also `--receive` and `--wide`.
 ///
 /// The clauses say it by clap's own account of a command line (`asked_of`), on which clap's parse is
@@ -111,6 +113,7 @@ const INPUT: &str = "\
 A bundle is read from standard input: parts, each after a line `=== PART`. For example:
 
   rohcfn show --top plain <BUNDLE            profile > the methods, bounds and constraints
+  rohcfn lint --top plain <BUNDLE            profile > a line for each format by which nothing can be packed
   rohcfn prove --top plain <BUNDLE           profile > a certificate
   rohcfn check --top plain <BUNDLE           profile > `accepted`
   rohcfn pack --top plain <BUNDLE            profile, items > a line of bits for each item
@@ -148,16 +151,22 @@ fn program<'a>(alloc: Global) -> Result<clap::Command<'a>, AllocError>
         "Shows the methods, bounds and constraints of the part profile",
     )?;
     let four = three.subcommand(show)?;
+    let lint = with_top(
+        alloc,
+        "lint",
+        "Tells by which formats of the part profile nothing can be packed",
+    )?;
+    let five = four.subcommand(lint)?;
     let check = with_version(
         alloc,
         "check",
         "Checks the part certificate against the part profile",
     )?;
-    let five = four.subcommand(check)?;
+    let six = five.subcommand(check)?;
     let prove = with_version(alloc, "prove", "Makes a certificate for the part profile")?;
-    let six = five.subcommand(prove)?;
+    let seven = six.subcommand(prove)?;
     let line = with_wide(alloc, "line", "Sends the part events on a line of flows")?;
-    six.subcommand(line)
+    seven.subcommand(line)
 }
 
 // A command with the flag `--top`.
@@ -309,6 +318,8 @@ fn command_of(name: &str, receives: bool, packs: bool) -> Option<Command>
         Some(Command::Fields(direction_of(packs)))
     } else if name == "show" {
         Some(Command::Show)
+    } else if name == "lint" {
+        Some(Command::Lint)
     } else if name == "check" {
         Some(Command::Check)
     } else if name == "prove" {

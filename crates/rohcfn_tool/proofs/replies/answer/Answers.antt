@@ -1,7 +1,8 @@
 use Rattle.std.proofs.Common.{refl, subst}
 use Rattle.rohcfn_tool.specs.Lined.{Lined}
-use Rattle.rohcfn_tool.specs.Printed.{Answered, AnsweredRun, no_profile, shown, checked, proved, ran, told, lined}
+use Rattle.rohcfn_tool.specs.Printed.{Answered, AnsweredRun, no_profile, shown, linted, checked, proved, ran, told, lined}
 use Rattle.rohcfn_tool.specs.declared.printing.Shape.TheVariants.{Line, Tree}
+use Rattle.rohcfn_report.specs.Linting.{LintedBy}
 use Rattle.rohcfn_report.specs.Reports.{CheckedOctets, ProvedOctets, ShownBy}
 use Rattle.rohcfn_input.proofs.AnswersHeld.{passed_on, refusal_is}
 use Rattle.rohcfn_tool.proofs.replies.answer.Goals as goal
@@ -12,6 +13,10 @@ returns-in_default c = refusal_is (Answered c.args.order.now c.args.parts.now) _
 pub returns-in-Show : goal.returns-in-Show
 returns-in-Show c =
     passed_on (ShownBy c.args.order.now.top.now c.in-Some.profile.now) (Answered c.args.order.now c.args.parts.now) c.answer_listing.result (λ s out h. shown c.in-Some.profile c.in-Some.is c.in-Show.is h) c.answer_listing.ensures
+
+pub returns-in-Lint : goal.returns-in-Lint
+returns-in-Lint c =
+    passed_on (LintedBy c.args.order.now.top.now c.in-Some.profile.now) (Answered c.args.order.now c.args.parts.now) c.answer_lint.result (λ s out h. linted c.in-Some.profile c.in-Some.is c.in-Lint.is h) c.answer_lint.ensures
 
 pub returns-in-Check : goal.returns-in-Check
 returns-in-Check c =
