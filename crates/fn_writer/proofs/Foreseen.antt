@@ -8,8 +8,6 @@ use Rattle.fn_bits.specs.Number.{num}
 use Rattle.fn_context.specs.Entries.{bits_at}
 use Rattle.fn_expr.specs.declared.expr.Expr.{Expr}
 use Rattle.fn_expr.specs.declared.expr.Side.TheVariants.{Uncompressed}
-use Rattle.fn_normal.specs.declared.profile.Constraint.TheVariants.{Enforce}
-use Rattle.fn_normal.specs.declared.profile.Declared.{Declared}
 use Rattle.fn_normal.specs.declared.profile.Encoding.TheVariants as encoding
 use Rattle.fn_normal.specs.declared.profile.Field.{Field}
 use Rattle.fn_normal.specs.declared.profile.Format.{Format}
@@ -19,13 +17,11 @@ use Rattle.fn_profile.specs.Resolved.{IsSound}
 use Rattle.fn_filling.specs.declared.filling.AskedValue.{AskedValue}
 use Rattle.fn_filling.specs.declared.filling.Filling.{Filling, out-Filling}
 use Rattle.fn_filling.specs.Entries.{below}
-use Rattle.fn_filling.specs.Fillings.{inner_at, level, asked_values, header, header_bits, is_header}
+use Rattle.fn_filling.specs.Fillings.{inner_at, level, asked_values, header, is_header, sides_of}
 use Rattle.fn_fits.specs.Bounded.{sizes_at}
-use Rattle.fn_fits.specs.Fits.{Context, Fits, field_side, format_at, assigned, vals}
-use Rattle.fn_fits.proofs.Bounding.{lie-in-bounds}
+use Rattle.fn_fits.specs.Fits.{Context, Fits, format_at, vals}
 use Rattle.fn_fits.proofs.Inverted.{FitsParts, parts, called_parts}
-use Rattle.fn_fits.proofs.Sides.{header_splits}
-use Rattle.fn_fits.proofs.Sized.{one_value, and_then_some}
+use Rattle.fn_fits.proofs.Sized.{one_value}
 use Rattle.fn_cert.specs.declared.certificate.Plans.{Plans}
 use Rattle.fn_cert.specs.declared.certificate.Step.{Step}
 use Rattle.fn_cert.specs.declared.certificate.Step.TheVariants.{Take, Call, LibraryUp, LibraryDown, MethodLength, ConstraintLength, Solve, Choose, Ask}
@@ -34,7 +30,6 @@ use Rattle.fn_rules.specs.Counts.{callee, ways}
 use Rattle.fn_rules.specs.Rules.{choice}
 use Rattle.fn_rules.specs.Views.{view, side_at}
 use Rattle.fn_rules.proofs.Agree.{side_is, inner_is}
-use Rattle.fn_rules.proofs.Inputs.{declared_of, declared_in}
 use Rattle.fn_best.specs.declared.digits.Digits.{Digits}
 use Rattle.fn_best.specs.declared.digits.Start.{Start}
 use Rattle.fn_best.specs.Codes.{number, called_at, write_plan, IsCandidate}
@@ -45,7 +40,6 @@ use Rattle.fn_best.proofs.Reading as digits
 use Rattle.fn_checker.specs.Accepted.{Accepting}
 use Rattle.fn_walk.specs.declared.place.Place.{Place}
 use Rattle.fn_writing.specs.Writing.{Begins as StandsIn}
-use Rattle.fn_writing.proofs.Steps.{parted, stands}
 use Rattle.fn_writer.specs.declared.told.Chosen.{Chosen}
 use Rattle.fn_writer.specs.Foreseeing.{HasSeen, StandsBefore, SeesOn, IsRefutedInside, by_values, by_start, AreRefutedInside}
 use Rattle.fn_writer.specs.Going.{Begins}
@@ -55,7 +49,9 @@ use Rattle.fn_writer.specs.Walking.{site_of, Fails}
 use Rattle.fn_writer.proofs.Called.{is_method}
 use Rattle.fn_writer.proofs.Inner.{moved}
 use Rattle.fn_writer.proofs.Passing.{room_next}
-use Rattle.fn_writer.proofs.Never.{false_is, counted, never_begins, no_other}
+use Rattle.fn_writer.proofs.Headers.{held}
+use Rattle.fn_writer.proofs.Lacked.{none_false}
+use Rattle.fn_writer.proofs.Never.{never_begins, no_other}
 use Rattle.fn_writer.proofs.Telling.{field_p, filled, values_are}
 
 -- ---- choices
@@ -154,10 +150,6 @@ module _ (methods : List Method) (ctx : Context) (k : ℕ) (args : List ℤ) (pa
         header_is = side_is f i g.0 Uncompressed g.1 ∙ called.header_is;
       }
 
-passed_by : (front later : List Bool) → drop (length front) (front ++ later) ≡ later
-passed_by [] later = refl
-passed_by (x ∷ front) later = passed_by front later
-
 -- the filling inside isn't of a format that is refuted
 module _ (place : Place) (n : ℕ) (format : Format) (i : ℕ) (d : Field) (j : ℕ) (args : List ℤ) (m : ℕ) (bits : List Bool) (sound : IsSound place.accepted.now.profile)
     (format_is : format_at place.accepted.now.profile.methods place.method n ≡ Some format) (field_is : slice_get format.fields i ≡ Some d) (asked : List AskedValue) (f : Filling)
@@ -170,8 +162,7 @@ module _ (place : Place) (n : ℕ) (format : Format) (i : ℕ) (d : Field) (j : 
   no_value inner at h =
       let q = parts x.fits in
       let one : q.format ≡ inner = one_value (format_at their j m) q.format inner (ap (format_at their j) (sym of_inner) ∙ q.is_format) at in
-      let at_q : slice_get q.format.constraints h.index ≡ Some (Enforce h.condition h.place) = ap (λ (z : Format). slice_get z.constraints h.index) one ∙ h.constraint_is in
-      false_is (assigned q.format.listing (level x.inner) args).attribute args h.condition h.is_false (q.level_fits.constraints h.index (Enforce h.condition h.place) at_q)
+      none_false their (bits_at place.context.now) j args (below place.path.now d.declared.name) x.inner q inner one h
 
   -- where the field begins, its header is in front
   in_front : (sizes : FormatSizes) (offset : ℕ) → is_header d.declared.part ≡ true → sizes_at place.accepted.now.profile.sizes place.method n ≡ Some sizes → HaveBefore format.fields sizes.fields i offset →
@@ -179,17 +170,10 @@ module _ (place : Place) (n : ℕ) (format : Format) (i : ℕ) (d : Field) (j : 
   in_front sizes offset at_front sizes_are before =
       let p = parts b.fits in
       let one : p.format ≡ format = one_value (format_at their place.method n) p.format format (ap (format_at their place.method) (sym of_format) ∙ p.is_format) format_is in
-      let s = and_then_some (λ z. slice_get z.formats n) (slice_get place.accepted.now.profile.sizes place.method) sizes sizes_are in
-      let lengths = (lie-in-bounds their place.accepted.now.profile.sizes sound.sized (bits_at place.context.now) place.method place.arguments.now place.path.now f b.fits s.0 sizes s.1 (ap (slice_get s.0.formats) of_format ∙ s.2)).0 in
-      let same : declared_of (level f) ≡ declared_in format.fields = p.level_fits.shaped.declared_is ∙ ap (λ (z : Format). declared_in z.fields) one in
-      let front = header_bits (take i (level f)) in
-      let long : length front ≡ offset = counted format.fields sizes.fields (level f) same (λ k y z at_y at_z. let l = lengths.fields k y z at_y at_z in (l.uncompressed_lies.least, l.uncompressed_lies.most)) before in
-      let t = stands (level f) format.fields i d same field_is in
-      let at_header : is_header t.s.declared.part ≡ true = ap (λ (z : Declared). is_header z.part) t.declared ∙ at_front in
-      let later = header_bits (drop (suc i) (level f)) ++ b.rest in
-      let whole : bits ≡ front ++ (t.s.uncompressed ++ later) = header_splits f (take i (level f)) (drop (suc i) (level f)) t.s bits b.rest (parted (level f) i t.s t.at) at_header b.in_front in
-      let own : t.s.uncompressed ≡ header x.inner = sym (ap (λ o. field_side o Uncompressed) t.at) ∙ x.header_is in
-      (later, (λ k. drop (sym long k) (whole k)) ∙ (passed_by front (t.s.uncompressed ++ later) ∙ ap (λ z. z ++ later) own))
+      let t = held their place.accepted.now.profile.sizes sound.sized (bits_at place.context.now) place.method place.arguments.now place.path.now f p b.fits format one sizes
+      (ap (sizes_at place.accepted.now.profile.sizes place.method) of_format ∙ sizes_are) bits b.rest b.in_front i offset d before field_is at_front in
+      let own : (sides_of t.field).uncompressed ≡ header x.inner = sym (side_is f i t.field Uncompressed t.field_is) ∙ x.header_is in
+      (t.later, t.there ∙ ap (λ z. z ++ t.later) own)
 
   not_inside : IsRefutedInside place n format i d j args m bits → ⊥
   not_inside (by_values inner at h) = no_value inner at h

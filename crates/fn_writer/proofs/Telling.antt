@@ -58,14 +58,14 @@ module _ (a b : Assignment) (attributes : (t : Attribute) (v : ℤ) → a.attrib
   val_more (expr.Attribute s t) v e = attributes t v e
   val_more (Binary' s op p x q y) v e = both_more (apply op) (val a x) (val a y) (val b x) (val b y) v (val_more x) (val_more y) e
 
-  vals_more : (es : List Expr) (vs : List ℤ) → vals a es ≡ Some vs → vals b es ≡ Some vs
-  vals_more [] vs h = h
-  vals_more (e ∷ es) vs h =
-      let t = and_then_some (λ v. option_map (λ ws. v ∷ ws) (vals a es)) (val a e) vs h in
-      let s = map_some (λ ws. t.0 ∷ ws) (vals a es) vs t.2 in
-      let first = val_more e t.0 t.1 in
-      let rest = vals_more es s.0 s.1 in
-      (λ i. option_and_then (λ v. option_map (λ ws. v ∷ ws) (rest i)) (first i)) ∙ ap Some s.2
+pub vals_more : (a b : Assignment) → ((e : Expr) (v : ℤ) → val a e ≡ Some v → val b e ≡ Some v) → (es : List Expr) (vs : List ℤ) → vals a es ≡ Some vs → vals b es ≡ Some vs
+vals_more a b more [] vs h = h
+vals_more a b more (e ∷ es) vs h =
+    let t = and_then_some (λ v. option_map (λ ws. v ∷ ws) (vals a es)) (val a e) vs h in
+    let s = map_some (λ ws. t.0 ∷ ws) (vals a es) vs t.2 in
+    let first = more e t.0 t.1 in
+    let rest = vals_more a b more es s.0 s.1 in
+    (λ i. option_and_then (λ v. option_map (λ ws. v ∷ ws) (rest i)) (first i)) ∙ ap Some s.2
 
 irregular_is : (e : Encoding) → is_irregular e ≡ true → (len : Expr) × (e ≡ encoding.Library (library.Irregular len))
 irregular_is (encoding.Library (library.Irregular len)) e = (len, refl)
@@ -119,5 +119,4 @@ module _ (methods : List Method) (ctx : Context) (k : ℕ) (args : List ℤ) (pa
   value_is = val_more (told_numbers format args choices) (assigned p.format.listing (level f) args) (λ t v e. attribute_at t.subject t.measure t.side v e) (λ i v e. e)
 
   pub values_are : (es : List Expr) (vs : List ℤ) → vals (told_numbers format args choices) es ≡ Some vs → vals (assigned p.format.listing (level f) args) es ≡ Some vs
-  values_are es vs e =
-      vals_more (told_numbers format args choices) (assigned p.format.listing (level f) args) (λ t v e. attribute_at t.subject t.measure t.side v e) (λ i v e. e) es vs e
+  values_are = vals_more (told_numbers format args choices) (assigned p.format.listing (level f) args) value_is

@@ -1,12 +1,15 @@
 //! The values that the arguments and the choices tell, before a plan is followed.
 
-ghost use Rattle.std.specs.Prelude.{◌≡◌, Some, IfSome, slice_get};
+ghost use Rattle.std.specs.Prelude.{◌≡◌, Some, IfOk, IfSome, slice_get};
 ghost use Rattle.fn_expr.specs.Values.{apply, val};
+ghost use Rattle.fn_fits.specs.Fits.{vals};
 ghost use Rattle.fn_writer.specs.Told as spec;
 
 use fn_expr::{Attribute, Expr, Measure, Operator, Side, Subject};
 use fn_normal::{Encoding, Format, Library};
+use smallvec::SmallVec;
 use sqlite_items::at;
+use std::alloc::{AllocError, Global};
 
 /// A field with the digit that chooses its bits.
 #[derive(Clone, Copy, Default)]
@@ -51,6 +54,14 @@ impl<'a> Told<'a> {
         }
     }
 
+    /// Whether one of the expressions has the field that was chosen last, or nothing is chosen. Else all that they are told was told before that choice.
+    pub(crate) fn are_news(&self, exprs: &[Expr]) -> bool {
+        match self.choices.last() {
+            Some(chosen) => exprs.iter().any(|expr| has_field(expr, chosen.field)),
+            None => true,
+        }
+    }
+
     fn attribute(&self, attribute: Attribute) -> Option<i128>
         ensures { IfSome result (λ v. spec.told_attribute self.now.format.now self.now.choices.now attribute ≡ Some v) }
     {
@@ -66,6 +77,24 @@ impl<'a> Told<'a> {
         let digit = digit_of(self.choices, field)?;
         Some(digit as i128)
     }
+}
+
+/// The values of the expressions, where each is told.
+pub(crate) fn values_of(
+    alloc: Global,
+    told: &Told<'_>,
+    exprs: &[Expr],
+) -> Result<Option<SmallVec<i128, 4>>, AllocError>
+    ensures { IfOk result (λ o. IfSome o (λ values. vals (spec.numbers told.now) exprs.now ≡ Some values.items)) }
+{
+    let mut values = SmallVec::new(alloc);
+    for expr in exprs {
+        let Some(number) = told.value(expr) else {
+            return Ok(None);
+        };
+        values.push(number)?;
+    }
+    Ok(Some(values))
 }
 
 /// A sum, difference or product, where it has 128 bits; other operators aren't tried.
@@ -97,6 +126,15 @@ fn is_irregular(encoding: &Encoding) -> bool
     ensures { result ≡ spec.is_irregular encoding.now }
 {
     matches!(encoding, Encoding::Library(Library::Irregular { .. }))
+}
+
+/// Whether the expression has an attribute of the field.
+fn has_field(expr: &Expr, field: usize) -> bool {
+    match expr {
+        Expr::Number(_, _) | Expr::Parameter(_, _) => false,
+        Expr::Attribute(_, attribute) => attribute.subject == Subject::Field(field),
+        Expr::Binary(_, _, left, right) => has_field(left, field) || has_field(right, field),
+    }
 }
 
 /// The digit that chooses the bits of the field.
