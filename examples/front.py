@@ -451,6 +451,11 @@ def diagnosed(place):
             check("a fault: %s" % name, (status, out) == printed and without_pages(said) == due.rstrip("\n"), (status, out, said))
             codes = set(re.findall(r"^p\.fn:\d+:\d+: (E\d\d) ", said, re.MULTILINE))
             check("with what the page says: %s" % name, len([it for it in said.splitlines() if it not in without_pages(said).splitlines()]) >= len(codes), said)
+    for name, octets, line, column, said in (("E04", b" " * ((1 << 20) + 1), " " * 160, 1, "text is above 1 MiB"), ("E05", b"q { \xff }\n", "q { \ufffd }", 5, "text is not UTF-8")):
+        (place.files / "octets.fn").write_bytes(octets)
+        ran = place.call("show", "octets.fn", "--diagnose")
+        line = "octets.fn:1:%d: %s %s\n1 | %s\n  | %s^\n" % (column, name, said, line, " " * (column - 1))
+        check("a fault of octets: %s" % name, ran[:2] == (1, "profile:1:%d: %s %s\n" % (column, name, said)) and ran[2].startswith(line), ran)
     place.write("p.fn", "q { } ;;\n")
     line = "profile:1:8: E10 unexpected token\n"
     check("nothing more in a pipe", place.call("show", "p.fn") == (1, line, ""), place.call("show", "p.fn"))
