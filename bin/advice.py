@@ -114,6 +114,11 @@ def of_arguments(fault):
         yield "%s takes %d, and here are %d" % (name, known[name], given)
 
 
+def of_name(fault):
+    if fault.token() in notation.LIBRARY:
+        yield "%s is a library method" % fault.token()
+
+
 def of_top(fault):
     names = [it for it, count in methods(fault).items() if count == 0]
     yield "methods without parameters: %s" % ", ".join(names) if names else "the file has no method without parameters"
@@ -143,7 +148,7 @@ def of_kind(fault):
             return
 
 
-KNOWN = {"E01": of_character, "E10": of_token, "E20": of_unknown, "E22": of_arguments, "E27": of_top, "E29": of_sections, "E31": of_kind}
+KNOWN = {"E01": of_character, "E10": of_token, "E20": of_unknown, "E21": of_name, "E22": of_arguments, "E27": of_top, "E29": of_sections, "E31": of_kind}
 
 
 def hints(fault):

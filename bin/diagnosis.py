@@ -5,6 +5,7 @@ import subprocess
 import sys
 
 import advice
+import definitions
 import mending
 
 LINE = re.compile(r"profile:(\d+):(\d+): (E\d\d) (.*)")
@@ -30,23 +31,31 @@ def fault_of(printed, text):
     return advice.Fault(text, begins[line - 1] + column - 1, found.group(3), found.group(4))
 
 
-def place_of(fault):
-    """The line and the column of a fault, and the line's text."""
-    before = fault.text[:fault.start]
+def place_of(text, start):
+    """The line and the column of an offset, and the line's text."""
+    before = text[:start]
     line, begin = before.count("\n") + 1, before.rfind("\n") + 1
-    return line, fault.start - begin + 1, fault.text[begin:].partition("\n")[0].rstrip("\r")
+    return line, start - begin + 1, text[begin:].partition("\n")[0].rstrip("\r")
+
+
+def lines_at(text, start, width, words, name, paint, above):
+    """A place of a text with these words: so many characters of its line, in a colour."""
+    (colour, said), (line, column, whole) = words, place_of(text, start)
+    cut = max(0, column - 1 - WIDTH // 2) if len(whole) > WIDTH else 0
+    shown, before = UNSEEN.sub("?", whole[cut:cut + WIDTH]), column - 1 - cut
+    margin, blank = "%d |" % (line + above), re.sub(r"[^\t]", " ", shown[:before])
+    carets = "^" * max(1, min(width, len(shown) - before))
+    yield paint(colour, "%s:%d:%d: %s" % (name, line + above, column, said))
+    yield paint(BLUE, margin) + (" " + shown if shown else "")
+    yield paint(BLUE, " " * (len(margin) - 1) + "|") + " " + blank + paint(colour, carets)
 
 
 def lines_of(fault, name, paint, above=0):
     """What is shown of a fault of a text, above which so many lines stand in its file."""
-    line, column, whole = place_of(fault)
-    cut = max(0, column - 1 - WIDTH // 2) if len(whole) > WIDTH else 0
-    shown, before = UNSEEN.sub("?", whole[cut:cut + WIDTH]), column - 1 - cut
-    margin, blank = "%d |" % (line + above), re.sub(r"[^\t]", " ", shown[:before])
-    carets = "^" * max(1, min(fault.width(), len(shown) - before))
-    yield paint(RED, "%s:%d:%d: %s %s" % (name, line + above, column, fault.code, fault.words))
-    yield paint(BLUE, margin) + (" " + shown if shown else "")
-    yield paint(BLUE, " " * (len(margin) - 1) + "|") + " " + blank + paint(RED, carets)
+    yield from lines_at(fault.text, fault.start, fault.width(), (RED, "%s %s" % (fault.code, fault.words)), name, paint, above)
+    first = definitions.first_of(fault)
+    if first is not None:
+        yield from lines_at(fault.text, first.start, len(first.name), (BLUE, "note: " + definitions.says(fault)), name, paint, above)
     for it in advice.hints(fault):
         yield paint(BLUE, "help: ") + it
     said, pages = advice.page(fault.code)

@@ -92,6 +92,7 @@ _rohcfn() {{
   _arguments -C \\
     '(- *)'{{-h,--help}}'[{help}]' \\
     '(- *)--version[{version}]' \\
+    '(- *)--diagnose[{diagnose}]' \\
     '1: :->command' \\
     '*:: :->words' && return
   case $state in
@@ -129,12 +130,16 @@ class Help:
         self.summary = self.texts["rohcfn"].partition("\n")[0]
         self.commands = dict(COMMAND.findall(self.texts["rohcfn"].partition("Commands:\n")[2].partition("Options:\n")[0]))
         self.kept = {it: text for it, text in self.commands.items() if it in self.texts}  # all but `help`
-        self.version = re.search(r"`bin/rohcfn --version` (.*?)\.", self.texts["files"]).group(1)
+        self.version, self.diagnose = map(self.said_of, ("--version", "--diagnose <BUNDLE"))
         self.options, self.plain = {}, []
         for command in self.kept:
             self.take(self.texts[command], [command])
         self.plain = sorted(self.options, key=lambda it: it == "--help")  # those that the program itself knows
         self.take(self.texts["files"], self.kept)
+
+    def said_of(self, words):
+        """What a call with these words alone does."""
+        return re.search(r"`bin/rohcfn %s` (.*?)\." % words, self.texts["files"]).group(1)
 
     def take(self, text, commands):
         """Takes the options of a text, of these commands where it doesn't say of which."""
@@ -188,7 +193,7 @@ def synopsis(known):
     calls = USAGE.findall(known.texts["files"])[:1]
     calls = [re.sub(r"  +.*", "", it) for it in calls]
     calls += ["%s <BUNDLE" % USAGE.search(known.texts[it])[1].replace("<NAME>", "NAME") for it in known.kept]
-    return "\n.br\n".join(map(roff, [*calls, "rohcfn help [COMMAND]", "rohcfn --version"]))
+    return "\n.br\n".join(map(roff, [*calls, "rohcfn [COMMAND --top NAME] --diagnose <BUNDLE", "rohcfn help [COMMAND]", "rohcfn --version"]))
 
 
 def page(known, formats):
@@ -212,7 +217,7 @@ def page(known, formats):
 def bash(known):
     """The completion for bash."""
     cases = ["    %s) options='%s' ;;" % (it, " ".join(option.long for option in known.of(it))) for it in known.kept]
-    words = {"commands": " ".join(known.commands), "cases": "\n".join(cases), "first": "--help --version"}
+    words = {"commands": " ".join(known.commands), "cases": "\n".join(cases), "first": "--help --version --diagnose"}
     words |= {"files": " | ".join(known.valued("FILE")), "others": " | ".join(known.valued("FILE", other=True))}
     return BASH.format(source=SOURCE, valued=" | ".join(known.valued("", other=True)), **words)
 
@@ -241,7 +246,7 @@ def zsh(known):
         specs = [*map(spec, known.of(it)), "'1:PROFILE:_files'"]
         cases.append("        %s)\n          _arguments \\\n            %s\n          ;;" % (it, " \\\n            ".join(specs)))
     helped = known.options["--help"].does[0]
-    return ZSH.format(source=SOURCE, commands="\n".join(commands), cases="\n".join(cases), help=quoted(helped), version=quoted(known.version))
+    return ZSH.format(source=SOURCE, commands="\n".join(commands), cases="\n".join(cases), help=quoted(helped), version=quoted(known.version), diagnose=quoted(known.diagnose))
 
 
 def made():

@@ -37,7 +37,7 @@ _rohcfn() {
     : | [\<\>]*) before=$word word='' ;;
   esac
   if ((COMP_CWORD == 1)); then
-    if [[ $word == -* ]]; then commands='--help --version'; fi
+    if [[ $word == -* ]]; then commands='--help --version --diagnose'; fi
     _rohcfn_offer < <(compgen -W "$commands" -- "$word")
     return
   fi

@@ -3,6 +3,7 @@
 The places are counted here from the parts that the text is built of, by docs/FORMATS.md; none is taken from the program."""
 import itertools
 import re
+import unicodedata
 
 from samples import TICK
 
@@ -104,6 +105,25 @@ def long_inputs():
         yield "a profile of %d octets" % count, bundle(b"pack --top plain", profile, b"=== items\n"), 1, answer
     for count, answer in [(4 * mebibyte, b"bundle: I4 bad part -\n"), (4 * mebibyte + 1, b"bundle: I6 above 4 MiB\n")]:
         yield "%d octets" % count, b" " * count, 1, answer
+
+
+def shown(name):
+    """A part's name as its fault line has it: its first 80 characters, those of Unicode's category Cc by their numbers, and two dots where it has more."""
+    front = "".join("\\u{%x}" % ord(it) if unicodedata.category(it) == "Cc" else it for it in name[:80])
+    return front + (".." if len(name) > 80 else "")
+
+
+def names():
+    """Bad parts whose names have each of the first 1,024 characters but LF, which ends a name, and others; names of 79 to 81 characters, of 1 to 4 octets each;
+    and names that are no text."""
+    characters = [chr(number) for number in range(1024) if number != 10]
+    others = ["\u2028", "\u202e", "\u200b", "\ud7ff", "\ue000", "\ufeff", "\uffff", "\U00010000", "\U0010ffff"]
+    trials = ["a%sb" % "".join(characters[start:start + 60]) for start in range(0, len(characters), 60)] + ["".join(others), "\\u{1b}", "\\"]
+    trials += [it * count for it in ("x", "\x1b", "\x85", "\xe9", "\u20ac", "\U0001f600") for count in (79, 80, 81, 1000)]
+    for name in trials:
+        yield "a part of %d characters: %s" % (len(name), ascii(name[:2])), b"=== %s\n" % name.encode(), 1, ("bundle: I4 bad part %s\n" % shown(name)).encode()
+    for octets in (b"\x80", b"\xc3", b"\xc0\x80", b"\xed\xa0\x80", b"\xf4\x90\x80\x80", b"x" * 100 + b"\xff", b"\xe2\x82" * 40):
+        yield "a part that is no text: %s" % octets[:4].hex(), b"=== %s\n" % octets, 1, b"bundle: I4 bad part -\n"
 
 
 def fronts():
@@ -270,5 +290,5 @@ def longest():
 
 def cases():
     """Name, bundle, status and output of each."""
-    for part in (counts, nestings, in_order, packed, long_inputs, fronts, checked, lines, crowded, tabled, widths, choices, candidates, chains, longest):
+    for part in (counts, nestings, in_order, packed, long_inputs, names, fronts, checked, lines, crowded, tabled, widths, choices, candidates, chains, longest):
         yield from part()

@@ -4,6 +4,7 @@
 A file of cases holds, for each, a line `=== case NAME`, a bundle, a line `=== answer STATUS` and what the program prints. With the word `cut`
 after the status the bundle's last line feed is left out. The values follow from docs/NOTATION.md, docs/FORMATS.md and docs/DECISIONS.md; none
 is taken from the program."""
+import concurrent.futures
 import pathlib
 import subprocess
 import sys
@@ -35,22 +36,21 @@ def cases():
         yield "built: %s" % name, bundle, status, output
 
 
-def passes(bundle, status, output):
+def passes(case):
     """Whether the program answers the bundle so."""
+    _, bundle, status, output = case
     run = subprocess.run([PROGRAM], input=bundle, stdout=subprocess.PIPE, stderr=subprocess.DEVNULL, check=False)
     return run.stdout == output and run.returncode == status
 
 
 def main():
-    passed, failed = 0, 0
-    for name, bundle, status, output in cases():
-        if passes(bundle, status, output):
-            passed += 1
-        else:
-            failed += 1
-            print("%s: output or status differs" % name)
-    print("cases: %d passed, %d failed" % (passed, failed))
-    return 1 if failed or not passed else 0
+    every = list(cases())
+    with concurrent.futures.ThreadPoolExecutor(max_workers=4) as pool:
+        wrong = [name for (name, *_), is_right in zip(every, pool.map(passes, every)) if not is_right]
+    for name in wrong:
+        print("%s: output or status differs" % name)
+    print("cases: %d passed, %d failed" % (len(every) - len(wrong), len(wrong)))
+    return 1 if wrong or not every else 0
 
 
 if __name__ == "__main__":

@@ -461,8 +461,13 @@ def diagnosed(place):
         for (_, name, _, _, printed, due), called in zip(folders, calls):
             status, out, said = called.result()
             check("a fault: %s" % name, (status, out) == printed and without_pages(said) == due.rstrip("\n"), (status, out, said))
-            codes = {it.split(" ")[1] for it in said.splitlines() if it.startswith("p.fn:")}
+            codes = set(re.findall(r"^p\.fn:\d+:\d+: (E\d\d) ", said, re.MULTILINE))
             check("with what the page says: %s" % name, len([it for it in said.splitlines() if it not in without_pages(said).splitlines()]) >= len(codes), said)
+    for name, octets, line, column, said in (("E04", b" " * ((1 << 20) + 1), " " * 160, 1, "text is above 1 MiB"), ("E05", b"q { \xff }\n", "q { \ufffd }", 5, "text is not UTF-8")):
+        (place.files / "octets.fn").write_bytes(octets)
+        ran = place.call("show", "octets.fn", "--diagnose")
+        line = "octets.fn:1:%d: %s %s\n1 | %s\n  | %s^\n" % (column, name, said, line, " " * (column - 1))
+        check("a fault of octets: %s" % name, ran[:2] == (1, "profile:1:%d: %s %s\n" % (column, name, said)) and ran[2].startswith(line), ran)
     place.write("p.fn", "q { } ;;\n")
     line = "profile:1:8: E10 unexpected token\n"
     check("nothing more in a pipe", place.call("show", "p.fn") == (1, line, ""), place.call("show", "p.fn"))
@@ -494,6 +499,11 @@ def in_bundles(place):
         due = shown % ((above + 3,) * 4)
         check("a fault in a bundle: %s" % name, (status, out) == (1, line) and without_pages(said) == due, (status, out, said))
         check("no fault is shown unasked: %s" % name, place.call(*words, given=bundle.encode()) == (1, line, ""))
+    given = "=== words\nshow --top q\n=== profile\na = 1;\nq { UNCOMPRESSED { x [8]; } COMPRESSED { x =:= static; } }\na = 2;\n"
+    due = ("-:6:1: E21 name a is defined twice\n6 | a = 2;\n  | ^\n-:4:1: note: a is first defined here\n4 | a = 1;\n  | ^\n"
+           "see docs/FAULTS.md, E21; docs/NOTATION.md")
+    seen = place.call("--diagnose", given=given.encode())
+    check("the first place in a bundle", (seen[1], without_pages(seen[2])) == ("profile:3:1: E21 name a is defined twice\n", due), seen)
     for bundle, status, out in (("=== words\nshow --top q\n", 1, "bundle: I4 bad part profile\n"), ("", 1, "bundle: I4 bad part words\n"),
                                 ("=== words\nshow --top q\n=== profile\n", 1, "profile:1:1: E27 no such top method without parameters\n")):
         seen = place.call("--diagnose", given=bundle.encode())

@@ -113,8 +113,8 @@ def offered(folder, every):
 
 def in_bash(folder):
     """Bash offers commands, the options of each command, and files where one is due."""
-    due = [([""], COMMANDS), (["p"], ["pack", "prove"]), (["-"], ["--help", "--version"]), (["help", ""], COMMANDS), (["help", "un"], ["unpack"])]
-    due += [(["help", "pack", ""], []), (["foo", ""], []), (["foo", "-"], []), (["--version", ""], [])]
+    due = [([""], COMMANDS), (["p"], ["pack", "prove"]), (["-"], ["--help", "--version", "--diagnose"]), (["help", ""], COMMANDS), (["help", "un"], ["unpack"])]
+    due += [(["help", "pack", ""], []), (["foo", ""], []), (["foo", "-"], []), (["--version", ""], []), (["--d"], ["--diagnose"]), (["--diagnose", ""], []), (["--diagnose", "<", ""], HERE)]
     for it in front.INPUTS:
         due += [([it, "-"], options_of(it)), ([it, "probe.fn", ""], options_of(it)), ([it, ""], HERE), ([it, "pro"], ["probe.fn"])]
         due += [([it, "--top", ""], []), ([it, "--top", "plain", ""], HERE), ([it, "--top", "=", "plain", ""], HERE), ([it, "--top", "="], [])]
@@ -136,7 +136,8 @@ def in_zsh():
     if shutil.which("zsh"):
         ran = run(["zsh", "-n", ZSH])
         check("zsh", (ran.returncode, ran.stderr) == (0, ""), ran.stderr)
-    _, *cases = re.split(r"^        (\w+)\)\n", ZSH.read_text(), flags=re.MULTILINE)
+    head, *cases = re.split(r"^        (\w+)\)\n", ZSH.read_text(), flags=re.MULTILINE)
+    check("zsh offers at first", re.findall(r"'\(- \*\)'?\{?(?:-h,)?(--\w+)", head) == ["--help", "--version", "--diagnose"], head)
     check("zsh has the commands", cases[::2] == [*front.INPUTS], cases[::2])
     for command, text in zip(cases[::2], cases[1::2]):
         seen = sorted(re.findall(r"^            '.*?(--[\w-]+)[=}\[]", text, re.MULTILINE))

@@ -109,6 +109,7 @@ def rows():
     events, items = "send 0 8:01\nsend 1 8:01\nsend 0 8:02\n", "0 8:01\n1 8:01\n0 8:02\n"
     yield "two flows", bundle("line --top tick", TICK, events=events), "0080800180800014\n" + items, 0
     yield "two flows received", bundle("line --receive --top tick", TICK, octets="0080800180800014\n"), items, 0
+    yield "a bad part", "=== %s\n" % ("\x1b" * 90), "bundle: I4 bad part %s..\n" % ("\\u{1b}" * 80), 1
     yield "a flow that is reset", bundle("line --top tick", TICK, events="send 0 8:01\nreset 0\nsend 0 8:01\n"), "00808010008080\n0 8:01\n0 8:01\n", 0
 
 

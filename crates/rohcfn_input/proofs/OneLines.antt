@@ -44,15 +44,18 @@ digit_before d acc h =
     let high = glyph_high d in
     rw (above (digit_glyph false d) (omega arith), h) refl
 
-digits_line : (k n : ℕ) (acc : List ℕ) → is_line acc ≡ true → is_line (digits_onto k 10 false n acc) ≡ true
-digits_line zero n acc h = h
-digits_line (suc k) n acc h =
-    let here = digit_before (n % 10) acc h in
-    elim (n / 10 == 0) as (λ b. is_line (if b then digit_glyph false (n % 10) ∷ acc else digits_onto k 10 false (n / 10) (digit_glyph false (n % 10) ∷ acc)) ≡ true) [ true ↦ here | false ↦ digits_line k (n / 10) _ here ]
+digits_line : (k base n : ℕ) (acc : List ℕ) → is_line acc ≡ true → is_line (digits_onto k base false n acc) ≡ true
+digits_line zero base n acc h = h
+digits_line (suc k) base n acc h =
+    let here = digit_before (n % base) acc h in
+    elim (n / base == 0) as (λ b. is_line (if b then digit_glyph false (n % base) ∷ acc else digits_onto k base false (n / base) (digit_glyph false (n % base) ∷ acc)) ≡ true) [ true ↦ here | false ↦ digits_line k base (n / base) _ here ]
+
+pub digits_in : (base n : ℕ) → IsLine (digits base false n)
+unfolding digits
+digits_in base n = record { no_feed = digits_line 64 base n [] refl }
 
 pub number : (n : ℕ) → IsLine (decimal n)
-unfolding digits
-number n = record { no_feed = digits_line 64 n [] refl }
+number n = digits_in 10 n
 
 octet_high : (c : ℕ) → is_name_octet c ≡ true → 48 ≤ c
 octet_high c h = grind (arith, nat_tests)

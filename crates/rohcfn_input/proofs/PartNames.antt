@@ -1,48 +1,61 @@
 -- The names of parts are shown in one line each.
-use Rattle.std.proofs.Common.{◌≡◌, ◌≤◌, ℕ, zero, suc, ◌/◌, ◌%◌, ◌==◌, Bool, true, false, not, List, [], ◌∷◌, ◌++◌, refl, if◌then◌else◌, codes, length, take, nat_lt, slice_index, arith}
+use Rattle.std.proofs.Common.{◌≡◌, ◌≤◌, ℕ, ◌+◌, ◌/◌, ◌%◌, ◌==◌, Bool, true, false, not, List, [], ◌∷◌, ◌++◌, refl, if◌then◌else◌, codes, take, nat_lt, arith}
+use Rattle.std.specs.Char.{encode_utf8, is_control}
 use Rattle.std.specs.List.{flat_map}
-use Rattle.std.specs.Str.{is_utf8}
+use Rattle.std.specs.Str.{chars, is_utf8}
 use Rattle.std.proofs.lemmas.Bool.Decides.{nat_tests}
-use Rattle.hex.specs.Hex.{encode_lower, encode_with, lower_digits}
 use Rattle.rohcfn_input.specs.declared.bundle.BadPart.{BadPart}
 use Rattle.rohcfn_input.specs.declared.bundle.BadPart.TheVariants.{Front, Named}
-use Rattle.rohcfn_input.specs.Bundle.{BlamesPart, is_plain, shown_name, shown_octet, shown_text}
+use Rattle.rohcfn_input.specs.Bundle.{BlamesPart, escaped, is_long, shown_character, shown_name, shown_text}
 use Rattle.rohcfn_input.specs.OneLine.{IsLine, is_line}
-use Rattle.rohcfn_input.proofs.OneLines.{above, and_parts, joined}
+use Rattle.rohcfn_input.proofs.OneLines.{above, digits_in, joined}
 
--- no octet of a line is a line feed, nor is what is read behind its end
-octet_in : (xs : List ℕ) (i : ℕ) → is_line xs ≡ true → not (slice_index xs i == 10) ≡ true
-octet_in [] i h = refl
-octet_in (x ∷ xs) zero h = (and_parts (not (x == 10)) (is_line xs) h).0
-octet_in (x ∷ xs) (suc i) h = octet_in xs i (and_parts (not (x == 10)) (is_line xs) h).1
-
-digits_line : (octet : ℕ) → is_line (encode_lower (octet ∷ [])) ≡ true
-unfolding encode_with
-digits_line octet = rw (octet_in lower_digits (octet / 16) refl, octet_in lower_digits (octet % 16) refl) refl
-
-plain_high : (octet : ℕ) → is_plain octet ≡ true → 11 ≤ octet
-plain_high octet h = grind (arith, nat_tests)
-
-octet_line : (octet : ℕ) → IsLine (shown_octet octet)
-octet_line octet = record { no_feed = by_test (is_plain octet) refl }
+escaped_line : (c : ℕ) → IsLine (escaped c)
+escaped_line c = joined (joined front (digits_in 16 c)) end
   where
-    by_test : (b : Bool) → is_plain octet ≡ b → is_line (if b then octet ∷ [] else 92 ∷ 120 ∷ encode_lower (octet ∷ [])) ≡ true
-    by_test true e = rw (above octet (plain_high octet e)) refl
-    by_test false e = digits_line octet
+    front : IsLine (92 ∷ codes "u{")
+    front = record { no_feed = refl }
 
-octets_line : (octets : List ℕ) → IsLine (flat_map shown_octet octets)
-octets_line [] = record { no_feed = refl }
-octets_line (octet ∷ octets) = joined (octet_line octet) (octets_line octets)
+    end : IsLine (codes "}")
+    end = record { no_feed = refl }
+
+other_high : (c : ℕ) → is_control c ≡ false → 11 ≤ c
+other_high c h = grind (arith, nat_tests)
+
+-- the octets of a character past ASCII
+octet_high : (least x : ℕ) → 128 ≤ least → not (least + x == 10) ≡ true
+octet_high least x h = above (least + x) (omega arith)
+
+encoded_line : (c : ℕ) → is_control c ≡ false → is_line (encode_utf8 c) ≡ true
+unfolding encode_utf8
+encoded_line c h = by_length (nat_lt c 128) (nat_lt c 2048) (nat_lt c 65536)
+  where
+    next : ℕ → ℕ
+    next bits = 128 + bits % 64
+
+    by_length : (one two three : Bool) → is_line (if one then c ∷ [] else (if two then (192 + c / 64) ∷ next c ∷ [] else (if three then (224 + c / 4096) ∷ next (c / 64) ∷ next c ∷ [] else (240 + c / 262144) ∷ next (c / 4096) ∷ next (c / 64) ∷ next c ∷ []))) ≡ true
+    by_length true two three = rw (above c (other_high c h)) refl
+    by_length false true three = rw (octet_high 192 (c / 64) (omega arith), octet_high 128 (c % 64) (omega arith)) refl
+    by_length false false true = rw (octet_high 224 (c / 4096) (omega arith), octet_high 128 (c / 64 % 64) (omega arith), octet_high 128 (c % 64) (omega arith)) refl
+    by_length false false false = rw (octet_high 240 (c / 262144) (omega arith), octet_high 128 (c / 4096 % 64) (omega arith), octet_high 128 (c / 64 % 64) (omega arith), octet_high 128 (c % 64) (omega arith)) refl
+
+character_line : (c : ℕ) → IsLine (shown_character c)
+character_line c = by_test (is_control c) refl
+  where
+    by_test : (b : Bool) → is_control c ≡ b → IsLine (if b then escaped c else encode_utf8 c)
+    by_test true e = escaped_line c
+    by_test false e = record { no_feed = encoded_line c e }
+
+characters_line : (cs : List ℕ) → IsLine (flat_map shown_character cs)
+characters_line [] = record { no_feed = refl }
+characters_line (c ∷ cs) = joined (character_line c) (characters_line cs)
 
 text_line : (text : List ℕ) → IsLine (shown_text text)
-text_line text = by_test (nat_lt 64 (length text))
+text_line text = joined (characters_line (take 80 (chars text))) (dots (is_long text))
   where
-    dots : IsLine (codes "..")
-    dots = record { no_feed = refl }
-
-    by_test : (b : Bool) → IsLine (if b then flat_map shown_octet (take 64 text) ++ codes ".." else flat_map shown_octet text)
-    by_test true = joined (octets_line (take 64 text)) dots
-    by_test false = octets_line text
+    dots : (b : Bool) → IsLine (if b then codes ".." else [])
+    dots true = record { no_feed = refl }
+    dots false = record { no_feed = refl }
 
 pub shown_line : (input : List ℕ) (bad : BadPart) → BlamesPart input bad → IsLine (shown_name bad)
 shown_line input Front h = record { no_feed = refl }

@@ -1,8 +1,9 @@
 -- What a bundle's parts are.
-use Rattle.std.specs.Prelude.{◌≡◌, ◌≢◌, ◌-◌, ◌==◌, ◌||◌, ◌&&◌, not, ℕ, Bool, true, false, List, [], ◌∷◌, ◌++◌, Option, None, Some, if◌then◌else◌, length, take, drop, codes, nat_eq, nat_le, nat_lt, slice_index, option_map}
+use Rattle.std.specs.Prelude.{◌≡◌, ◌≢◌, ◌-◌, ◌==◌, ◌||◌, ℕ, Bool, true, false, List, [], ◌∷◌, ◌++◌, Option, None, Some, if◌then◌else◌, length, take, drop, codes, nat_eq, nat_lt, slice_index, option_map}
+use Rattle.std.specs.Char.{encode_utf8, is_control}
+use Rattle.std.specs.Fmt.{digits}
 use Rattle.std.specs.List.{AllByRecursion, flat_map, starts_with, ends_with}
-use Rattle.std.specs.Str.{bytes_eq, is_utf8}
-use Rattle.hex.specs.Hex.{encode_lower}
+use Rattle.std.specs.Str.{bytes_eq, chars, is_utf8}
 use Rattle.rohcfn_input.specs.declared.bundle.Parts.{Parts}
 use Rattle.rohcfn_input.specs.declared.bundle.BadPart.{BadPart}
 use Rattle.rohcfn_input.specs.declared.bundle.BadPart.TheVariants.{Front, Named}
@@ -133,17 +134,21 @@ pub record IsSpellable (part : Part) : Type 0 where
 abbrev pub HasSpelled : List Part → Type 0
 HasSpelled parts = (parts_of (flat_map spelled parts) ≡ parts) × (front_of (flat_map spelled parts) ≡ [])
 
--- a visible octet of ASCII or a blank, and no backslash
-abbrev pub is_plain : ℕ → Bool
-is_plain octet = nat_le 32 octet && nat_le octet 126 && not (octet == 92)
+-- `\u{`, the character's number in lower-case hexadecimal digits, and `}`
+abbrev pub escaped : ℕ → List ℕ
+escaped c = 92 ∷ codes "u{" ++ digits 16 false c ++ codes "}"
 
--- an octet in a line: itself where it is plain, else a backslash, an x and two hex digits
-abbrev pub shown_octet : ℕ → List ℕ
-shown_octet octet = if is_plain octet then octet ∷ [] else 92 ∷ 120 ∷ encode_lower (octet ∷ [])
+-- a character in a line: itself, but a control character is escaped
+abbrev pub shown_character : ℕ → List ℕ
+shown_character c = if is_control c then escaped c else encode_utf8 c
 
--- a text in a line: where it has more than 64 octets, its first 64 and two dots
+-- more characters than are shown
+abbrev pub is_long : List ℕ → Bool
+is_long text = nat_lt 80 (length (chars text))
+
+-- a text in a line: its first 80 characters, and two dots where it has more
 abbrev pub shown_text : List ℕ → List ℕ
-shown_text text = if nat_lt 64 (length text) then flat_map shown_octet (take 64 text) ++ codes ".." else flat_map shown_octet text
+shown_text text = flat_map shown_character (take 80 (chars text)) ++ (if is_long text then codes ".." else [])
 
 -- a part's name in a line: itself where it is text
 abbrev pub shown_name : BadPart → List ℕ

@@ -1,10 +1,12 @@
 //! The parts of the program's input.
 ghost use Rattle.std.specs.Prelude.{◌≡◌, ◌≢◌, ◌↔◌, ◌+◌, ◌<◌, ◌≤◌, List, [], ◌∷◌, ◌++◌, None, true, length, take, drop, string_bytes, IfOk, IfErr, IfSome, IfNone, OnOk, slice_index};
 ghost use Rattle.std.specs.List.{AllByRecursion, flat_map};
-ghost use Rattle.rohcfn_input.specs.Bundle.{BlamesPart, HasSpelled, HoldsParts, IsBundle, IsSpellable, Part, full_lines, is_heading, is_known, name_in, named, parts_in, parts_of, shown_name, shown_octet, shown_text, text_before, text_named, without_end};
+ghost use Rattle.std.specs.Str.{chars};
+ghost use Rattle.rohcfn_input.specs.Bundle.{BlamesPart, HasSpelled, HoldsParts, IsBundle, IsSpellable, Part, escaped, full_lines, is_heading, is_known, name_in, named, parts_in, parts_of, shown_character, shown_name, shown_text, text_before, text_named, without_end};
 ghost use Rattle.rohcfn_input.specs.Bundle as spec;
 
 use std::alloc::{AllocError, Global};
+use std::fmt::Write;
 
 /// The octets of the parts that the input has; an absent part is `None`.
 #[derive(Clone, Copy)]
@@ -46,8 +48,8 @@ const EVENTS: &[u8] = b"events";
 
 const OCTETS: &[u8] = b"octets";
 
-/// No more octets of a bad part's name are shown.
-const SHOWN_LIMIT: usize = 64;
+/// No more characters of a bad part's name are shown.
+const SHOWN_LIMIT: usize = 80;
 
 /// The parts of an input: a line that begins with three equals signs and a blank has the name of a
 /// part, whose text goes on up to the next such line. Takes no memory, and time by the input's length.
@@ -83,14 +85,14 @@ pub fn split(input: &[u8]) -> Result<Parts<'_>, BadPart<'_>>
     Ok(parts)
 }
 
-/// A bad part's name in a line, where it is text: its first 64 octets, in a form that a terminal shows and doesn't obey.
+/// A bad part's name in a line, where it is text: its first 80 characters, in a form that a terminal shows and doesn't obey.
 pub fn name_shown(alloc: Global, bad: BadPart<'_>) -> Result<String, AllocError>
     ensures { IfOk result (λ shown. string_bytes shown ≡ shown_name bad.entry) }
 {
     match bad {
         BadPart::Front => String::from_str(alloc, "-"),
         BadPart::Named(name) => match str::from_utf8(name) {
-            Ok(_text) => text_shown(alloc, name),
+            Ok(text) => text_shown(alloc, text),
             Err(_fault) => String::from_str(alloc, "-"),
         },
     }
@@ -103,48 +105,51 @@ pub fn spelled_bundle()
     ensures { (parts : List Part) → AllByRecursion IsSpellable parts → HasSpelled parts }
 {}
 
-// The first octets of a text, and two dots where there are more.
-fn text_shown(alloc: Global, text: &[u8]) -> Result<String, AllocError>
+// The first characters of a text, and two dots where it has more.
+fn text_shown(alloc: Global, text: &str) -> Result<String, AllocError>
     ensures { IfOk result (λ shown. string_bytes shown ≡ shown_text text.now) }
 {
     let mut shown = String::new(alloc);
-    if text.len() > SHOWN_LIMIT {
-        let (front, _rest) = text.split_at(SHOWN_LIMIT);
-        push_all_shown(alloc, &mut shown, front)?;
+    push_front(&mut shown, text)?;
+    if is_long(text) {
         shown.push_str("..")?;
-    } else {
-        push_all_shown(alloc, &mut shown, text)?;
     }
     Ok(shown)
 }
 
-// Adds octets, each as it is shown.
-fn push_all_shown(alloc: Global, shown: &mut String, octets: &[u8]) -> Result<(), AllocError>
-    ensures { OnOk result (string_bytes shown.new ≡ string_bytes shown.old ++ flat_map shown_octet octets.now) }
+// Adds the first characters of a text, each as it is shown.
+fn push_front(shown: &mut String, text: &str) -> Result<(), AllocError>
+    ensures { OnOk result (string_bytes shown.new ≡ string_bytes shown.old ++ flat_map shown_character (take 80 (chars text.now))) }
 {
-    for octet in octets {
-        push_shown(alloc, shown, *octet)?;
+    for character in text.chars().take(SHOWN_LIMIT) {
+        push_shown(shown, character)?;
     }
     Ok(())
 }
 
-// Adds an octet as it is, or a backslash, an x and its two hex digits.
-fn push_shown(alloc: Global, shown: &mut String, octet: u8) -> Result<(), AllocError>
-    ensures { OnOk result (string_bytes shown.new ≡ string_bytes shown.old ++ shown_octet octet) }
+// Whether a text has more characters than are shown.
+fn is_long(text: &str) -> bool
+    ensures { result ≡ spec.is_long text.now }
 {
-    if is_plain(octet) {
-        return shown.push(char::from(octet));
-    }
-    let digits = hex::encode(alloc, [octet])?;
-    shown.push_str("\\x")?;
-    shown.push_str(digits.as_str())
+    text.chars().count() > SHOWN_LIMIT
 }
 
-// Whether a terminal shows the octet alone, and it is no backslash.
-fn is_plain(octet: u8) -> bool
-    ensures { result ≡ spec.is_plain octet }
+// Adds a character as it is, but a control character escaped.
+fn push_shown(shown: &mut String, character: char) -> Result<(), AllocError>
+    ensures { OnOk result (string_bytes shown.new ≡ string_bytes shown.old ++ shown_character character) }
 {
-    32 <= octet && octet <= 126 && octet != b'\\'
+    if character.is_control() {
+        push_escaped(shown, u32::from(character))
+    } else {
+        shown.push(character)
+    }
+}
+
+// Adds a character by its number, in lower-case hexadecimal digits.
+fn push_escaped(shown: &mut String, number: u32) -> Result<(), AllocError>
+    ensures { OnOk result (string_bytes shown.new ≡ string_bytes shown.old ++ escaped number) }
+{
+    write!(shown, "\\u{{{number:x}}}")
 }
 
 // The parts and one more, or nothing where its name is unknown or theirs.

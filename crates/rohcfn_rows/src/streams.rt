@@ -219,22 +219,22 @@ fn refuses_parts(rt: HostRuntime) {
             b"bundle: I4 bad part items\n",
         ),
         (b"=== items\n=== \xff\n", b"bundle: I4 bad part -\n"),
-        (b"=== words\r\r\n", b"bundle: I4 bad part words\\x0d\n"),
+        (b"=== words\r\r\n", b"bundle: I4 bad part words\\u{d}\n"),
         (
             b"=== \x1b[31mred\x07\n",
-            b"bundle: I4 bad part \\x1b[31mred\\x07\n",
+            b"bundle: I4 bad part \\u{1b}[31mred\\u{7}\n",
         ),
         (
             b"=== \xc3\xa9 \\~\x7f\n",
-            b"bundle: I4 bad part \\xc3\\xa9 \\x5c~\\x7f\n",
+            b"bundle: I4 bad part \xc3\xa9 \\~\\u{7f}\n",
         ),
         (
-            b"=== 0123456789abcdef0123456789abcdef0123456789abcdef0123456789abcdef\n",
-            b"bundle: I4 bad part 0123456789abcdef0123456789abcdef0123456789abcdef0123456789abcdef\n",
+            b"=== 0123456789abcdef0123456789abcdef0123456789abcdef0123456789abcdef0123456789abcdef\n",
+            b"bundle: I4 bad part 0123456789abcdef0123456789abcdef0123456789abcdef0123456789abcdef0123456789abcdef\n",
         ),
         (
-            b"=== 0123456789abcdef0123456789abcdef0123456789abcdef0123456789abcdefg\n",
-            b"bundle: I4 bad part 0123456789abcdef0123456789abcdef0123456789abcdef0123456789abcdef..\n",
+            b"=== 0123456789abcdef0123456789abcdef0123456789abcdef0123456789abcdef0123456789abcdefg\n",
+            b"bundle: I4 bad part 0123456789abcdef0123456789abcdef0123456789abcdef0123456789abcdef0123456789abcdef..\n",
         ),
         (
             b"=== words\npack --top a\npack --top b\n",
