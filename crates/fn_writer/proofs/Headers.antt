@@ -1,6 +1,6 @@
 -- Where the header fields of a filling begin, and what one of them holds where the header is in front of some bits.
-use Rattle.std.proofs.Common.{◌≡◌, refl, sym, ◌∙◌, ap, subst, ℕ, zero, suc, ◌+◌, ◌≤◌, Bool, true, false, List, [], ◌∷◌, ◌++◌, length, take, drop, arith, append_assoc}
-use Rattle.std.specs.Prelude.{ℤ, Option, Some, None, slice_get, option_map}
+use Rattle.std.proofs.Common.{◌≡◌, refl, sym, ◌∙◌, ap, ℕ, zero, suc, ◌+◌, ◌≤◌, Bool, true, false, List, [], ◌∷◌, ◌++◌, length, take, drop, arith, append_assoc}
+use Rattle.std.specs.Prelude.{ℤ, Some, slice_get, option_map}
 use Rattle.std.proofs.lemmas.List.{length-append}
 use Rattle.std.proofs.lemmas.Option.{slice_get-map}
 use Rattle.fn_normal.specs.declared.profile.Declared.{Declared}
@@ -17,9 +17,9 @@ use Rattle.fn_filling.specs.Entries.{Path}
 use Rattle.fn_filling.specs.Fillings.{Sides, sides_of, fields_of, level, header, header_bits, is_header}
 use Rattle.fn_filling.proofs.Unique.{also_at}
 use Rattle.fn_fits.specs.Bounded.{sizes_at}
-use Rattle.fn_fits.specs.Fits.{Context, Fits, FieldFits, format_at, assigned, side_of}
+use Rattle.fn_fits.specs.Fits.{Context, Fits, FieldFits, assigned, side_of}
 use Rattle.fn_fits.proofs.Bounding.{lie-in-bounds}
-use Rattle.fn_fits.proofs.Inverted.{FitsParts, parts, length-fields}
+use Rattle.fn_fits.proofs.Inverted.{FitsParts, length-fields}
 use Rattle.fn_fits.proofs.Sides.{header_splits}
 use Rattle.fn_fits.proofs.Sized.{one_value, and_then_some}
 use Rattle.fn_rules.proofs.Inputs.{joined, header_cons, declared_of, declared_in}
@@ -96,7 +96,7 @@ module _ (fields : List Field) (sizes : List Sizes) (xs : List Sides) (same : de
       omega (arith, before, long, whole, sum)
 
 -- What a header field of a fitting filling holds, whose header is in front of these bits: it is in front where the field begins.
-module _ (methods : List Method) (table : List MethodSizes) (sized : AreSizes methods table) (ctx : Context) (k : ℕ) (args : List ℤ) (path : Path) (f : Filling) (p : FitsParts methods ctx k args path f) (fits : Fits methods ctx k args path f)
+module _ (methods : List Method) (table : List MethodSizes) (sized : AreSizes methods table) (ctx : Context) (k : ℕ) (args : List ℤ) (path : Path) (f : Filling) (p : FitsParts methods ctx k args path f) (fitting : Fits methods ctx k args path f)
     (format : Format) (one : p.format ≡ format) (sizes : FormatSizes) (sizes_are : sizes_at table k (out-Filling f).format ≡ Some sizes) (bits rest : List Bool) (in_front : bits ≡ header f ++ rest) where
   pub record Held (i offset : ℕ) (d : Field) : Type 0 where
     pub field : FilledField
@@ -108,7 +108,7 @@ module _ (methods : List Method) (table : List MethodSizes) (sized : AreSizes me
   pub held : (i offset : ℕ) (d : Field) → HaveBefore format.fields sizes.fields i offset → slice_get format.fields i ≡ Some d → is_header d.declared.part ≡ true → Held i offset d
   held i offset d before d_is in_header =
       let s = and_then_some (λ z. slice_get z.formats (out-Filling f).format) (slice_get table k) sizes sizes_are in
-      let lengths = (lie-in-bounds methods table sized ctx k args path f fits s.0 sizes s.1 s.2).0 in
+      let lengths = (lie-in-bounds methods table sized ctx k args path f fitting s.0 sizes s.1 s.2).0 in
       let same : declared_of (level f) ≡ declared_in format.fields = p.level_fits.shaped.declared_is ∙ ap (λ (z : Format). declared_in z.fields) one in
       let front = header_bits (take i (level f)) in
       let long : length front ≡ offset = counted format.fields sizes.fields (level f) same (λ i x z at_x at_z. let l = lengths.fields i x z at_x at_z in (l.uncompressed_lies.least, l.uncompressed_lies.most)) before in

@@ -1,6 +1,6 @@
 -- Why a fitting field holds no bits in front of those that lack its constant.
-use Rattle.std.proofs.Common.{◌≡◌, refl, sym, ◌∙◌, ap, subst, ℕ, zero, suc, Bool, true, false, List, [], ◌∷◌, ◌++◌, drop}
-use Rattle.std.specs.Prelude.{ℤ, Option, Some, None, slice_get, option_map, option_and_then}
+use Rattle.std.proofs.Common.{◌≡◌, refl, sym, ◌∙◌, ap, subst, ℕ, zero, suc, Bool, true, List, [], ◌∷◌, ◌++◌, drop}
+use Rattle.std.specs.Prelude.{ℤ, Option, Some, None, slice_get, option_and_then}
 use Rattle.fn_expr.specs.declared.expr.Attribute.{Attribute}
 use Rattle.fn_expr.specs.declared.expr.Cond.{Cond}
 use Rattle.fn_expr.specs.declared.expr.Side.{Side}
@@ -22,7 +22,7 @@ use Rattle.fn_profile.specs.Resolved.{Resolved}
 use Rattle.fn_filling.specs.declared.filling.Filling.{Filling, out-Filling}
 use Rattle.fn_filling.specs.declared.filling.FilledField.{FilledField}
 use Rattle.fn_filling.specs.Entries.{Path, below}
-use Rattle.fn_filling.specs.Fillings.{sides_of, fields_of, level, header}
+use Rattle.fn_filling.specs.Fillings.{sides_of, level, header}
 use Rattle.fn_fits.specs.Bounded.{sizes_at}
 use Rattle.fn_fits.specs.Fits.{Context, Fits, FieldFits, format_at, assigned, side_of, reference_of, two_values, vals}
 use Rattle.fn_fits.proofs.Inverted.{FitsParts, parts, coded_parts, called_parts}
