@@ -1,7 +1,7 @@
 #!/usr/bin/env bash
 # Runs each example and each step of the tutorial through the built program and compares what it prints; then what the pages show, what is left out of RFC
 # 4997 and the pieces of profiles, what editors colour, headers of an operating system and back, the cases of cases/ and of built.py, fronts of texts,
-# certificates with a slip and with drawn trees against a second reading, packets by certificates with a slip, round trips, fields and lines of flows against a
+# certificates with a slip and with drawn trees against a second reading, packets by certificates with a slip, round trips, fields, dead formats and lines of flows against a
 # slow search, runs that are refused memory, what bin/rohcfn and bin/prove do where no program stands, what bin/rohcfn does with files, and
 # the man page and completion.
 set -u
@@ -34,6 +34,7 @@ echo "examples: $passed passed, $failed failed"
 ./trees.py || failed=1
 ./roundtrip.py || failed=1
 ./fields.py || failed=1
+./lint.py || failed=1
 ./lines.py || failed=1
 ./refusals.py || failed=1
 ./first_call.py "$program" || failed=1

@@ -1,0 +1,93 @@
+#!/usr/bin/env python3
+"""Through the built program: what `lint` prints. Of the profiles of samples.py, profiles/ and tutorial/, by each format of which something can be packed, it prints nothing. Of drawn small profiles
+each format that it names has no filling by a slow search over all headers, in contexts that are drawn (searching.py). A format that gets a condition above the range of its field is named, at
+the place of that condition."""
+import itertools
+import pathlib
+import random
+import re
+import subprocess
+import sys
+
+import roundtrip
+import samples
+import small
+from searching import Search
+
+HERE = pathlib.Path(__file__).parent
+LINE = re.compile(r"(\d+):(\d+): warning p\.(\w): .*: nothing fits this format")
+ABOVE = "ENFORCE(x.UVALUE > 3);"  # x has two bits
+METHOD = re.compile(r"^(\w+)(?:\(.*\))?$", re.MULTILINE)
+
+
+def printed(profile, top):
+    data = "=== words\nlint --top %s\n=== profile\n%s" % (top, profile)
+    run = subprocess.run([roundtrip.PROGRAM], input=data.encode(), stdout=subprocess.PIPE, check=False)
+    return run.stdout.decode(), run.returncode
+
+
+def useful():
+    """Profiles with their tops."""
+    for name, text in samples.TEXTS.items():
+        yield name, text, name
+    for path in sorted((HERE / "profiles").glob("*.profile")):
+        text = path.read_text()
+        yield path.name, text, METHOD.findall(text)[-1]
+    for path in sorted((HERE / "tutorial").glob("*.bundle")):
+        parts = dict(it.split("\n", 1) for it in path.read_text().split("=== ")[1:])
+        if path.with_suffix(".expected").read_text().startswith("accepted") and "profile" in parts:
+            yield path.name, parts["profile"], parts["words"].split("--top ")[1].split()[0]
+
+
+def has_filling(methods, initial, form, draw):
+    """Whether the format of the top has a filling: for every header, in the empty context and in some that are drawn."""
+    contexts = [{}] + [{name: format(draw.randrange(4), "02b") for name in "xyms"} for _ in range(3)]
+    headers = ["".join(it) for it in itertools.product("01", repeat=methods[-1].formats[0].most("U"))]
+    for context, header in itertools.product(contexts, headers):
+        asked = {it.name: "00" for it in methods[-1].formats[0].fields if it.asked}
+        if any(it.index == form for it in Search(methods, context, initial).fillings(len(methods) - 1, (), "", header, asked)):
+            return True
+    return False
+
+
+def due_of(profile, name, base):
+    """The profile with such a condition in the format, and what is due for it."""
+    lines = profile.split("\n")
+    at = next(place for place, it in enumerate(lines) if it.startswith("  COMPRESSED %s {" % name))
+    begin = lines[at].index("{") + 2
+    lines[at] = lines[at][:begin] + ABOVE + " " + lines[at][begin:]
+    own = "%d:%d: warning p.%s: the condition is never true: nothing fits this format" % (at + 1, begin + ABOVE.index("x") + 1, name)
+    due = sorted([*base, own], key=lambda it: int(it.split(":")[0]))
+    return "\n".join(lines), "".join(it + "\n" for it in due)
+
+
+def drawn(draw):
+    """What is wrong with drawn profiles, one by one."""
+    for profile, methods, initial in small.referring()[:120]:
+        out, status = printed(profile, "p")
+        base = out.splitlines()
+        found = [LINE.fullmatch(it) for it in base]
+        names = [it.name for it in methods[-1].formats]
+        named = [it[3] for it in found if it]
+        yield None if status == 0 and all(found) and len(set(named)) == len(named) else (profile, out)
+        for name in named:
+            yield (profile, out) if has_filling(methods, initial, names.index(name), draw) else None
+        for name in names:
+            if name not in named:
+                changed, due = due_of(profile, name, base)
+                yield None if printed(changed, "p") == (due, 0) else (changed, printed(changed, "p"), due)
+
+
+def main():
+    passed = failed = 0
+    silent = (None if printed(profile, top) == ("", 0) else (name, printed(profile, top)) for name, profile, top in useful())
+    for wrong in itertools.chain(silent, drawn(random.Random(4997))):
+        passed, failed = passed + (wrong is None), failed + (wrong is not None)
+        if wrong is not None and failed < 5:
+            print("lint:", *wrong)
+    print("lint: %d passed, %d failed" % (passed, failed))
+    return 1 if failed or not passed else 0
+
+
+if __name__ == "__main__":
+    sys.exit(main())
