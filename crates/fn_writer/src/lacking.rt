@@ -148,7 +148,7 @@ fn lacks_field(
 }
 
 /// Whether the method has more formats than one.
-fn has_more(accepted: &Accepted, method: usize) -> bool
+pub(crate) fn has_more(accepted: &Accepted, method: usize) -> bool
     ensures { result ≡ false → format_at accepted.now.profile.methods method 1 ≡ None }
 {
     format_of(accepted, method, 1).is_some()
