@@ -1,14 +1,15 @@
 #!/usr/bin/env python3
 """What a candidate costs that fails, in instructions, by callgrind, on the built program or on another that is given as an argument: an item of `pack` whose last candidate is the one that has it, or
-that none has, over the number of candidates that fail. Where the header has other bits than the choices tell, a candidate fails by a look; else it is drawn up and walked."""
+that none has, over the number of candidates that fail, 65,536 in each profile. Where the header has other bits than the choices tell, a candidate fails by a look, also where the choice goes down
+calls as an argument; else it is drawn up and walked. Each profile has a bound."""
 import re
 import subprocess
 import sys
 
-from measure import PROGRAM
+from measure import PROGRAM, report
 
 # the bits of the choices of each profile together
-BITS = 12
+BITS = 16
 
 
 def hexed(bits):
@@ -17,24 +18,24 @@ def hexed(bits):
 
 def pick():
     """A header field that is the choice."""
-    return "top { UNCOMPRESSED { x [12]; } COMPRESSED { c =:= irregular(12) [12]; x =:= uncompressed_value(12, c.UVALUE); } }", "1" * 12
+    return "top { UNCOMPRESSED { x [16]; } COMPRESSED { c =:= irregular(16) [16]; x =:= uncompressed_value(16, c.UVALUE); } }", "1" * 16
 
 
 def sum_of_two():
     """Two choices, of which the header has the sum and then each."""
-    return ("top { UNCOMPRESSED { s [8]; x [6]; y [6]; } COMPRESSED { c =:= irregular(6) [6]; d =:= irregular(6) [6]; s =:= uncompressed_value(8, c.UVALUE + d.UVALUE);"
-            " x =:= uncompressed_value(6, c.UVALUE); y =:= uncompressed_value(6, d.UVALUE); } }"), format(126, "08b") + "1" * 12
+    return ("top { UNCOMPRESSED { s [9]; x [8]; y [8]; } COMPRESSED { c =:= irregular(8) [8]; d =:= irregular(8) [8]; s =:= uncompressed_value(9, c.UVALUE + d.UVALUE);"
+            " x =:= uncompressed_value(8, c.UVALUE); y =:= uncompressed_value(8, d.UVALUE); } }"), format(510, "09b") + "1" * 16
 
 
 def called():
     """The choice is the argument of a call, whose header is a constant of it."""
-    return ("inner(n) { UNCOMPRESSED { x [12]; y [4]; } COMPRESSED { x =:= uncompressed_value(12, n); y =:= irregular(4) [4]; ENFORCE(n <= 4095); } }\n"
-            "top { UNCOMPRESSED { z [16]; } COMPRESSED { c =:= irregular(12) [12]; z =:= inner(c.UVALUE); } }"), "1" * 16
+    return ("inner(n) { UNCOMPRESSED { x [16]; y [4]; } COMPRESSED { x =:= uncompressed_value(16, n); y =:= irregular(4) [4]; ENFORCE(n <= 65535); } }\n"
+            "top { UNCOMPRESSED { z [20]; } COMPRESSED { c =:= irregular(16) [16]; z =:= inner(c.UVALUE); } }"), "1" * 20
 
 
 def squared():
     """A condition that no look evaluates tells the choice."""
-    return ("top { UNCOMPRESSED { x [32]; } COMPRESSED { c =:= irregular(12) [12]; ENFORCE(x.UVALUE == c.UVALUE * c.UVALUE); x =:= uncompressed_value(32, c.UVALUE ^ 2); } }"), format(4095 * 4095, "032b")
+    return ("top { UNCOMPRESSED { x [32]; } COMPRESSED { c =:= irregular(16) [16]; ENFORCE(x.UVALUE == c.UVALUE * c.UVALUE); x =:= uncompressed_value(32, c.UVALUE ^ 2); } }"), format(65535 * 65535, "032b")
 
 
 def deep():
@@ -42,11 +43,15 @@ def deep():
     methods = []
     for depth in range(16, 0, -1):
         name, value = ("inner%d(n)" % depth, "n") if depth > 1 else ("top", "c.UVALUE")
-        last = "inner%d(%s);" % (depth + 1, value) if depth < 16 else "uncompressed_value(13, n + 4096);"
+        last = "inner%d(%s);" % (depth + 1, value) if depth < 16 else "uncompressed_value(17, n + 65536);"
         methods.append("%s { UNCOMPRESSED { %s z [%d]; } COMPRESSED { %s %s z =:= %s } }" % (
-            name, " ".join("x%d [2];" % it for it in range(15)), 13 + 30 * (16 - depth), "" if depth > 1 else "c =:= irregular(12) [12];",
+            name, " ".join("x%d [2];" % it for it in range(15)), 17 + 30 * (16 - depth), "" if depth > 1 else "c =:= irregular(16) [16];",
             " ".join("x%d =:= irregular(2) [2];" % it for it in range(15)), last))
-    return "\n".join(methods), "0" * (16 * 30 + 13)
+    return "\n".join(methods), "0" * (16 * 30 + 17)
+
+
+# the most instructions that a candidate may cost
+BOUNDS = {pick: 1200, sum_of_two: 25, called: 1700, squared: 10000, deep: 50000}
 
 
 def of_run(program, profile, items):
@@ -60,14 +65,17 @@ def of_run(program, profile, items):
 
 def main():
     program = sys.argv[1] if len(sys.argv) > 1 else PROGRAM
-    print("| profile | instructions an item | a candidate | answer |")
-    print("|---|---|---|---|")
-    for profile in (pick, sum_of_two, called, squared, deep):
+    print("| profile | instructions an item | a candidate | at most | answer |")
+    print("|---|---|---|---|---|")
+    well = True
+    for profile, bound in BOUNDS.items():
         text, bits = profile()
         few, _ = of_run(program, text, [])
         one, answer = of_run(program, text, [hexed(bits)])
         cost = one - few
-        print("| %s | %s | %s | %s |" % (profile.__name__, "{:,}".format(cost), "{:,}".format(cost // 2 ** BITS), answer.split("\n")[0][:40]), flush=True)
+        well = well and cost <= bound * 2 ** BITS
+        print("| %s | %s | %s | %s | %s |" % (profile.__name__, "{:,}".format(cost), "{:,}".format(cost // 2 ** BITS), "{:,}".format(bound), answer.split("\n")[0][:40]), flush=True)
+    report("candidates", well)
 
 
 if __name__ == "__main__":

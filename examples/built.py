@@ -227,46 +227,46 @@ def pick(width):
 
 
 def choices():
-    """A choice of 12 bits, of which the last value fits, and one of 13 bits, which no step makes."""
-    profile, certificate = pick(12)
-    item = b"=== items\n12:fff0\n"
-    yield "a choice of 12 bits", bundle(b"pack --top pick", profile, item), 0, b"12:fff0\n"
-    yield "a choice of 12 bits by a certificate", bundle(b"pack --top pick", profile, b"=== certificate\n" + certificate + item), 0, b"12:fff0\n"
-    yield "a choice of 12 bits proved", bundle(b"prove --top pick", profile), 0, certificate
-    profile, certificate = pick(13)
-    yield "a choice of 13 bits", bundle(b"prove --top pick", profile), 1, b"prove: P1 NoPlan pick - write c U c C\n"
-    yield "a choice of 13 bits by a certificate", bundle(b"check --top pick", profile, b"=== certificate\n" + certificate), 1, b"check: V2 pick - write step 5\n"
+    """A choice of 16 bits, of which the last value fits, and one of 17 bits, which no step makes."""
+    profile, certificate = pick(16)
+    item = b"=== items\n16:ffff\n"
+    yield "a choice of 16 bits", bundle(b"pack --top pick", profile, item), 0, b"16:ffff\n"
+    yield "a choice of 16 bits by a certificate", bundle(b"pack --top pick", profile, b"=== certificate\n" + certificate + item), 0, b"16:ffff\n"
+    yield "a choice of 16 bits proved", bundle(b"prove --top pick", profile), 0, certificate
+    profile, certificate = pick(17)
+    yield "a choice of 17 bits", bundle(b"prove --top pick", profile), 1, b"prove: P1 NoPlan pick - write c U c C\n"
+    yield "a choice of 17 bits by a certificate", bundle(b"check --top pick", profile, b"=== certificate\n" + certificate), 1, b"check: V2 pick - write step 5\n"
 
 
 def top(formats, before=""):
-    """A method of these formats with a header of 13 bits, after other methods."""
-    return (before + "top {\n  UNCOMPRESSED { x [13]; }\n%s}\n" % formats).encode()
+    """A method of these formats with a header of 17 bits, after other methods."""
+    return (before + "top {\n  UNCOMPRESSED { x [17]; }\n%s}\n" % formats).encode()
 
 
 def by_choices(width):
-    """A choice of so many bits and one of 6, which are the header's number."""
-    return top("  COMPRESSED { a =:= irregular(%d) [%d]; b =:= irregular(6) [6]; x =:= uncompressed_value(13, a.UVALUE * 64 + b.UVALUE); }\n" % (width, width))
+    """A choice of so many bits and one of 8, which are the header's number."""
+    return top("  COMPRESSED { a =:= irregular(%d) [%d]; b =:= irregular(8) [8]; x =:= uncompressed_value(17, a.UVALUE * 256 + b.UVALUE); }\n" % (width, width))
 
 
 def by_formats(first, second):
     """Two formats, each with a choice of so many bits; the headers of the second come after those of the first."""
-    line = "  COMPRESSED %s { d =:= '%d' [1]; c =:= irregular(%d) [%d]; x =:= uncompressed_value(13, c.UVALUE + %d); }\n"
+    line = "  COMPRESSED %s { d =:= '%d' [1]; c =:= irregular(%d) [%d]; x =:= uncompressed_value(17, c.UVALUE + %d); }\n"
     return top(line % ("a", 0, first, first, 0) + line % ("b", 1, second, second, 1 << first))
 
 
 def by_call(width):
-    """A choice of so many bits, and one of 6 in the method that is called with it."""
-    inner = "inner(k) {\n  UNCOMPRESSED { x [13]; }\n  COMPRESSED { b =:= irregular(6) [6]; x =:= uncompressed_value(13, k * 64 + b.UVALUE); }\n}\n"
-    return top("  COMPRESSED { a =:= irregular(%d) [%d]; x =:= inner(a.UVALUE) [6]; }\n" % (width, width), inner)
+    """A choice of so many bits, and one of 8 in the method that is called with it."""
+    inner = "inner(k) {\n  UNCOMPRESSED { x [17]; }\n  COMPRESSED { b =:= irregular(8) [8]; x =:= uncompressed_value(17, k * 256 + b.UVALUE); }\n}\n"
+    return top("  COMPRESSED { a =:= irregular(%d) [%d]; x =:= inner(a.UVALUE) [8]; }\n" % (width, width), inner)
 
 
 def candidates():
-    """Profiles of 4,096 candidates, whose headers are the numbers up to 4,095, the last one by the last candidate, and profiles of more."""
-    for name, profile in [("two choices", by_choices(6)), ("two formats", by_formats(11, 11)), ("a call", by_call(6))]:
-        yield "4096 candidates by %s" % name, bundle(b"check --top top", profile), 0, b"accepted\n"
-        yield "the last of 4096 candidates by %s" % name, bundle(b"pack --top top", profile, b"=== items\n13:7ff8\n"), 0, b"12:fff0\n"
-        yield "none of 4096 candidates by %s" % name, bundle(b"pack --top top", profile, b"=== items\n13:8000\n"), 1, b"item 1: F3 NoFormat\n"
-    for name, profile in [("8192 candidates by two choices", by_choices(7)), ("4097 candidates by two formats", by_formats(12, 0)), ("8192 candidates by a call", by_call(7))]:
+    """Profiles of 65,536 candidates, whose headers are the numbers up to 65,535, the last one by the last candidate, and profiles of more."""
+    for name, profile in [("two choices", by_choices(8)), ("two formats", by_formats(15, 15)), ("a call", by_call(8))]:
+        yield "65536 candidates by %s" % name, bundle(b"check --top top", profile), 0, b"accepted\n"
+        yield "the last of 65536 candidates by %s" % name, bundle(b"pack --top top", profile, b"=== items\n17:7fff80\n"), 0, b"16:ffff\n"
+        yield "none of 65536 candidates by %s" % name, bundle(b"pack --top top", profile, b"=== items\n17:800000\n"), 1, b"item 1: F3 NoFormat\n"
+    for name, profile in [("131072 candidates by two choices", by_choices(9)), ("65537 candidates by two formats", by_formats(16, 0)), ("131072 candidates by a call", by_call(9))]:
         yield name, bundle(b"check --top top", profile), 1, b"check: V6 candidates\n"
 
 

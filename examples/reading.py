@@ -3,7 +3,7 @@
 A profile is given as its normal form, written out by hand for the sample profiles in samples.py. Expressions are a number, `("parameter", name)`,
 `(subject, attribute)` with `THIS` or a field's name, and `(operator, left, right)`."""
 
-LIMIT = {"word": (1 << 64) - 1, "nodes": 4096, "depth": 128, "offset": 8192, "steps": 2048, "text": 1 << 20, "candidates": 4096, "packed": 8192, "choice": 12}
+LIMIT = {"word": (1 << 64) - 1, "nodes": 4096, "depth": 128, "offset": 8192, "steps": 2048, "text": 1 << 20, "candidates": 65536, "packed": 8192, "choice": 16}
 
 
 class Field:

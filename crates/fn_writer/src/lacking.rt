@@ -69,15 +69,12 @@ fn lacks_inside(
     requires within { begin ≤ length source.now.left }
     ensures { IfOk result (λ is. IsTrue is → spec.Lacks accepted.now.profile (numbers told.now) (Encoding.Call method arguments.now) (drop begin source.now.left)) }
 {
-    if depth == 0 || arguments.is_empty() {
+    if depth == 0 || arguments.is_empty() || has_more(accepted, method) {
         return Ok(false);
     }
     let Some(values) = values_of(alloc, told, arguments)? else {
         return Ok(false);
     };
-    if has_more(accepted, method) {
-        return Ok(false);
-    }
     let Some(format) = format_of(accepted, method, 0) else {
         return Ok(false);
     };
@@ -151,7 +148,7 @@ fn lacks_field(
 }
 
 /// Whether the method has more formats than one.
-fn has_more(accepted: &Accepted, method: usize) -> bool
+pub(crate) fn has_more(accepted: &Accepted, method: usize) -> bool
     ensures { result ≡ false → format_at accepted.now.profile.methods method 1 ≡ None }
 {
     format_of(accepted, method, 1).is_some()

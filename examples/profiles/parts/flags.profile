@@ -1,4 +1,4 @@
-// Six fields of which each is sent or not, with a flag before it, and one that a flow keeps. An item has at most 4,096 candidates. A flag in the format, and
+// Six fields of which each is sent or not, with a flag before it, and one that a flow keeps. An item has at most 65,536 candidates. A flag in the format, and
 // a method that goes by it, count four times for each field: twice for the flag, twice for the method's formats, which count even where the argument is
 // constant. Three things keep it low. The flag stands in the method, so it counts twice. In a format where nothing changes, `static` stands outside, and
 // counts once. In the format that sends all, a method of one format stands, and counts once; its field has the name of the other's, so each finds what the
