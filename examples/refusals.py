@@ -102,6 +102,9 @@ def rows():
     packets = "1:00\n9:a080\n=== context\nttl.field 8:41\nttl 8:41\n"
     yield "opt packed", bundle("pack --top opt --context", OPT, **parts), packets, 0
     yield "opt packed by a certificate", bundle("pack --top opt --context", OPT, certificate=opt, **parts), packets, 0
+    told = "packet 1 - 1 bits\n  ttl      header  8:40  0:    static_or_irreg.static_enc\n"
+    told += "    field  header  8:40  0:    static\n  flag     local   1:00  1:00  irregular\n"
+    yield "opt told", bundle("fields --top opt", OPT, context="ttl.field 8:40\n", packets="1:00\n"), told, 0
     yield "seq packed", bundle("pack --top seq", SEQ, items="8:06 msn=8:03\n"), "4:30\n", 0
     yield "seq unpacked", bundle("unpack --top seq", SEQ, packets="4:30\n"), "8:06 msn=8:03 took 4\n", 0
     yield "seq without what is asked", bundle("pack --top seq", SEQ, items="8:06\n"), "item 1: F2 Asked msn\n", 1
