@@ -4,3 +4,4 @@ pub mod Listed
 pub mod Listings
 pub mod Spelled
 pub mod Tables
+pub mod Linted

@@ -72,8 +72,11 @@ abbrev pub bounds_at : List MethodSizes → ℕ → ℕ → ℕ → Side → Bou
 bounds_at table k n i side =
     unwrap_or (option_map (side_bounds side) (option_and_then (λ (s : FormatSizes). slice_get s.fields i) (sizes_at table k n))) (record { least = 0; most = 0 })
 
+abbrev pub length_text : List ℕ → ℕ → ℕ → List ℕ → List ℕ
+length_text name least most side = name ++ codes " has at least " ++ decimal least ++ codes " and at most " ++ decimal most ++ codes " bits " ++ side
+
 abbrev pub length_words : List ℕ → Bounds → Side → List ℕ
-length_words name b side = name ++ codes " has at least " ++ decimal b.least ++ codes " and at most " ++ decimal b.most ++ codes " bits " ++ side_name side
+length_words name b side = length_text name b.least b.most (side_name side)
 
 abbrev pub lsb_words : List ℕ → ℕ → ℕ → List ℕ
 lsb_words name sent most = codes "lsb of " ++ decimal sent ++ codes " bits on " ++ name ++ codes ", which has at most " ++ decimal most

@@ -261,8 +261,19 @@ fn bounds_at(profile: &Profile, method: usize, format: usize, field: usize, side
 fn length_words(alloc: Global, name: &str, bounds: Bounds, side: Side) -> Result<String, AllocError>
     ensures { IfOk result (λ text. string_bytes text ≡ spec.length_words name.now bounds side) }
 {
-    let (least, most, which) = (bounds.least, bounds.most, side_name(side));
-    format!(in alloc; "{name} has at least {least} and at most {most} bits {which}")
+    length_text(alloc, name, bounds.least, bounds.most, side_name(side))
+}
+
+fn length_text(
+    alloc: Global,
+    name: &str,
+    least: u128,
+    most: u128,
+    side: &str,
+) -> Result<String, AllocError>
+    ensures { IfOk result (λ text. string_bytes text ≡ spec.length_text name.now least most side.now) }
+{
+    format!(in alloc; "{name} has at least {least} and at most {most} bits {side}")
 }
 
 fn side_name(side: Side) -> &'static str
