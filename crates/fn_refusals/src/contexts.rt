@@ -15,20 +15,43 @@ pub(crate) fn are_same(alloc: Global, one: &Context, other: &Context) -> Result<
 
 /// `replace COUNT`: so many entries, half of which have paths that were there.
 pub(crate) fn replace(alloc: Global, count: usize) -> Result<Outcome, Stop> {
-    let mut context = Context::new(alloc);
-    context.replace(entries(alloc, count / 2, 2)?)?;
+    let mut context = replaced(alloc, Context::new(alloc), count / 2, 2)?;
+    let due = replaced(alloc, context.copy(alloc)?, count, 3)?;
+    replace_in(alloc, &mut context, &due, count)
+}
+
+/// A context whose entries were replaced by so many.
+fn replaced(alloc: Global, context: Context, count: usize, step: usize) -> Result<Context, Stop> {
+    let mut context = context;
+    context.replace(entries(alloc, count, step)?)?;
+    Ok(context)
+}
+
+fn replace_in(
+    alloc: Global,
+    context: &mut Context,
+    due: &Context,
+    count: usize,
+) -> Result<Outcome, Stop> {
     let copy = context.copy(alloc)?;
-    let mut due = context.copy(alloc)?;
-    due.replace(entries(alloc, count, 3)?)?;
-    let again = entries(alloc, count, 3)?;
-    match context.replace(entries(alloc, count, 3)?) {
-        Ok(()) => Ok(First::Answered.then(are_same(alloc, &context, &due)?)),
-        Err(_) => {
-            let first = First::refused(are_same(alloc, &context, &copy)?);
-            let is_made = context.replace(again).is_ok();
-            Ok(first.then(is_made && are_same(alloc, &context, &due)?))
-        }
+    let is_made = context.replace(entries(alloc, count, 3)?).is_ok();
+    if is_made {
+        return Ok(First::Answered.then(are_same(alloc, context, due)?));
     }
+    let first = First::refused(are_same(alloc, context, &copy)?);
+    replace_again(alloc, context, due, count, first)
+}
+
+/// The second call, after one that was refused memory.
+fn replace_again(
+    alloc: Global,
+    context: &mut Context,
+    due: &Context,
+    count: usize,
+    first: First,
+) -> Result<Outcome, Stop> {
+    let is_made = context.replace(entries(alloc, count, 3)?).is_ok();
+    Ok(first.then(is_made && are_same(alloc, context, due)?))
 }
 
 /// So many entries, of up to 90 bits each.
