@@ -28,15 +28,21 @@ echo "examples: $passed passed, $failed failed"
 ./editors.py || failed=1
 ./flows.py line || failed=1
 ./cases.py || failed=1
-./prefixes.py || failed=1
-./certificates.py || failed=1
-./forged.py || failed=1
-./trees.py || failed=1
-./roundtrip.py || failed=1
-./fields.py || failed=1
-./lint.py || failed=1
-./lines.py || failed=1
-./refusals.py || failed=1
+
+# The long ones run side by side; what each prints comes in this order.
+beside=(prefixes certificates forged trees roundtrip fields lint lines refusals)
+printed=$(mktemp -d)
+trap 'rm -rf "$printed"' EXIT
+running=()
+for name in "${beside[@]}"; do
+  "./$name.py" >"$printed/$name" 2>&1 &
+  running+=($!)
+done
+for place in "${!beside[@]}"; do
+  wait "${running[place]}" || failed=1
+  cat "$printed/${beside[place]}"
+done
+
 ./first_call.py "$program" || failed=1
 ./front.py "$program" || failed=1
 ./manual.py || failed=1
