@@ -20,8 +20,8 @@ use rohcfn_report::showing::answer_listing;
 use rohcfn_words::words::{Command, Direction, Order};
 use std::alloc::{AllocError, Global};
 
-/// What is printed for an order: the listing of a profile, the formats by which nothing can be packed, the verdict on a certificate, a certificate, a line or the fields for each item or packet up to the first
-/// refusal, the octets and items of a line of flows, or the one line of another fault.
+/// What is printed for an order: the listing of a profile, the formats by which nothing can be packed, the verdict on a certificate, a certificate, a line or the
+/// fields for each item or packet up to the first refusal, the octets and items of a line of flows, or the one line of another fault.
 ///
 /// The order of faults: the missing part `profile`, another missing part, the profile, its certificate, a line of the context, a line of the items, packets or events
 /// or octets that are no hex, and then each item, packet or event.
