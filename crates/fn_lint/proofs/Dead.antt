@@ -1,15 +1,13 @@
 -- No filling of a format with an obstacle fits.
-use Rattle.std.proofs.Common.{◌≡◌, ◌≢◌, ◌∙◌, refl, sym, ap, subst, ℕ, ◌<◌, ◌≤◌, ◌%◌, ◌^◌, suc, zero, Bool, true, false, List, [], ◌∷◌, length, arith}
+use Rattle.std.proofs.Common.{◌≡◌, ◌∙◌, refl, sym, ap, subst, ℕ, ◌<◌, ◌%◌, suc, zero, Bool, true, List, [], ◌∷◌, length, arith}
 use Rattle.std.specs.Prelude.{Option, Some, None, slice_get, ℤ, IfSome}
-use Rattle.std.specs.Option.{option_map, option_and_then}
-use Rattle.std.proofs.lemmas.Option.{slice_get_within, slice_get-map}
+use Rattle.std.proofs.lemmas.Option.{slice_get_within}
 use Rattle.fn_expr.specs.declared.expr.Side.{Side}
 use Rattle.fn_expr.specs.declared.expr.Side.TheVariants.{Uncompressed, Compressed}
 use Rattle.fn_expr.specs.declared.expr.Subject.{Subject}
 use Rattle.fn_expr.specs.declared.expr.Subject.TheVariants as subject
 use Rattle.fn_expr.specs.Values.{Assignment, val}
 use Rattle.fn_expr.specs.Known.{assignment_of}
-use Rattle.fn_expr.specs.Spread.{LieIn}
 use Rattle.fn_expr.specs.Laws.{ValuesLieInRanges}
 use Rattle.fn_expr.proofs.Lie as ranges
 use Rattle.fn_lib.specs.Methods as lib
@@ -25,38 +23,26 @@ use Rattle.fn_normal.specs.declared.profile.Encoding.TheVariants as encoding
 use Rattle.fn_normal.specs.declared.profile.CrcArguments.{CrcArguments}
 use Rattle.fn_normal.specs.declared.profile.Constraint.{Constraint}
 use Rattle.fn_normal.specs.declared.profile.Constraint.TheVariants.{Bracket, Enforce}
-use Rattle.fn_normal.specs.declared.profile.Field.{Field}
-use Rattle.fn_normal.specs.declared.profile.Format.{Format}
-use Rattle.fn_normal.specs.declared.profile.Method.{Method}
 use Rattle.fn_profile.specs.Resolved.{Resolved, IsSound}
 use Rattle.fn_bounds.specs.Faults.{side_bounds, subject_sizes}
 use Rattle.fn_bounds.specs.Formats.{sizes_at}
-use Rattle.fn_bounds.specs.Outcome.{AreSizes, FormatAt}
 use Rattle.fn_bounds.specs.Calling.{ranges_in}
-use Rattle.fn_bounds.specs.Ranging.{format_ranges}
-use Rattle.fn_bounds.proofs.Faultless.{faultless}
-use Rattle.fn_bounds.proofs.Ruling.{there, by-rules}
+use Rattle.fn_bounds.proofs.Ruling.{there}
 use Rattle.fn_filling.specs.declared.filling.Filling.{Filling, out-Filling}
-use Rattle.fn_filling.specs.declared.filling.FilledField.{FilledField}
-use Rattle.fn_filling.specs.Fillings.{Sides, sides_of, fields_of, listing_of, level, header, packed, packed_bits}
+use Rattle.fn_filling.specs.Fillings.{Sides, sides_of, listing_of, level, packed_bits}
 use Rattle.fn_filling.specs.Entries.{Path, below}
 use Rattle.fn_fits.specs.Numbers.{known_level}
-use Rattle.fn_fits.proofs.Lying.{AreSmall, known_lies}
-use Rattle.fn_holds.specs.Level.{Evaluates}
-use Rattle.fn_holds.proofs.Limits.{whole_small}
-use Rattle.fn_holds.proofs.Readying.{evaluates}
-use Rattle.fn_fits.specs.Fits.{Context, Fits, LevelFits, IsShaped, format_at, side_of, field_side, method_of, assigned, reference_of, vals}
-use Rattle.fn_fits.specs.Bounded as bounded
+use Rattle.fn_fits.specs.Fits.{Context, Fits, IsShaped, side_of, field_side, method_of, assigned, reference_of}
 use Rattle.fn_fits.specs.Bounded.{ArgumentsLie, LengthsLie, LiesBetween, SidesLie}
-use Rattle.fn_fits.proofs.Inverted.{FitsParts, parts, coded_parts, length-level, length-fields}
-use Rattle.fn_fits.proofs.Bounding.{placed, count_sizes, lie-in-bounds}
-use Rattle.fn_fits.proofs.Sized.{one_value, two_parts, crc_parts, and_then_some, some_and}
+use Rattle.fn_fits.proofs.Sized.{one_value, two_parts, crc_parts, some_and}
 use Rattle.fn_lint.specs.declared.obstacle.Obstacle.{Obstacle}
 use Rattle.fn_lint.specs.declared.obstacle.Obstacle.TheVariants as obstacle
-use Rattle.fn_lint.specs.Obstacles.{HasNoLength, SendsMore, AreSplit, SplitsOctets, StandsIn, Hinders, IsDead, is_lsb, crc_in}
+use Rattle.fn_lint.specs.Obstacles.{HasNoLength, SendsMore, SplitsOctets, StandsIn, Hinders, IsDead, is_lsb, crc_in}
 use Rattle.fn_lint.specs.Never.{is_untrue}
 use Rattle.fn_lint.specs.Laws.{ObstaclesKill}
 use Rattle.fn_lint.proofs.Apart.{not_true}
+use Rattle.fn_lint.proofs.Fitting.{Sits}
+use Rattle.fn_lint.proofs.Fitting as fitting
 
 -- a length between bounds that contradict each other
 no_length_between : (b : Bounds) (n : ℕ) → b.most < b.least → LiesBetween b n → ⊥
@@ -106,33 +92,17 @@ lies-in-ranges = λ a r e i v lie. ranges.lies a r lie e i v
 
 module _ (p : Resolved) (sound : IsSound p) (k n : ℕ) (o : Obstacle) (has : Hinders p k n o)
     (ctx : Context) (args : List ℤ) (path : Path) (f : Filling) (arguments : ArgumentsLie has.whole.parameters args) (h : Fits p.methods ctx k args path f) (at_n : (out-Filling f).format ≡ n) where
-  inverted : FitsParts p.methods ctx k args path f
-  inverted = parts h
-
-  same_format : inverted.format ≡ has.format
-  same_format = one_value _ inverted.format has.format inverted.is_format (ap (format_at p.methods k) at_n ∙ has.format_is)
-
-  shaped : IsShaped has.format f
-  shaped = subst (λ x. IsShaped x f) same_format inverted.level_fits.shaped
-
-  method_found : (m : Method) × (slice_get p.methods k ≡ Some m) × (slice_get m.formats n ≡ Some has.format)
-  method_found = and_then_some (λ m. slice_get m.formats n) (slice_get p.methods k) has.format has.format_is
-
-  placed_at : FormatAt p.methods p.sizes method_found.0 has.format has.whole has.sizes
-  placed_at = record { method_place = k; method_at = method_found.1; whole_at = has.whole_at; format_place = n; format_at = method_found.2; sizes_at = has.sizes_at }
-
-  as_many : length has.sizes.fields ≡ length (level f)
-  as_many = count_sizes p.methods p.sizes sound.sized method_found.0 has.format has.whole has.sizes placed_at ∙ sym (length-level has.format f shaped)
+  abbrev sits : Sits p k n
+  sits = record { format = has.format; format_is = has.format_is; whole = has.whole; whole_at = has.whole_at; sizes = has.sizes; sizes_at = has.sizes_at }
 
   lie : LengthsLie has.sizes f
-  lie = (lie-in-bounds p.methods p.sizes sound.sized ctx k args path f h has.whole has.sizes has.whole_at (ap (slice_get has.whole.formats) at_n ∙ has.sizes_at)).0
+  lie = fitting.lie p sound k n sits ctx args path f arguments h at_n
 
-  -- the filling of a field
-  filled : (i : ℕ) (d : Field) → slice_get has.format.fields i ≡ Some d → (g : FilledField) × (slice_get (fields_of f) i ≡ Some g)
-  filled i d at = let within : i < length has.format.fields = slice_get_within has.format.fields i d at in there (fields_of f) i (let count = length-fields has.format f shaped in omega arith)
+  shaped : IsShaped has.format f
+  shaped = fitting.shaped p sound k n sits ctx args path f arguments h at_n
 
-  filled_lies : (i : ℕ) (g : FilledField) (b : Sizes) → slice_get (fields_of f) i ≡ Some g → slice_get has.sizes.fields i ≡ Some b → SidesLie b (length (sides_of g).uncompressed) (length (sides_of g).compressed)
-  filled_lies i g b at at_b = lie.fields i (sides_of g) b (slice_get-map sides_of (fields_of f) i ∙ ap (option_map sides_of) at) at_b
+  as_many : length has.sizes.fields ≡ length (level f)
+  as_many = fitting.as_many p sound k n sits ctx args path f arguments h at_n
 
   none_without_length : (i : ℕ) (side : Side) → HasNoLength has.sizes.fields i side → ⊥
   none_without_length i side lacking =
@@ -140,24 +110,14 @@ module _ (p : Resolved) (sound : IsSound p) (k n : ℕ) (o : Obstacle) (has : Hi
       let s = there (level f) i (let count = as_many in omega arith) in
       side_lies lacking.0 (length s.0.uncompressed) (length s.0.compressed) side (lie.fields i s.0 lacking.0 s.1 lacking.1) lacking.2
 
-  coded : (i : ℕ) (d : Field) (g : FilledField) (l : Library) → slice_get has.format.fields i ≡ Some d → slice_get (fields_of f) i ≡ Some g → d.encoding ≡ encoding.Library l
-      → (m : lib.Method) × (method_of (side_of has.format.listing (level f)) (assigned has.format.listing (level f) args) l ≡ Some m) × (ref : Option (List Bool)) × Lib m ref (sides_of g).uncompressed (sides_of g).compressed
-  coded i d g l at at_g is =
-      let c = coded_parts p.methods ctx (inverted.each i d g (ap (λ (y : Format). slice_get y.fields i) same_format ∙ at) at_g) l is in (
-        c.method,
-        subst (λ (y : Format). method_of (side_of y.listing (level f)) (assigned y.listing (level f) args) l ≡ Some c.method) same_format c.is_method,
-        reference_of d.declared.part ctx (below path d.declared.name) d.initial,
-        c.holds,
-      )
-
   none_sends_more : (i : ℕ) → SendsMore has.format.fields has.sizes.fields i → ⊥
   none_sends_more i more =
-      let g = filled i more.field more.field_at in
+      let g = fitting.filled p sound k n sits ctx args path f arguments h at_n i more.field more.field_at in
       let l = lsb_is more.field.encoding more.by_lsb in
-      let c = coded i more.field g.0 l.0 more.field_at g.1 l.1 in
+      let c = fitting.coded p sound k n sits ctx args path f arguments h at_n i more.field g.0 l.0 more.field_at g.1 l.1 in
       let m = l.2 (side_of has.format.listing (level f)) (assigned has.format.listing (level f) args) c.0 c.1 in
-      let holds = some_and c.2 (λ r. LsbHolds m.0 m.1 r (sides_of g.0).uncompressed (sides_of g.0).compressed) (subst (λ z. Lib z c.2 (sides_of g.0).uncompressed (sides_of g.0).compressed) (sym m.2) c.3) in
-      let between = filled_lies i g.0 more.bounds g.1 more.bounds_at in
+      let holds = some_and (reference_of more.field.declared.part ctx (below path more.field.declared.name) more.field.initial) (λ r. LsbHolds m.0 m.1 r (sides_of g.0).uncompressed (sides_of g.0).compressed) (subst (λ z. Lib z (reference_of more.field.declared.part ctx (below path more.field.declared.name) more.field.initial) (sides_of g.0).uncompressed (sides_of g.0).compressed) (sym m.2) c.2) in
+      let between = fitting.filled_lies p sound k n sits ctx args path f arguments h at_n i g.0 more.bounds g.1 more.bounds_at in
       let within = holds.2.within in
       let up = between.uncompressed_lies.most in
       let down = between.compressed_lies.least in
@@ -166,10 +126,10 @@ module _ (p : Resolved) (sound : IsSound p) (k n : ℕ) (o : Obstacle) (has : Hi
 
   none_splits : (i : ℕ) → SplitsOctets has.format.fields has.sizes i → ⊥
   none_splits i splits =
-      let g = filled i splits.field splits.field_at in
-      let c = coded i splits.field g.0 (library.Crc splits.crc) splits.field_at g.1 (crc_is splits.field.encoding splits.crc splits.by_crc) in
+      let g = fitting.filled p sound k n sits ctx args path f arguments h at_n i splits.field splits.field_at in
+      let c = fitting.coded p sound k n sits ctx args path f arguments h at_n i splits.field g.0 (library.Crc splits.crc) splits.field_at g.1 (crc_is splits.field.encoding splits.crc splits.by_crc) in
       let t = crc_parts (side_of has.format.listing (level f) splits.crc.subject splits.crc.side) _ c.0 c.1 in
-      let holds = (subst (λ z. Lib z c.2 (sides_of g.0).uncompressed (sides_of g.0).compressed) (sym t.5) c.3).1 in
+      let holds = (subst (λ z. Lib z (reference_of splits.field.declared.part ctx (below path splits.field.declared.name) splits.field.initial) (sides_of g.0).uncompressed (sides_of g.0).compressed) (sym t.5) c.2).1 in
       let between = subject_lies has.sizes has.format.listing f shaped.listing_is as_many lie splits.crc.subject splits.crc.side in
       let one = splits.split.one_length in
       let up = between.most in
@@ -177,49 +137,11 @@ module _ (p : Resolved) (sound : IsSound p) (k n : ℕ) (o : Obstacle) (has : Hi
       let same : length (side_of has.format.listing (level f) splits.crc.subject splits.crc.side) ≡ (side_bounds splits.crc.side (subject_sizes has.sizes splits.crc.subject)).most = omega arith in
       splits.split.split (ap (λ z. z % 8) (sym same) ∙ holds.whole_octets)
 
-  -- ---- what conditions ask for
-
-  count : length has.format.fields ≡ length (level f)
-  count = sym (length-level has.format f shaped)
-
-  fields_small : (i : ℕ) (b : Sizes) → slice_get has.sizes.fields i ≡ Some b → AreSmall b
-  fields_small i b at =
-      let rules = by-rules p.methods p.sizes sound.sized in
-      let within : i < length has.sizes.fields = slice_get_within has.sizes.fields i b at in
-      let d = there has.format.fields i (let same = as_many in let all = count in omega arith) in
-      record {
-        uncompressed = rules.small method_found.0 has.format has.whole has.sizes placed_at Uncompressed i d.0 b d.1 at;
-        compressed = rules.small method_found.0 has.format has.whole has.sizes placed_at Compressed i d.0 b d.1 at;
-      }
-
-  sizes_are : bounded.sizes_at p.sizes k n ≡ Some has.sizes
-  sizes_are = ap (option_and_then (λ s. slice_get s.formats n)) has.whole_at ∙ has.sizes_at
-
-  all_small : AreSmall has.sizes.whole
-  all_small =
-      let small = whole_small p.methods p.sizes sound.sized k n has.format has.sizes has.format_is sizes_are in
-      record {
-        uncompressed = let le : has.sizes.whole.uncompressed.most ≤ 4096 = small.0 in omega arith;
-        compressed = let le : has.sizes.whole.compressed.most ≤ 2 ^ 18 = small.1 in omega arith;
-      }
-
-  numbers_lie : LieIn (assignment_of (known_level f args)) (ranges_in has.sizes has.whole)
-  numbers_lie = known_lies f args has.whole has.sizes as_many fields_small all_small lie arguments
-
-  evaluated : Evaluates (known_level f args) (assigned has.format.listing (level f) args) has.format
-  evaluated =
-      evaluates p.methods (length method_found.0.parameters) has.format f args has.whole has.sizes shaped.listing_is count as_many lie numbers_lie
-      (faultless has.format has.sizes (format_ranges has.sizes has.whole.parameters) (sound.sized.fine.accepted method_found.0 has.format has.whole has.sizes placed_at))
-      (sound.well_formed.formats k n method_found.0 has.format method_found.1 method_found.2)
-
-  fits_level : LevelFits has.format f args
-  fits_level = subst (λ x. LevelFits x f args) same_format inverted.level_fits
-
   untrue : (j : ℕ) (c : Constraint) → slice_get has.format.constraints j ≡ Some c → is_untrue (ranges_in has.sizes has.whole) c ≡ true → ⊥
   untrue j (Bracket i side lengths place) at never = absurd (cc)
   untrue j (Enforce condition place) at never =
-      not_true lies-in-ranges (assignment_of (known_level f args)) (ranges_in has.sizes has.whole) numbers_lie condition never
-      (evaluated.truth_is j condition place at ∙ fits_level.constraints j (Enforce condition place) at)
+      not_true lies-in-ranges (assignment_of (known_level f args)) (ranges_in has.sizes has.whole) (fitting.numbers_lie p sound k n sits ctx args path f arguments h at_n) condition never
+      ((fitting.evaluated p sound k n sits ctx args path f arguments h at_n).truth_is j condition place at ∙ (fitting.fits_level p sound k n sits ctx args path f arguments h at_n).constraints j (Enforce condition place) at)
 
   none_has : (x : Obstacle) → StandsIn has.format has.sizes has.whole.parameters x → ⊥
   none_has (obstacle.NoLength i side) stands = none_without_length i side stands

@@ -1,7 +1,6 @@
 -- The first of something, found by trying one place after the other.
 use Rattle.std.proofs.Common.{◌≡◌, refl, subst, ℕ, ◌<◌, ◌+◌, Bool, true, false, nat_eq, arith}
 use Rattle.std.proofs.lemmas.Bool.{eqb-true, eqb-false}
-use Rattle.std.specs.Prelude.{slice_get}
 
 -- what no place before has, nor this one, no place up to here has
 pub none_up_to : {X : Type 0} (P : ℕ → X → Type 0) (n : ℕ) → ((i : ℕ) (x : X) → i < n → P i x → ⊥) → ((x : X) → P n x → ⊥) → (i : ℕ) (x : X) → i < n + 1 → P i x → ⊥

@@ -1,3 +1,4 @@
+pub mod Fitting
 pub mod Dead
 pub mod First
 pub mod Apart

@@ -1,26 +1,21 @@
 -- What the function finds stands, and where it finds none, none stands.
-use Rattle.std.proofs.Common.{◌≡◌, ◌∙◌, refl, sym, ap, subst, ℕ, List}
+use Rattle.std.proofs.Common.{◌≡◌, ◌∙◌, sym, ap, subst, ℕ, List}
 use Rattle.std.specs.Prelude.{Option, Some, None, slice_get, Result, Ok, Err, IfOk, IfSome, IfNone, MatchOption}
-use Rattle.std.specs.Option.{option_and_then}
 use Rattle.fn_expr.specs.declared.expr.Side.{Side}
 use Rattle.fn_expr.specs.declared.interval.Interval.{Interval}
 use Rattle.fn_expr.specs.declared.ranges.Ranges.{Ranges}
 use Rattle.fn_expr.specs.Bounds.{bounding_of}
-use Rattle.fn_normal.specs.declared.profile.Sizes.{Sizes}
 use Rattle.fn_normal.specs.declared.profile.FormatSizes.{FormatSizes}
 use Rattle.fn_normal.specs.declared.profile.MethodSizes.{MethodSizes}
-use Rattle.fn_normal.specs.declared.profile.Constraint.{Constraint}
-use Rattle.fn_normal.specs.declared.profile.Field.{Field}
 use Rattle.fn_normal.specs.declared.profile.Format.{Format}
 use Rattle.fn_bounds.specs.Ranging.{format_ranges}
-use Rattle.fn_profile.specs.Resolved.{Resolved, IsSound}
+use Rattle.fn_profile.specs.Resolved.{Resolved}
 use Rattle.fn_fits.specs.Fits.{format_at}
 use Rattle.fn_fits.proofs.Sized.{one_value}
 use Rattle.fn_lint.specs.declared.obstacle.Obstacle.{Obstacle}
 use Rattle.fn_lint.specs.declared.obstacle.Obstacle.TheVariants as obstacle
 use Rattle.fn_lint.specs.Never.{IsUntrue}
-use Rattle.fn_lint.specs.Obstacles.{HasNoLength, SendsMore, SplitsOctets, StandsIn, Hinders, IsDead}
-use Rattle.fn_lint.proofs.Dead.{none_dead}
+use Rattle.fn_lint.specs.Obstacles.{HasNoLength, SendsMore, SplitsOctets, StandsIn, Hinders}
 
 -- none of any kind is none
 pub none_stands : (format : Format) (sizes : FormatSizes) (parameters : List Interval) (r : Ranges) → r ≡ format_ranges sizes parameters

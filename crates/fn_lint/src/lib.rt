@@ -2,11 +2,12 @@
 #![tactic(auto)]
 
 pub use formats::{DeadFormat, dead_formats};
+pub use never::first_untrue;
 pub use obstacle::{Obstacle, obstacle_of};
 
 pub mod formats;
 pub mod laws;
 mod lengths;
-mod never;
+pub mod never;
 pub mod obstacle;
 mod unfit;

@@ -9,7 +9,7 @@ use fn_expr::{Comparison, Cond, Expr, Interval, Ranges, range};
 use fn_normal::{Constraint, Shared};
 
 /// The first constraint that is a condition which is never true, by its number.
-pub(crate) fn first_untrue(constraints: &[Shared<Constraint>], ranges: &Ranges) -> Option<usize>
+pub fn first_untrue(constraints: &[Shared<Constraint>], ranges: &Ranges) -> Option<usize>
     ensures { MatchOption result ((j : _) → spec.IsUntrue constraints.now (bounding_of ranges.now) j → ⊥) (spec.IsUntrue constraints.now (bounding_of ranges.now)) }
 {
     for number in 0..constraints.len() {
@@ -43,7 +43,7 @@ fn constraint_is_untrue(constraint: &Constraint, ranges: &Ranges) -> bool
 
 /// Whether the condition is never true, by the ranges of its numbers.
 #[cycle(never)]
-pub(crate) fn never_true(cond: &Cond, ranges: &Ranges) -> bool
+fn never_true(cond: &Cond, ranges: &Ranges) -> bool
     ensures { result ≡ spec.never_true (bounding_of ranges.now) cond.now }
 {
     match cond {

@@ -1,4 +1,4 @@
-use Rattle.std.proofs.Common.{◌≡◌, ◌∙◌, ap, length, arith}
+use Rattle.std.proofs.Common.{arith}
 use Rattle.fn_lint.proofs.Listed.{next_format, next_method}
 use Rattle.fn_lint.proofs.formats.add_method.Goals as goal
 

@@ -1,4 +1,4 @@
-use Rattle.std.proofs.Common.{◌≡◌, ap, length, arith}
+use Rattle.std.proofs.Common.{ap, length, arith}
 use Rattle.fn_lint.proofs.Listed.{all_listed}
 use Rattle.fn_lint.proofs.formats.dead_formats.Goals as goal
 

@@ -1,4 +1,4 @@
-use Rattle.std.proofs.Common.{◌<◌, arith}
+use Rattle.std.proofs.Common.{arith}
 use Rattle.std.proofs.lemmas.Option.{slice_get_within}
 use Rattle.fn_lint.specs.Obstacles.{HasNoLength}
 use Rattle.fn_lint.proofs.First.{none_up_to}

@@ -1,0 +1,243 @@
+-- What the look at a format finds, from its parts.
+use Rattle.std.proofs.Common.{◌≡◌, ◌≢◌, ◌∙◌, refl, sym, ap, subst, ℕ, zero, suc, ◌+◌, ◌≤◌, ◌<◌, Bool, true, false, List, [], ◌∷◌, ◌++◌, length, drop, arith, append_assoc}
+use Rattle.std.specs.Prelude.{Option, Some, None, Result, Ok, Err, IfOk, IfSome, OnOk, slice_get, string_bytes, ℤ, ◌⊎◌}
+use Rattle.std.specs.Option.{option_map, option_and_then, option_copied}
+use Rattle.std.proofs.Common.{inl, inr, String, Global}
+use Rattle.std.proofs.lemmas.Result.{IfOk-weaker}
+use Rattle.std.proofs.lemmas.List.{append-nil, length-append}
+use Rattle.fn_expr.specs.declared.expr.Side.{Side}
+use Rattle.fn_expr.specs.declared.expr.Expr.{Expr}
+use Rattle.fn_expr.specs.declared.interval.Interval.{Interval}
+use Rattle.fn_expr.specs.Bounds.{bounding_of}
+use Rattle.fn_expr.specs.Ranged.{Bounding}
+use Rattle.fn_fits.specs.Fits.{crc_values, two_values}
+use Rattle.fn_lib.specs.Methods as lib
+use Rattle.fn_lib.specs.Methods.{IsOnly}
+use Rattle.fn_normal.specs.declared.profile.Encoding.TheVariants as encoding
+use Rattle.fn_normal.specs.declared.profile.Field.{Field}
+use Rattle.fn_normal.specs.declared.profile.FormatSizes.{FormatSizes}
+use Rattle.fn_normal.specs.declared.profile.Library.{Library}
+use Rattle.fn_normal.specs.declared.profile.Library.TheVariants as library
+use Rattle.fn_normal.specs.declared.profile.CrcArguments.{CrcArguments}
+use Rattle.fn_bounds.specs.Faults.{side_bounds}
+use Rattle.fn_filling.specs.Entries.{below}
+use Rattle.fn_fits.specs.Bounded.{sizes_at}
+use Rattle.fn_lint.specs.Obstacles.{Hinders}
+use Rattle.fn_lint.specs.Never.{IsUntrue}
+use Rattle.fn_lint.specs.declared.obstacle.Obstacle.{Obstacle}
+use Rattle.fn_reasons.specs.Across.{with_values, crc_with_values, two_valued, method_of}
+use Rattle.fn_reasons.specs.Conflicts.{IsSighted, IsCoded, StandsIn, reference_of}
+use Rattle.fn_reasons.specs.Looks.{IsLook, ToldOf, SeenOf, SoFar}
+use Rattle.fn_reasons.specs.Places.{HaveLength, one_more, BeginsAt, Holds, only_length}
+use Rattle.fn_reasons.specs.Settings.{Setting, setting_of}
+use Rattle.fn_reasons.specs.Told.{placed, empty, across, Related, AreSeen, all_pinned, base_ranges, is_crc, leaves_empty, method_in, opposite, pinned, reference_in, seen_at}
+use Rattle.fn_reasons.specs.Reasons.{View, HasMethod, Stands, dead, short, long, no_reference, differs, no_side, untrue, Calls, Tells, by_reason, by_call, TellAll, ends, next, Verdicts, no_more, out, open_still, all_ranged, formats_of, inside, line_of, ranges_in, wants_reference}
+use Rattle.fn_reasons.specs.Listing as listing
+use Rattle.fn_reasons.specs.declared.across.Valued.{Valued}
+use Rattle.fn_reasons.specs.declared.across.Valued.TheVariants as valued
+use Rattle.fn_reasons.specs.declared.conflict.Coded.{Coded}
+use Rattle.fn_reasons.specs.declared.conflict.Sighted.{Sighted}
+use Rattle.fn_reasons.specs.declared.line.Line.{Line}
+use Rattle.fn_reasons.specs.declared.reason.Reason.{Reason}
+use Rattle.fn_reasons.specs.declared.reason.Reason.TheVariants as reason
+use Rattle.fn_reasons.specs.declared.seeing.Look.{Look}
+use Rattle.fn_reasons.specs.declared.sight.Sight.{Sight}
+
+-- ---- places
+
+pub longer : (order : List ℕ) (only : ℕ → Option ℕ) (place offset i m : ℕ) (o : Option ℕ) → slice_get order place ≡ Some i → only i ≡ Some m → IfSome o (λ z. z ≡ offset + m)
+    → IfSome o (λ z. HaveLength order only place offset → HaveLength order only (place + 1) z)
+longer order only place offset i m None at is sum = tt
+longer order only place offset i m (Some after) at is sum = λ before. subst (λ z. HaveLength order only (place + 1) z) (sym sum) (one_more i m before at is)
+
+pub begun : (order : List ℕ) (only : ℕ → Option ℕ) (i place offset : ℕ) → slice_get order place ≡ Some i → HaveLength order only place offset → BeginsAt order only i offset
+begun order only i place offset at before = record { place = place; at_place = at; before = before }
+
+-- ---- what is told
+
+pub placed_is : (k : Look) (n i : ℕ) → IsLook k n → (own : List Bool) → Holds k.order.now (only_length k.sizes.now.fields k.spot.side) k.spot.bits.now i own → ToldOf k i k.spot.side own
+placed_is k n i look own h = placed (subst (λ z. Holds z (only_length k.sizes.now.fields k.spot.side) k.spot.bits.now i own) look.order_is h)
+
+pub empty_is : (k : Look) (i : ℕ) (side : Side) (d : Field) → slice_get k.format.now.fields i ≡ Some d → leaves_empty d.encoding side ≡ true → ToldOf k i side []
+empty_is k i side d at leaves = empty d at leaves
+
+-- the method of the values is that of the arguments, of which each has one value
+two_is : (make : ℤ → ℤ → Valued) (made : ℤ → ℤ → lib.Method) (o q : Option ℤ) (v : Valued) (covered : List Bool) → ((x y : ℤ) → method_of (make x y) covered ≡ made x y) → two_valued make o q ≡ Some v → two_values made o q ≡ Some (method_of v covered)
+two_is make made (Some x) (Some y) v covered same e = let is : make x y ≡ v = cc in ap Some (sym (same x y) ∙ ap (λ z. method_of z covered) is)
+two_is make made (Some x) None v covered same e = absurd (cc)
+two_is make made None q v covered same e = absurd (cc)
+
+crc_is : (r : Bounding) (crc : CrcArguments) (v : Valued) (covered : List Bool) → crc_with_values r crc ≡ Some v → crc_values covered (all_pinned r (crc.bits ∷ crc.polynomial ∷ crc.initial ∷ crc.length ∷ [])) ≡ Some (method_of v covered)
+crc_is r crc v covered e = by (pinned r crc.bits) (pinned r crc.polynomial) (pinned r crc.initial) (pinned r crc.length) e
+  where
+    by : (n p i l : Option ℤ) → option_and_then (λ a. option_and_then (λ b. option_and_then (λ c. option_map (λ d. valued.Crc a b c d) l) i) p) n ≡ Some v
+        → crc_values covered (option_and_then (λ a. option_map (λ later. a ∷ later) (option_and_then (λ b. option_map (λ later. b ∷ later) (option_and_then (λ c. option_map (λ later. c ∷ later) (option_and_then (λ d. option_map (λ later. d ∷ later) (Some [])) l)) i)) p)) n) ≡ Some (method_of v covered)
+    by (Some a) (Some b) (Some c) (Some d) e = let is : valued.Crc a b c d ≡ v = cc in ap Some (ap (λ z. method_of z covered) is)
+    by (Some a) (Some b) (Some c) None e = absurd (cc)
+    by (Some a) (Some b) None l e = absurd (cc)
+    by (Some a) None i l e = absurd (cc)
+    by None p i l e = absurd (cc)
+
+pub method_is : (r : Bounding) (l : Library) (v : Valued) (covered : List Bool) → with_values r l ≡ Some v → method_in r covered l ≡ Some (method_of v covered)
+method_is r (library.UncompressedValue len x) v covered e = two_is valued.UncompressedValue lib.uncompressed_value (pinned r len) (pinned r x) v covered (λ a b. refl) e
+method_is r (library.CompressedValue len x) v covered e = two_is valued.CompressedValue lib.compressed_value (pinned r len) (pinned r x) v covered (λ a b. refl) e
+method_is r (library.Irregular len) v covered e = by (pinned r len) e
+  where
+    by : (o : Option ℤ) → option_map valued.Irregular o ≡ Some v → option_map lib.irregular o ≡ Some (method_of v covered)
+    by (Some x) e = let is : valued.Irregular x ≡ v = cc in ap Some (ap (λ z. method_of z covered) is)
+    by None e = absurd (cc)
+method_is r library.Static v covered e = let is : valued.Static ≡ v = cc in ap Some (ap (λ z. method_of z covered) is)
+method_is r (library.Lsb k offset) v covered e = two_is valued.Lsb lib.lsb (pinned r k) (pinned r offset) v covered (λ a b. refl) e
+method_is r (library.Crc crc) v covered e = crc_is r crc v covered e
+
+pub across_is : (k : Look) (n i : ℕ) → IsLook k n → (d : Field) → slice_get k.format.now.fields i ≡ Some d → (side : Side) (own : List Bool) → ToldOf k i side own → (l : Library) → d.encoding ≡ encoding.Library l → is_crc l ≡ false
+    → (v : Valued) → with_values (bounding_of k.base.now) l ≡ Some v → (other : List Bool) → IsOnly (Related (method_of v []) (reference_in (setting_of k.spot) d) side own) (Some other) → ToldOf k i (opposite side) other
+across_is k n i look d at side own told l is plain v values other only =
+    across d l (method_of v []) own told at is plain (method_is (bounding_of (base_ranges (setting_of k.spot) k.sizes.now)) l v [] (ap (λ z. with_values (bounding_of z) l) (sym look.base_is) ∙ values)) only
+
+pub across_from : (k : Look) (n i : ℕ) → IsLook k n → (d : Field) → slice_get k.format.now.fields i ≡ Some d → (side : Side) (own : List Bool) → ToldOf k i side own → (l : Library) → d.encoding ≡ encoding.Library l → is_crc l ≡ false
+    → (v : Valued) → with_values (bounding_of k.base.now) l ≡ Some v → (covered : List Bool) → covered ≡ [] → (ref : Option (List Bool)) → ref ≡ reference_in (setting_of k.spot) d
+    → (o : Option (List Bool)) → IsOnly (Related (method_of v covered) ref side own) o → IfSome o (ToldOf k i (opposite side))
+across_from k n i look d at side own told l is plain v values covered none ref ref_is None only = tt
+across_from k n i look d at side own told l is plain v values covered none ref ref_is (Some other) only =
+    across_is k n i look d at side own told l is plain v values other (subst (λ z. IsOnly (Related (method_of v z) (reference_in (setting_of k.spot) d) side own) (Some other)) none (subst (λ z. IsOnly (Related (method_of v covered) z side own) (Some other)) ref_is only))
+
+pub weaker : {X : Type 0} (o : Option X) (P Q : X → Type 0) → ((x : X) → P x → Q x) → IfSome o P → IfSome o Q
+weaker None P Q f h = tt
+weaker (Some x) P Q f h = f x h
+
+pub if_ok : {T E : Type 0} (r : Result T E) (P Q : Type 0) → (P → Q) → OnOk r P → OnOk r Q
+if_ok (Ok x) P Q f h = f h
+if_ok (Err e) P Q f h = tt
+
+pub if_told : {E : Type 0} (r : Result (Option (List Bool)) E) (P Q : Option (List Bool) → Type 0) → ((o : Option (List Bool)) → P o → Q o) → IfOk r P → IfOk r Q
+if_told r P Q f h = IfOk-weaker r P Q f h
+
+-- ---- what is seen of each field
+
+pub one_seen : (k : Look) (i : ℕ) (old new : List Sight) (sight : Sight) → new ≡ old ++ sight ∷ [] → SeenOf k i sight → SoFar k old i → SoFar k new (i + 1)
+one_seen k i old new sight is seen so = record {
+  count = ap length is ∙ (length-append old (sight ∷ []) ∙ (let c = so.count in omega (arith, c)));
+  each = λ j x at. by j x (ap (λ z. slice_get z j) (sym is) ∙ at);
+}
+  where
+    last : (xs : List Sight) (j : ℕ) (x : Sight) → slice_get (xs ++ sight ∷ []) j ≡ Some x → (slice_get xs j ≡ Some x) ⊎ ((j ≡ length xs) × (sight ≡ x))
+    last [] zero x e = inr (refl, cc)
+    last [] (suc j) x e = absurd (cc)
+    last (y ∷ ys) zero x e = inl e
+    last (y ∷ ys) (suc j) x e = further (last ys j x e)
+      where
+        further : (slice_get ys j ≡ Some x) ⊎ ((j ≡ length ys) × (sight ≡ x)) → (slice_get (y ∷ ys) (suc j) ≡ Some x) ⊎ ((suc j ≡ length (y ∷ ys)) × (sight ≡ x))
+        further (inl h) = inl h
+        further (inr h) = inr (ap suc h.0, h.1)
+
+    by : (j : ℕ) (x : Sight) → slice_get (old ++ sight ∷ []) j ≡ Some x → SeenOf k j x
+    by j x at = cases (last old j x at)
+      where
+        cases : (slice_get old j ≡ Some x) ⊎ ((j ≡ length old) × (sight ≡ x)) → SeenOf k j x
+        cases (inl h) = so.each j x h
+        cases (inr h) = let e : i ≡ j = sym so.count ∙ sym h.0 in subst (λ z. SeenOf k j z) h.1 (subst (λ q. SeenOf k q sight) e seen)
+
+pub none_seen : (k : Look) → SoFar k [] 0
+none_seen k = record { count = refl; each = λ j x at. absurd (cc) }
+
+pub all_seen : (k : Look) (n : ℕ) (sights : List Sight) → n ≡ length k.format.now.fields → SoFar k sights n → AreSeen (setting_of k.spot) k.format.now k.sizes.now sights
+all_seen k n sights is so = record { count = so.count ∙ is; each = so.each }
+
+-- ---- what stands against a format
+
+view_is : (k : Sighted) → IsSighted k → View (setting_of k.look.spot) k.number k.look.format.now k.look.sizes.now k.seen.now
+view_is k h = record { format_is = h.look.format_is; sizes_are = h.look.sizes_are; is_seen = h.seen }
+
+has_method : (k : Sighted) (c : Coded) → IsSighted k → IsCoded k c → HasMethod (setting_of k.look.spot) k.look.format.now k.look.sizes.now k.seen.now c.index c.field.now (method_of c.method c.covered.now)
+has_method k c h coded = record {
+  field_is = coded.at;
+  library = c.library.now;
+  library_is = coded.encoding_is;
+  covered = c.covered.now;
+  covers = coded.covers;
+  method_is = method_is (ranges_in (setting_of k.look.spot) k.look.sizes.now k.seen.now) c.library.now c.method c.covered.now (ap (λ z. with_values (bounding_of z) c.library.now) (sym h.ranges_are) ∙ coded.method_is);
+}
+
+pub differs_is : (k : Sighted) (c : Coded) → IsSighted k → IsCoded k c → (side : Side) (own found due : List Bool) → seen_at k.seen.now.fields c.index side ≡ Some own → seen_at k.seen.now.fields c.index (opposite side) ≡ Some found
+    → IsOnly (Related (method_of c.method c.covered.now) (option_copied c.reference) side own) (Some due) → found ≢ due → StandsIn k (reason.Differs c.index (opposite side) found due)
+differs_is k c h coded side own found due own_is found_is only differ =
+    differs side k.look.format.now k.look.sizes.now k.seen.now c.field.now (method_of c.method c.covered.now) own (view_is k h) (has_method k c h coded) own_is
+    (subst (λ z. IsOnly (Related (method_of c.method c.covered.now) z side own) (Some due)) coded.reference_is only) found_is differ
+
+pub no_side_is : (k : Sighted) (c : Coded) → IsSighted k → IsCoded k c → (side : Side) (found : List Bool) → seen_at k.seen.now.fields c.index side ≡ Some found
+    → IsOnly (Related (method_of c.method c.covered.now) (option_copied c.reference) side found) None → StandsIn k (reason.NoSide c.index side found)
+no_side_is k c h coded side found found_is only =
+    no_side k.look.format.now k.look.sizes.now k.seen.now c.field.now (method_of c.method c.covered.now) (view_is k h) (has_method k c h coded) found_is
+    (subst (λ z. IsOnly (Related (method_of c.method c.covered.now) z side found) None) coded.reference_is only)
+
+pub no_reference_is : (k : Sighted) → IsSighted k → (i : ℕ) (d : Field) → slice_get k.look.format.now.fields i ≡ Some d → wants_reference d.encoding ≡ true → reference_of k d ≡ None
+    → (path : String Global) → string_bytes path ≡ below k.look.spot.path.now d.declared.name → StandsIn k (reason.NoReference i path)
+no_reference_is k h i d at wants none path is = no_reference k.look.format.now d h.look.format_is at wants none is
+
+pub dead_is : (s : Setting) (n : ℕ) (o : Obstacle) → Hinders s.profile s.method n o → Stands s n (reason.Dead o)
+dead_is s n o h = dead o h
+
+pub short_is : (s : Setting) (n : ℕ) (sizes : FormatSizes) → sizes_at s.profile.sizes s.method n ≡ Some sizes → (many least : ℕ) → many ≡ length s.bits → least ≡ (side_bounds s.side sizes.whole).least → many < least → Stands s n (reason.Short many least)
+short_is s n sizes at many least m l few =
+    subst (λ z. Stands s n (reason.Short z least)) (sym m) (subst (λ z. Stands s n (reason.Short (length s.bits) z)) (sym l) (short sizes at (omega (arith, m, l, few))))
+
+pub long_is : (s : Setting) (n : ℕ) (sizes : FormatSizes) → sizes_at s.profile.sizes s.method n ≡ Some sizes → s.is_whole ≡ true → (many most : ℕ) → many ≡ length s.bits → most ≡ (side_bounds s.side sizes.whole).most → most < many → Stands s n (reason.Long many most)
+long_is s n sizes at whole many most m l more =
+    subst (λ z. Stands s n (reason.Long z most)) (sym m) (subst (λ z. Stands s n (reason.Long (length s.bits) z)) (sym l) (long sizes at whole (omega (arith, m, l, more))))
+
+pub untrue_is : (k : Sighted) → IsSighted k → (j : ℕ) → IsUntrue k.look.format.now.constraints (bounding_of k.ranges.now) j → StandsIn k (reason.Untrue j)
+untrue_is k h j u = untrue k.look.format.now k.look.sizes.now k.seen.now (view_is k h) (subst (λ z. IsUntrue k.look.format.now.constraints (bounding_of z) j) h.ranges_are u)
+
+-- ---- lines
+
+pub alone_is : (s : Setting) (depth n : ℕ) (r : Reason) (line : Line) (lines : List Line) → Stands s n r → line ≡ line_of s depth n r → lines ≡ line ∷ [] → Tells s depth n lines
+alone_is s depth n r line lines stands is are = subst (λ z. Tells s depth n z) (sym (are ∙ (λ j. is j ∷ []))) (by_reason r stands)
+
+pub calls_is : (k : Sighted) → IsSighted k → (i : ℕ) (d : Field) → slice_get k.look.format.now.fields i ≡ Some d → (m : ℕ) (es : List Expr) → d.encoding ≡ encoding.Call m es → (parameters : List Interval) → all_ranged (bounding_of k.ranges.now) es ≡ Some parameters
+    → (offset : ℕ) → BeginsAt k.look.order.now (only_length k.look.sizes.now.fields k.look.spot.side) i offset → (inner : Setting) → inner ≡ inside (setting_of k.look.spot) d m parameters offset → Calls (setting_of k.look.spot) k.number i inner
+calls_is k h i d at m es is parameters ranges offset begins inner inner_is = record {
+  format = k.look.format.now;
+  sizes = k.look.sizes.now;
+  seen = k.seen.now;
+  view = view_is k h;
+  field = d;
+  field_is = at;
+  method = m;
+  arguments = es;
+  encoding_is = is;
+  parameters = parameters;
+  ranges_are = subst (λ z. all_ranged (bounding_of z) es ≡ Some parameters) h.ranges_are ranges;
+  offset = offset;
+  begins = subst (λ z. BeginsAt z (only_length k.look.sizes.now.fields k.look.spot.side) i offset) h.look.order_is begins;
+  inner_is = inner_is;
+}
+
+pub inner_same : (s : Setting) (d : Field) (m : ℕ) (ps qs : List Interval) (offset : ℕ) (path : List ℕ) (bits : List Bool) → qs ≡ ps → path ≡ below s.path d.declared.name → bits ≡ drop offset s.bits
+    → record { profile = s.profile; context = s.context; method = m; parameters = qs; path = path; side = s.side; bits = bits; is_whole = false } ≡ inside s d m ps offset
+inner_same s d m ps qs offset path bits a b c =
+    λ j. record { profile = s.profile; context = s.context; method = m; parameters = a j; path = b j; side = s.side; bits = c j; is_whole = false }
+
+pub called_is : (s inner : Setting) (depth n i : ℕ) (line : Line) (lines all : List Line) → Calls s n i inner → TellAll inner (depth + 1) 0 lines → line ≡ line_of s depth n (reason.Inside i) → all ≡ line ∷ lines → Tells s depth n all
+called_is s inner depth n i line lines all calls tell is are = subst (λ z. Tells s depth n z) (sym (are ∙ (λ j. is j ∷ lines))) (by_call i inner calls tell)
+
+-- whatever tells of the formats from this one on, it and what was told so far tell of all
+abbrev pub AllSoFar : Setting → ℕ → ℕ → List Line → Type 0
+AllSoFar s depth n lines = (more : List Line) → TellAll s depth n more → TellAll s depth 0 (lines ++ more)
+
+pub all_next : (s : Setting) (depth n : ℕ) (old new more : List Line) → n < formats_of s → Tells s depth n more → new ≡ old ++ more → AllSoFar s depth n old → AllSoFar s depth (n + 1) new
+all_next s depth n old new more lt tells is so rest t = subst (λ z. TellAll s depth 0 z) (sym (append_assoc old more rest) ∙ ap (λ z. z ++ rest) (sym is)) (so (more ++ rest) (next lt tells t))
+
+pub all_end : (s : Setting) (depth n : ℕ) (lines : List Line) → formats_of s ≤ n → AllSoFar s depth n lines → TellAll s depth 0 lines
+all_end s depth n lines past so = subst (λ z. TellAll s depth 0 z) (append-nil lines) (so [] (ends past))
+
+pub verdict_out : (s : Setting) (n : ℕ) (old new more : List Line) → n < formats_of s → Tells s 0 n more → new ≡ old ++ more → listing.SoFar s n old → listing.SoFar s (n + 1) new
+verdict_out s n old new more lt tells is so rest t = subst (λ z. Verdicts s 0 z) (sym (append_assoc old more rest) ∙ ap (λ z. z ++ rest) (sym is)) (so (more ++ rest) (out lt tells t))
+
+pub verdict_open : (s : Setting) (n : ℕ) (old new : List Line) (line : Line) → n < formats_of s → line ≡ line_of s 0 n reason.Nothing → new ≡ old ++ line ∷ [] → listing.SoFar s n old → listing.SoFar s (n + 1) new
+verdict_open s n old new line lt is are so rest t =
+    let made : Verdicts s n (line ∷ rest) = subst (λ z. Verdicts s n (z ∷ rest)) (sym is) (open_still lt t) in
+    subst (λ z. Verdicts s 0 z) (sym (append_assoc old (line ∷ []) rest) ∙ ap (λ z. z ++ rest) (sym are)) (so (line ∷ rest) made)
+
+pub verdicts_end : (s : Setting) (n : ℕ) (lines : List Line) → formats_of s ≤ n → listing.SoFar s n lines → Verdicts s 0 lines
+verdicts_end s n lines past so = subst (λ z. Verdicts s 0 z) (append-nil lines) (so [] (no_more past))

@@ -1,0 +1,10 @@
+use Rattle.std.proofs.Common.{subst}
+use Rattle.fn_expr.specs.Bounds.{bounding_of}
+use Rattle.fn_lint.specs.Never.{IsUntrue}
+use Rattle.fn_reasons.proofs.Making.{untrue_is}
+use Rattle.fn_reasons.proofs.verdicts.told_by_condition.Goals as goal
+
+pub alone-requires : goal.alone-requires
+alone-requires c =
+    untrue_is c.args.sighted.now c.requires c.in-Some.constraint
+    (subst (λ z. IsUntrue z (bounding_of c.args.sighted.now.ranges.now) c.in-Some.constraint) c.as_slice-constraints.ensures (rw c.in-Some.is at c.first_untrue.ensures))

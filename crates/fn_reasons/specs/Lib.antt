@@ -1,0 +1,9 @@
+pub mod Settings
+pub mod Places
+pub mod Told
+pub mod Across
+pub mod Looks
+pub mod Reasons
+pub mod Conflicts
+pub mod Laws
+pub mod Listing

@@ -1,0 +1,143 @@
+-- What stands against a format: why no filling of it is asked for (docs/DEFINITIONS.md, Reasons).
+use Rattle.std.specs.Prelude.{◌≡◌, ◌≢◌, ℕ, ◌+◌, ◌<◌, ◌≤◌, Bool, true, false, List, [], ◌∷◌, ◌++◌, length, drop, slice_get, Option, Some, None, option_map, option_and_then, Result, Ok, Err, string_bytes}
+use Rattle.std.specs.Option.{unwrap_or}
+use Rattle.fn_expr.specs.declared.fault.RangeFault.{RangeFault}
+use Rattle.fn_expr.specs.declared.expr.Expr.{Expr}
+use Rattle.fn_expr.specs.declared.expr.Side.{Side}
+use Rattle.fn_expr.specs.declared.interval.Interval.{Interval}
+use Rattle.fn_expr.specs.Bounds.{bounding_of}
+use Rattle.fn_expr.specs.Ranged.{Bounding, ranged}
+use Rattle.fn_lib.specs.Methods as lib
+use Rattle.fn_lib.specs.Methods.{IsOnly}
+use Rattle.fn_normal.specs.declared.profile.Encoding.{Encoding}
+use Rattle.fn_normal.specs.declared.profile.Encoding.TheVariants as encoding
+use Rattle.fn_normal.specs.declared.profile.Field.{Field}
+use Rattle.fn_normal.specs.declared.profile.Format.{Format}
+use Rattle.fn_normal.specs.declared.profile.FormatSizes.{FormatSizes}
+use Rattle.fn_normal.specs.declared.profile.Library.{Library}
+use Rattle.fn_normal.specs.declared.profile.Library.TheVariants as library
+use Rattle.fn_normal.specs.declared.profile.Method.{Method}
+use Rattle.fn_bounds.specs.Faults.{side_bounds}
+use Rattle.fn_filling.specs.Entries.{below}
+use Rattle.fn_fits.specs.Bounded.{sizes_at}
+use Rattle.fn_fits.specs.Fits.{format_at}
+use Rattle.fn_lint.specs.Never.{IsUntrue}
+use Rattle.fn_lint.specs.Obstacles.{Hinders}
+use Rattle.fn_reasons.specs.Settings.{Setting}
+use Rattle.fn_reasons.specs.Places.{BeginsAt, only_length, order_of}
+use Rattle.fn_reasons.specs.Told.{AreAllSeen, Covers, Related, base_ranges, method_in, opposite, ranges_seen, reference_in, seen_at}
+use Rattle.fn_reasons.specs.declared.line.Line.{Line}
+use Rattle.fn_reasons.specs.declared.reason.Reason.{Reason}
+use Rattle.fn_reasons.specs.declared.reason.Reason.TheVariants as reason
+use Rattle.fn_reasons.specs.declared.sight.Seen.{Seen}
+
+-- a format of the method with its bounds, and what is seen of its fields
+pub record View (s : Setting) (n : ℕ) (format : Format) (sizes : FormatSizes) (seen : Seen) : Type 0 where
+  pub format_is : format_at s.profile.methods s.method n ≡ Some format
+  pub sizes_are : sizes_at s.profile.sizes s.method n ≡ Some sizes
+  pub is_seen : AreAllSeen s format sizes seen
+
+-- the ranges of its numbers
+abbrev pub ranges_in : Setting → FormatSizes → Seen → Bounding
+ranges_in s sizes seen = bounding_of (ranges_seen seen (base_ranges s sizes))
+
+-- the methods that want a reference
+abbrev pub wants_reference : Encoding → Bool
+wants_reference (encoding.Library library.Static) = true
+wants_reference (encoding.Library (library.Lsb k offset)) = true
+wants_reference _ = false
+
+-- the library method of the field i, with arguments of which each has one value
+pub record HasMethod (s : Setting) (format : Format) (sizes : FormatSizes) (seen : Seen) (i : ℕ) (d : Field) (m : lib.Method) : Type 0 where
+  pub field_is : slice_get format.fields i ≡ Some d
+  pub library : Library
+  pub library_is : d.encoding ≡ encoding.Library library
+  pub covered : List Bool
+  pub covers : Covers seen library covered
+  pub method_is : method_in (ranges_in s sizes seen) covered library ≡ Some m
+
+-- What stands against the format n.
+pub data Stands (s : Setting) (n : ℕ) : Reason → Type 0 where
+  -- no filling of it fits, whatever is asked for
+  dead : (o : _) → Hinders s.profile s.method n o → Stands s n (reason.Dead o)
+  -- there are fewer bits than any side of it has
+  short : (sizes : FormatSizes) → sizes_at s.profile.sizes s.method n ≡ Some sizes → length s.bits < (side_bounds s.side sizes.whole).least → Stands s n (reason.Short (length s.bits) (side_bounds s.side sizes.whole).least)
+  -- there are more
+  long : (sizes : FormatSizes) → sizes_at s.profile.sizes s.method n ≡ Some sizes → s.is_whole ≡ true → (side_bounds s.side sizes.whole).most < length s.bits → Stands s n (reason.Long (length s.bits) (side_bounds s.side sizes.whole).most)
+  -- a field wants a reference, and there is none at its path
+  no_reference : {i : ℕ} {path : _} (format : Format) (d : Field) → format_at s.profile.methods s.method n ≡ Some format → slice_get format.fields i ≡ Some d → wants_reference d.encoding ≡ true → reference_in s d ≡ None
+      → string_bytes path ≡ below s.path d.declared.name → Stands s n (reason.NoReference i path)
+  -- one side of a field has these bits, and its method relates others to what the other side has
+  differs : {i : ℕ} {found due : List Bool} (side : Side) (format : Format) (sizes : FormatSizes) (seen : Seen) (d : Field) (m : lib.Method) (own : List Bool) → View s n format sizes seen → HasMethod s format sizes seen i d m
+      → seen_at seen.fields i side ≡ Some own → IsOnly (Related m (reference_in s d) side own) (Some due) → seen_at seen.fields i (opposite side) ≡ Some found → found ≢ due → Stands s n (reason.Differs i (opposite side) found due)
+  -- one side of a field has these bits, to which its method relates none
+  no_side : {i : ℕ} {side : Side} {found : List Bool} (format : Format) (sizes : FormatSizes) (seen : Seen) (d : Field) (m : lib.Method) → View s n format sizes seen → HasMethod s format sizes seen i d m
+      → seen_at seen.fields i side ≡ Some found → IsOnly (Related m (reference_in s d) side found) None → Stands s n (reason.NoSide i side found)
+  -- a condition is false by what is seen
+  untrue : {j : ℕ} (format : Format) (sizes : FormatSizes) (seen : Seen) → View s n format sizes seen → IsUntrue format.constraints (ranges_in s sizes seen) j → Stands s n (reason.Untrue j)
+
+-- ---- a method inside
+
+abbrev pub range_of : Result Interval RangeFault → Option Interval
+range_of (Ok i) = Some i
+range_of (Err e) = None
+
+-- a range for each of these
+abbrev pub all_ranged : Bounding → List Expr → Option (List Interval)
+all_ranged r [] = Some []
+all_ranged r (e ∷ es) = option_and_then (λ i. option_map (λ is. i ∷ is) (all_ranged r es)) (range_of (ranged r e))
+
+-- the fillings inside a field that calls the method k, whose side begins after so many bits
+abbrev pub inside : Setting → Field → ℕ → List Interval → ℕ → Setting
+inside s d k parameters offset = record {
+  profile = s.profile;
+  context = s.context;
+  method = k;
+  parameters = parameters;
+  path = below s.path d.declared.name;
+  side = s.side;
+  bits = drop offset s.bits;
+  is_whole = false;
+}
+
+-- the field i of the format n calls the method of the inner setting
+pub record Calls (s : Setting) (n i : ℕ) (inner : Setting) : Type 0 where
+  pub format : Format
+  pub sizes : FormatSizes
+  pub seen : Seen
+  pub view : View s n format sizes seen
+  pub field : Field
+  pub field_is : slice_get format.fields i ≡ Some field
+  pub method : ℕ
+  pub arguments : List Expr
+  pub encoding_is : field.encoding ≡ encoding.Call method arguments
+  pub parameters : List Interval
+  pub ranges_are : all_ranged (ranges_in s sizes seen) arguments ≡ Some parameters
+  pub offset : ℕ
+  pub begins : BeginsAt (order_of format s.side) (only_length sizes.fields s.side) i offset
+  pub inner_is : inner ≡ inside s field method parameters offset
+
+-- how many formats the method has
+abbrev pub formats_of : Setting → ℕ
+formats_of s = unwrap_or (option_map (λ (m : Method). length m.formats) (slice_get s.profile.methods s.method)) 0
+
+abbrev pub line_of : Setting → ℕ → ℕ → Reason → Line
+line_of s depth n r = record { depth = depth; method = s.method; format = n; reason = r }
+
+mutual
+  -- These lines, of a depth, tell why no filling of the format n is asked for.
+  pub data Tells : Setting → ℕ → ℕ → List Line → Type 0 where
+    by_reason : {s : Setting} {depth n : ℕ} (r : Reason) → Stands s n r → Tells s depth n (line_of s depth n r ∷ [])
+    -- a field calls a method, and they tell it of each of its formats
+    by_call : {s : Setting} {depth n : ℕ} {lines : List Line} (i : ℕ) (inner : Setting) → Calls s n i inner → TellAll inner (depth + 1) 0 lines → Tells s depth n (line_of s depth n (reason.Inside i) ∷ lines)
+
+  -- They tell it of each format from the number n on.
+  pub data TellAll : Setting → ℕ → ℕ → List Line → Type 0 where
+    ends : {s : Setting} {depth n : ℕ} → formats_of s ≤ n → TellAll s depth n []
+    next : {s : Setting} {depth n : ℕ} {first rest : List Line} → n < formats_of s → Tells s depth n first → TellAll s depth (n + 1) rest → TellAll s depth n (first ++ rest)
+
+-- What is told of each format from the number n on: why no filling of it is asked for, or that nothing simple stands against it.
+pub data Verdicts (s : Setting) : ℕ → List Line → Type 0 where
+  no_more : {n : ℕ} → formats_of s ≤ n → Verdicts s n []
+  out : {n : ℕ} {first rest : List Line} → n < formats_of s → Tells s 0 n first → Verdicts s (n + 1) rest → Verdicts s n (first ++ rest)
+  open_still : {n : ℕ} {rest : List Line} → n < formats_of s → Verdicts s (n + 1) rest → Verdicts s n (line_of s 0 n reason.Nothing ∷ rest)

@@ -1,0 +1,247 @@
+//! Fields of which the method doesn't go with what is seen of them.
+
+ghost use Rattle.std.specs.Prelude.{◌≡◌, ◌↔◌, IsTrue, IfOk, IfSome, Some, None, true, slice_get};
+ghost use Rattle.std.specs.Option.{option_copied};
+ghost use Rattle.fn_expr.specs.Bounds.{bounding_of};
+ghost use Rattle.fn_lib.specs.Methods.{IsOnly};
+ghost use Rattle.fn_normal.specs.declared.profile.Encoding.TheVariants as encoding;
+ghost use Rattle.fn_reasons.specs.Across as across;
+ghost use Rattle.fn_reasons.specs.Conflicts as spec;
+ghost use Rattle.fn_reasons.specs.Reasons.{wants_reference};
+ghost use Rattle.fn_reasons.specs.Told as told;
+
+use crate::across::{Valued, other_side, with_values};
+use crate::reason::Reason;
+use crate::seeing::Look;
+use crate::sight::Seen;
+use crate::subjects::{seen_at, seen_subject};
+use fn_bits::Bits;
+use fn_expr::{Ranges, Side};
+use fn_filling::below;
+use fn_holds::sides::reference_below;
+use fn_normal::{Encoding, Field, Library};
+use std::alloc::{AllocError, Global};
+
+/// What is seen of a format, with the ranges of its numbers.
+#[derive(Clone, Copy)]
+pub(crate) struct Sighted<'a> {
+    pub(crate) look: Look<'a>,
+    pub(crate) number: usize,
+    pub(crate) seen: &'a Seen,
+    pub(crate) ranges: &'a Ranges,
+}
+
+/// What stands against the format in a field that a library method encodes. The error is want of memory.
+pub(crate) fn conflict(
+    alloc: Global,
+    sighted: &Sighted<'_>,
+    index: usize,
+    field: &Field,
+) -> Result<Option<Reason>, AllocError>
+    requires sighted { spec.IsSighted sighted.now }
+    requires at { slice_get sighted.now.look.format.now.fields index ≡ Some field.now }
+    ensures { IfOk result (λ o. IfSome o (spec.StandsIn sighted.now)) }
+{
+    let spot = &sighted.look.spot;
+    let reference = reference_below(alloc, spot.context, spot.path, field)?;
+    if reference.is_none() && wants_reference(field.encoding.get()) {
+        return no_reference(alloc, sighted, index, field);
+    }
+    let Encoding::Library(library) = field.encoding.get() else {
+        return Ok(None);
+    };
+    let Some(method) = with_values(library, sighted.ranges) else {
+        return Ok(None);
+    };
+    let nothing = Bits::new(alloc);
+    let Some(covered) = covered_by(sighted.seen, library, &nothing) else {
+        return Ok(None);
+    };
+    let coded = Coded {
+        index,
+        field,
+        library,
+        method,
+        covered,
+        reference,
+    };
+    first_conflict(alloc, sighted, &coded)
+}
+
+/// A field that a library method encodes, with the values of its arguments, the bits that a crc covers, and its reference.
+#[derive(Clone, Copy)]
+pub(crate) struct Coded<'a> {
+    pub(crate) index: usize,
+    pub(crate) field: &'a Field,
+    pub(crate) library: &'a Library,
+    pub(crate) method: Valued,
+    pub(crate) covered: &'a Bits,
+    pub(crate) reference: Option<&'a Bits>,
+}
+
+/// Bits that the method asks for and that aren't those found; else bits with which it goes with no others.
+fn first_conflict(
+    alloc: Global,
+    sighted: &Sighted<'_>,
+    coded: &Coded<'_>,
+) -> Result<Option<Reason>, AllocError>
+    requires sighted { spec.IsSighted sighted.now }
+    requires coded { spec.IsCoded sighted.now coded.now }
+    ensures { IfOk result (λ o. IfSome o (spec.StandsIn sighted.now)) }
+{
+    let up = differs(alloc, sighted, coded, Side::Compressed)?;
+    if up.is_some() {
+        return Ok(up);
+    }
+    let down = differs(alloc, sighted, coded, Side::Uncompressed)?;
+    if down.is_some() {
+        return Ok(down);
+    }
+    let packed = no_side(alloc, sighted, coded, Side::Compressed)?;
+    if packed.is_some() {
+        return Ok(packed);
+    }
+    no_side(alloc, sighted, coded, Side::Uncompressed)
+}
+
+/// Whether the method asks for other bits on the other side than are seen there.
+fn differs(
+    alloc: Global,
+    sighted: &Sighted<'_>,
+    coded: &Coded<'_>,
+    side: Side,
+) -> Result<Option<Reason>, AllocError>
+    requires sighted { spec.IsSighted sighted.now }
+    requires coded { spec.IsCoded sighted.now coded.now }
+    ensures { IfOk result (λ o. IfSome o (spec.StandsIn sighted.now)) }
+{
+    let sights = sighted.seen.fields.as_slice();
+    let Some(own) = seen_at(sights, coded.index, side) else {
+        return Ok(None);
+    };
+    let Some(found) = seen_at(sights, coded.index, opposite(side)) else {
+        return Ok(None);
+    };
+    let due = other_side(
+        alloc,
+        coded.method,
+        coded.covered,
+        coded.reference,
+        side,
+        own,
+    )?;
+    let Some(due) = due else {
+        return Ok(None);
+    };
+    if are_same(found, &due) {
+        return Ok(None);
+    }
+    let found = found.copy(alloc)?;
+    Ok(Some(Reason::Differs {
+        field: coded.index,
+        side: opposite(side),
+        found,
+        due,
+    }))
+}
+
+/// Whether the method goes with no other side of the bits that are seen on this one.
+fn no_side(
+    alloc: Global,
+    sighted: &Sighted<'_>,
+    coded: &Coded<'_>,
+    side: Side,
+) -> Result<Option<Reason>, AllocError>
+    requires sighted { spec.IsSighted sighted.now }
+    requires coded { spec.IsCoded sighted.now coded.now }
+    ensures { IfOk result (λ o. IfSome o (spec.StandsIn sighted.now)) }
+{
+    let Some(own) = seen_at(sighted.seen.fields.as_slice(), coded.index, side) else {
+        return Ok(None);
+    };
+    let due = other_side(
+        alloc,
+        coded.method,
+        coded.covered,
+        coded.reference,
+        side,
+        own,
+    )?;
+    match due {
+        Some(_) => Ok(None),
+        None => lacking(alloc, sighted, coded, side, own),
+    }
+}
+
+/// The method goes with no other side of these bits.
+fn lacking(
+    alloc: Global,
+    sighted: &Sighted<'_>,
+    coded: &Coded<'_>,
+    side: Side,
+    own: &Bits,
+) -> Result<Option<Reason>, AllocError>
+    requires sighted { spec.IsSighted sighted.now }
+    requires coded { spec.IsCoded sighted.now coded.now }
+    requires seen { told.seen_at sighted.now.seen.now.fields coded.now.index side ≡ Some own.now }
+    requires none { IsOnly (told.Related (across.method_of coded.now.method coded.now.covered.now) (option_copied coded.now.reference) side own.now) None }
+    ensures { IfOk result (λ o. IfSome o (spec.StandsIn sighted.now)) }
+{
+    let found = own.copy(alloc)?;
+    Ok(Some(Reason::NoSide {
+        field: coded.index,
+        side,
+        found,
+    }))
+}
+
+/// The field has no reference.
+fn no_reference(
+    alloc: Global,
+    sighted: &Sighted<'_>,
+    index: usize,
+    field: &Field,
+) -> Result<Option<Reason>, AllocError>
+    requires sighted { spec.IsSighted sighted.now }
+    requires at { slice_get sighted.now.look.format.now.fields index ≡ Some field.now }
+    requires wants { wants_reference field.now.encoding ≡ true }
+    requires none { spec.reference_of sighted.now field.now ≡ None }
+    ensures { IfOk result (λ o. IfSome o (spec.StandsIn sighted.now)) }
+{
+    let path = below(alloc, sighted.look.spot.path, field.declared.name.as_str())?;
+    Ok(Some(Reason::NoReference { field: index, path }))
+}
+
+/// The bits that a crc covers, where they are seen, and nothing for another method.
+fn covered_by<'a>(seen: &'a Seen, library: &Library, nothing: &'a Bits) -> Option<&'a Bits>
+    ensures { IfSome result (λ bits. told.Covers seen.now library.now bits.now) }
+{
+    match library {
+        Library::Crc(crc) => seen_subject(seen, crc.subject, crc.side),
+        _ => Some(nothing),
+    }
+}
+
+fn wants_reference(encoding: &Encoding) -> bool
+    ensures { result ≡ wants_reference encoding.now }
+{
+    match encoding {
+        Encoding::Library(library) => matches!(library, Library::Static | Library::Lsb { .. }),
+        Encoding::Bare | Encoding::Call { .. } => false,
+    }
+}
+
+fn opposite(side: Side) -> Side
+    ensures { result ≡ told.opposite side }
+{
+    match side {
+        Side::Uncompressed => Side::Compressed,
+        Side::Compressed => Side::Uncompressed,
+    }
+}
+
+fn are_same(one: &Bits, other: &Bits) -> bool
+    ensures { IsTrue result ↔ (one.now ≡ other.now) }
+{
+    *one == *other
+}

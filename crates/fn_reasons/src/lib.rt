@@ -1,0 +1,20 @@
+//! Why no filling of a format has a header, or packed bits at the front of a packet.
+#![tactic(auto)]
+
+pub use line::Line;
+pub use reason::Reason;
+pub use spot::Spot;
+pub use verdicts::reasons;
+
+mod across;
+mod conflict;
+pub mod laws;
+pub mod line;
+mod numbers;
+mod placing;
+pub mod reason;
+mod seeing;
+mod sight;
+pub mod spot;
+mod subjects;
+pub mod verdicts;

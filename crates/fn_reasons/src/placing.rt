@@ -1,0 +1,155 @@
+//! Where the sides of fields stand in the bits that they are joined to.
+
+ghost use Rattle.std.specs.Prelude.{◌≡◌, ◌+◌, IsTrue, IfOk, IfSome, Some, slice_get};
+ghost use Rattle.fn_filling.specs.Fillings as fillings;
+ghost use Rattle.fn_reasons.specs.Places as spec;
+
+use fn_bits::Bits;
+use fn_expr::Side;
+use fn_normal::{Bounds, Field, Format, Part, Sizes};
+use sqlite_items::{Items, at};
+use std::alloc::{AllocError, Global};
+
+/// The fields whose sides are joined to that side of the whole, in order. The error is want of memory.
+pub(crate) fn order_of(
+    alloc: Global,
+    format: &Format,
+    side: Side,
+) -> Result<Items<usize>, AllocError>
+    ensures { IfOk result (λ order. order ≡ spec.order_of format.now side) }
+{
+    match side {
+        Side::Uncompressed => header_order(alloc, format.fields.as_slice()),
+        Side::Compressed => Items::from_slice(alloc, format.listing.get().as_slice()),
+    }
+}
+
+fn header_order(alloc: Global, fields: &[Field]) -> Result<Items<usize>, AllocError>
+    ensures { IfOk result (λ order. order ≡ spec.header_order 0 fields.now) }
+{
+    let mut found = Items::new(alloc);
+    for (index, field) in fields.iter().enumerate() {
+        if is_header(field) {
+            found.push(index)?;
+        }
+    }
+    Ok(found)
+}
+
+fn is_header(field: &Field) -> bool
+    ensures { result ≡ fillings.is_header field.now.declared.part }
+{
+    match field.declared.part {
+        Part::Header => true,
+        Part::Control | Part::Local => false,
+    }
+}
+
+/// The bits of the field, where those before it have each one length. The error is want of memory.
+pub(crate) fn held(
+    alloc: Global,
+    order: &[usize],
+    sizes: &[Sizes],
+    side: Side,
+    bits: &Bits,
+    field: usize,
+) -> Result<Option<Bits>, AllocError>
+    ensures { IfOk result (λ o. IfSome o (spec.Holds order.now (spec.only_length sizes.now side) bits.now field)) }
+{
+    let Some(offset) = begin_of(order, sizes, side, field) else {
+        return Ok(None);
+    };
+    let Some(count) = only_length(sizes, side, field) else {
+        return Ok(None);
+    };
+    cut(alloc, bits, offset, count)
+}
+
+/// So many of the bits, from the offset on. None where there are fewer. The error is want of memory.
+fn cut(alloc: Global, bits: &Bits, offset: usize, count: u128) -> Result<Option<Bits>, AllocError>
+    ensures { IfOk result (λ o. IfSome o (spec.IsCut bits.now offset count)) }
+{
+    let left = bits.len().saturating_sub(offset);
+    if count > left as u128 || offset > bits.len() {
+        return Ok(None);
+    }
+    let end = offset + count as usize;
+    bits.slice(alloc, offset, end)
+}
+
+/// After how many bits the field begins, where those before it have each one length.
+pub(crate) fn begin_of(order: &[usize], sizes: &[Sizes], side: Side, field: usize) -> Option<usize>
+    ensures { IfSome result (spec.BeginsAt order.now (spec.only_length sizes.now side) field) }
+{
+    let mut offset = 0;
+    for place in 0..order.len() {
+        if is_at(order, place, field) {
+            return Some(offset);
+        }
+        let Some(next) = next_offset(order, sizes, side, place, offset) else {
+            return None;
+        };
+        offset = next;
+    }
+    None
+}
+
+fn is_at(order: &[usize], place: usize, field: usize) -> bool
+    ensures { IsTrue result → slice_get order.now place ≡ Some field }
+{
+    match at(order, place) {
+        Some(found) => *found == field,
+        None => false,
+    }
+}
+
+/// After how many bits the next field of the order begins.
+fn next_offset(
+    order: &[usize],
+    sizes: &[Sizes],
+    side: Side,
+    place: usize,
+    offset: usize,
+) -> Option<usize>
+    ensures { IfSome result (λ next. spec.HaveLength order.now (spec.only_length sizes.now side) place offset → spec.HaveLength order.now (spec.only_length sizes.now side) (place + 1) next) }
+{
+    let Some(field) = at(order, place) else {
+        return None;
+    };
+    let Some(only) = only_length(sizes, side, *field) else {
+        return None;
+    };
+    let Ok(count) = usize::try_from(only) else {
+        return None;
+    };
+    offset.checked_add(count)
+}
+
+/// The only length of a side of the field, in bits.
+fn only_length(sizes: &[Sizes], side: Side, field: usize) -> Option<u128>
+    ensures { result ≡ spec.only_length sizes.now side field }
+{
+    match at(sizes, field) {
+        Some(bounds) => only_within(bounds_of(*bounds, side)),
+        None => None,
+    }
+}
+
+fn bounds_of(sizes: Sizes, side: Side) -> Bounds
+    ensures { result ≡ spec.side_bounds side sizes }
+{
+    match side {
+        Side::Uncompressed => sizes.uncompressed,
+        Side::Compressed => sizes.compressed,
+    }
+}
+
+fn only_within(bounds: Bounds) -> Option<u128>
+    ensures { result ≡ spec.only_within bounds }
+{
+    if bounds.least == bounds.most {
+        Some(bounds.least)
+    } else {
+        None
+    }
+}

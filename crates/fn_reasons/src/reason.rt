@@ -1,0 +1,50 @@
+//! What may stand against a format.
+
+use fn_bits::Bits;
+use fn_expr::Side;
+use fn_lint::Obstacle;
+
+/// What stands against a format, so that no filling of it is asked for. Fields and constraints go by their indices, lengths are in bits.
+#[derive(Drop)]
+pub enum Reason {
+    /// No filling of the format fits, whatever is asked for.
+    Dead(Obstacle),
+    /// There are fewer bits than any filling of the format has.
+    Short {
+        length: usize,
+        least: u128,
+    },
+    /// There are more.
+    Long {
+        length: usize,
+        most: u128,
+    },
+    /// The field is encoded by `static` or `lsb`, and there is neither an entry at its path nor a value of INITIAL.
+    NoReference {
+        field: usize,
+        path: String,
+    },
+    /// The side of the field has the bits that were found, and its method asks for others.
+    Differs {
+        field: usize,
+        side: Side,
+        found: Bits,
+        due: Bits,
+    },
+    /// The side of the field has bits with which its method goes with no other side.
+    NoSide {
+        field: usize,
+        side: Side,
+        found: Bits,
+    },
+    /// The constraint is a condition that is false.
+    Untrue {
+        constraint: usize,
+    },
+    /// Something stands against each format of the method that the field calls.
+    Inside {
+        field: usize,
+    },
+    /// Nothing that is looked at here.
+    Nothing,
+}

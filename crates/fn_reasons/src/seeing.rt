@@ -1,0 +1,242 @@
+//! What is seen of the fields of a format.
+
+ghost use Rattle.std.specs.Prelude.{◌≡◌, ◌+◌, IfOk, IfSome, OnOk, Some, None, slice_get};
+ghost use Rattle.fn_expr.specs.Bounds.{bounding_of};
+ghost use Rattle.fn_normal.specs.declared.profile.Encoding.TheVariants as encoding;
+ghost use Rattle.fn_reasons.specs.Looks as spec;
+ghost use Rattle.fn_reasons.specs.Settings.{setting_of};
+ghost use Rattle.fn_reasons.specs.Told as told;
+
+use crate::across::{other_side, with_values};
+use crate::placing::held;
+use crate::sight::Sight;
+use crate::spot::Spot;
+use fn_bits::Bits;
+use fn_expr::{Ranges, Side};
+use fn_holds::sides::reference_below;
+use fn_normal::{Encoding, Field, Format, FormatSizes, Library};
+use sqlite_items::Items;
+use std::alloc::{AllocError, Global};
+
+/// What a look at a format of the spot's method goes by: its bounds, the fields on the spot's side in order, and the ranges of its numbers by the bounds.
+#[derive(Clone, Copy)]
+pub(crate) struct Look<'a> {
+    pub(crate) spot: Spot<'a>,
+    pub(crate) format: &'a Format,
+    pub(crate) sizes: &'a FormatSizes,
+    pub(crate) order: &'a [usize],
+    pub(crate) base: &'a Ranges,
+}
+
+/// What is seen of each field. The error is want of memory.
+pub(crate) fn sights(
+    alloc: Global,
+    look: &Look<'_>,
+    format: usize,
+) -> Result<Items<Sight>, AllocError>
+    requires { spec.IsLook look.now format }
+    ensures { IfOk result (told.AreSeen (setting_of look.now.spot) look.now.format.now look.now.sizes.now) }
+{
+    let mut found = Items::new(alloc);
+    for index in 0..look.format.fields.len() {
+        add_sight(alloc, look, format, index, &mut found)?;
+    }
+    Ok(found)
+}
+
+/// Adds what is seen of the next field.
+fn add_sight(
+    alloc: Global,
+    look: &Look<'_>,
+    format: usize,
+    index: usize,
+    found: &mut Items<Sight>,
+) -> Result<(), AllocError>
+    requires { spec.IsLook look.now format }
+    ensures { OnOk result (spec.SoFar look.now found.old index → spec.SoFar look.now found.new (index + 1)) }
+{
+    let sight = sight_at(alloc, look, format, index)?;
+    found.push(sight)
+}
+
+/// What is seen of the field.
+fn sight_at(
+    alloc: Global,
+    look: &Look<'_>,
+    format: usize,
+    index: usize,
+) -> Result<Sight, AllocError>
+    requires { spec.IsLook look.now format }
+    ensures { IfOk result (spec.SeenOf look.now index) }
+{
+    match look.format.fields.get(index) {
+        Some(field) => sight_of(alloc, look, format, index, field),
+        None => Ok(Sight {
+            uncompressed: None,
+            compressed: None,
+        }),
+    }
+}
+
+/// What is seen of this field.
+fn sight_of(
+    alloc: Global,
+    look: &Look<'_>,
+    format: usize,
+    index: usize,
+    field: &Field,
+) -> Result<Sight, AllocError>
+    requires look { spec.IsLook look.now format }
+    requires at { slice_get look.now.format.now.fields index ≡ Some field.now }
+    ensures { IfOk result (spec.SeenOf look.now index) }
+{
+    let up = first_told(alloc, look, format, index, field, Side::Uncompressed)?;
+    let down = first_told(alloc, look, format, index, field, Side::Compressed)?;
+    match (up, down) {
+        (Some(up), Some(down)) => Ok(Sight {
+            uncompressed: Some(up),
+            compressed: Some(down),
+        }),
+        (Some(up), None) => with_packed(alloc, look, format, index, field, up),
+        (None, Some(down)) => with_header(alloc, look, format, index, field, down),
+        (None, None) => Ok(Sight {
+            uncompressed: None,
+            compressed: None,
+        }),
+    }
+}
+
+/// What is seen where the uncompressed side is told.
+fn with_packed(
+    alloc: Global,
+    look: &Look<'_>,
+    format: usize,
+    index: usize,
+    field: &Field,
+    up: Bits,
+) -> Result<Sight, AllocError>
+    requires look { spec.IsLook look.now format }
+    requires at { slice_get look.now.format.now.fields index ≡ Some field.now }
+    requires told { spec.ToldOf look.now index Side.Uncompressed up }
+    ensures { IfOk result (spec.SeenOf look.now index) }
+{
+    let down = across(alloc, look, format, index, field, Side::Uncompressed, &up)?;
+    Ok(Sight {
+        uncompressed: Some(up),
+        compressed: down,
+    })
+}
+
+/// What is seen where the compressed side is told.
+fn with_header(
+    alloc: Global,
+    look: &Look<'_>,
+    format: usize,
+    index: usize,
+    field: &Field,
+    down: Bits,
+) -> Result<Sight, AllocError>
+    requires look { spec.IsLook look.now format }
+    requires at { slice_get look.now.format.now.fields index ≡ Some field.now }
+    requires told { spec.ToldOf look.now index Side.Compressed down }
+    ensures { IfOk result (spec.SeenOf look.now index) }
+{
+    let up = across(alloc, look, format, index, field, Side::Compressed, &down)?;
+    Ok(Sight {
+        uncompressed: up,
+        compressed: Some(down),
+    })
+}
+
+/// A side that the field's method leaves empty, or the bits at its place.
+fn first_told(
+    alloc: Global,
+    look: &Look<'_>,
+    format: usize,
+    index: usize,
+    field: &Field,
+    side: Side,
+) -> Result<Option<Bits>, AllocError>
+    requires look { spec.IsLook look.now format }
+    requires at { slice_get look.now.format.now.fields index ≡ Some field.now }
+    ensures { IfOk result (λ o. IfSome o (spec.ToldOf look.now index side)) }
+{
+    if leaves_empty(field.encoding.get(), side) {
+        return Ok(Some(Bits::new(alloc)));
+    }
+    if side == look.spot.side {
+        placed(alloc, look, format, index)
+    } else {
+        Ok(None)
+    }
+}
+
+/// The bits at the place of the field.
+fn placed(
+    alloc: Global,
+    look: &Look<'_>,
+    format: usize,
+    index: usize,
+) -> Result<Option<Bits>, AllocError>
+    requires { spec.IsLook look.now format }
+    ensures { IfOk result (λ o. IfSome o (spec.ToldOf look.now index look.now.spot.side)) }
+{
+    let sizes = look.sizes.fields.as_slice();
+    held(
+        alloc,
+        look.order,
+        sizes,
+        look.spot.side,
+        look.spot.bits,
+        index,
+    )
+}
+
+/// The other side, by this one.
+fn across(
+    alloc: Global,
+    look: &Look<'_>,
+    format: usize,
+    index: usize,
+    field: &Field,
+    side: Side,
+    own: &Bits,
+) -> Result<Option<Bits>, AllocError>
+    requires look { spec.IsLook look.now format }
+    requires at { slice_get look.now.format.now.fields index ≡ Some field.now }
+    requires told { spec.ToldOf look.now index side own.now }
+    ensures { IfOk result (λ o. IfSome o (spec.ToldOf look.now index (told.opposite side))) }
+{
+    let Encoding::Library(library) = field.encoding.get() else {
+        return Ok(None);
+    };
+    if is_crc(library) {
+        return Ok(None);
+    }
+    let Some(method) = with_values(library, look.base) else {
+        return Ok(None);
+    };
+    let reference = reference_below(alloc, look.spot.context, look.spot.path, field)?;
+    let covered = Bits::new(alloc);
+    other_side(alloc, method, &covered, reference, side, own)
+}
+
+fn is_crc(library: &Library) -> bool
+    ensures { result ≡ told.is_crc library.now }
+{
+    matches!(library, Library::Crc(_))
+}
+
+/// Whether the method leaves that side of its field empty.
+fn leaves_empty(encoding: &Encoding, side: Side) -> bool
+    ensures { result ≡ told.leaves_empty encoding.now side }
+{
+    match encoding {
+        Encoding::Library(library) => match library {
+            Library::UncompressedValue { .. } | Library::Static => side == Side::Compressed,
+            Library::CompressedValue { .. } | Library::Crc(_) => side == Side::Uncompressed,
+            Library::Irregular { .. } | Library::Lsb { .. } => false,
+        },
+        Encoding::Bare | Encoding::Call { .. } => false,
+    }
+}

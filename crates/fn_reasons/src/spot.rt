@@ -1,0 +1,20 @@
+//! What is asked for.
+
+use fn_bits::Bits;
+use fn_context::Context;
+use fn_expr::{Interval, Side};
+use fn_profile::Profile;
+
+/// What is asked for: fillings that fit a method of the profile, by its index, in the context and below the path of the field that they fill, which is empty at the
+/// top. Their arguments lie in the ranges. That side of each, its header or its packed bits, begins the bits, or is all of them.
+#[derive(Clone, Copy)]
+pub struct Spot<'a> {
+    pub profile: &'a Profile,
+    pub context: &'a Context,
+    pub method: usize,
+    pub parameters: &'a [Interval],
+    pub path: &'a str,
+    pub side: Side,
+    pub bits: &'a Bits,
+    pub is_whole: bool,
+}

@@ -1,0 +1,419 @@
+//! What stands against each format.
+
+ghost use Rattle.std.specs.Prelude.{◌≡◌, ◌<◌, ◌+◌, drop, IfOk, IfSome, OnOk, Some, slice_get};
+ghost use Rattle.std.specs.Option.{option_copied};
+ghost use Rattle.fn_expr.specs.Bounds.{bounding_of};
+ghost use Rattle.fn_fits.specs.Bounded.{sizes_at};
+ghost use Rattle.fn_fits.specs.Fits.{format_at};
+ghost use Rattle.fn_normal.specs.declared.profile.Encoding.TheVariants as encoding;
+ghost use Rattle.fn_reasons.specs.Conflicts.{IsSighted, StandsIn};
+ghost use Rattle.fn_reasons.specs.Listing as listing;
+ghost use Rattle.fn_reasons.specs.Places as places;
+ghost use Rattle.fn_reasons.specs.Reasons as spec;
+ghost use Rattle.fn_reasons.specs.Settings.{setting_of};
+ghost use Rattle.fn_reasons.specs.Told as told;
+
+use crate::conflict::{Sighted, conflict};
+use crate::line::Line;
+use crate::numbers::ranges_seen;
+use crate::placing::{begin_of, order_of};
+use crate::reason::Reason;
+use crate::seeing::{Look, sights};
+use crate::sight::{Seen, Sight};
+use crate::spot::Spot;
+use crate::subjects::joined;
+use fn_bits::Bits;
+use fn_bounds::ranging::format_ranges;
+use fn_expr::{Expr, Interval, Ranges, Side, range};
+use fn_filling::below;
+use fn_lint::{first_untrue, obstacle_of};
+use fn_normal::{Bounds, Encoding, Field, Format, FormatSizes};
+use fn_profile::Profile;
+use sqlite_items::Items;
+use std::alloc::{AllocError, Global};
+
+/// How many calls, one in the other, are looked into: as many as a chain of calls can have.
+const DEEPEST: usize = 16;
+
+/// For each format of the spot's method, in the order of the text, what stands against it: a line, or several where that is in the methods that a field calls, or
+/// that nothing is found. The error is want of memory.
+pub fn reasons(alloc: Global, spot: &Spot<'_>) -> Result<Items<Line>, AllocError>
+    ensures { IfOk result (spec.Verdicts (setting_of spot.now) 0) }
+{
+    let mut lines = Items::new(alloc);
+    for format in 0..formats_of(spot) {
+        add_verdict(alloc, spot, format, &mut lines)?;
+    }
+    Ok(lines)
+}
+
+/// How many formats the method has.
+fn formats_of(spot: &Spot<'_>) -> usize
+    ensures { result ≡ spec.formats_of (setting_of spot.now) }
+{
+    match spot.profile.methods().get(spot.method) {
+        Some(method) => method.formats.len(),
+        None => 0,
+    }
+}
+
+/// Adds what stands against a format.
+fn add_verdict(
+    alloc: Global,
+    spot: &Spot<'_>,
+    format: usize,
+    lines: &mut Items<Line>,
+) -> Result<(), AllocError>
+    requires { format < spec.formats_of (setting_of spot.now) }
+    ensures { OnOk result (listing.SoFar (setting_of spot.now) format lines.old → listing.SoFar (setting_of spot.now) (format + 1) lines.new) }
+{
+    match told(DEEPEST, alloc, spot, 0, format)? {
+        Some(more) => lines.append(more),
+        None => lines.push(line(spot, 0, format, Reason::Nothing)),
+    }
+}
+
+fn line(spot: &Spot<'_>, depth: usize, format: usize, reason: Reason) -> Line
+    ensures { result ≡ spec.line_of (setting_of spot.now) depth format reason }
+{
+    Line {
+        depth,
+        method: spot.method,
+        format,
+        reason,
+    }
+}
+
+/// The lines that tell why no filling of the format is asked for, where something is found.
+#[cycle(telling)]
+fn told(
+    left: usize,
+    alloc: Global,
+    spot: &Spot<'_>,
+    depth: usize,
+    format: usize,
+) -> Result<Option<Items<Line>>, AllocError>
+    ensures { IfOk result (λ o. IfSome o (spec.Tells (setting_of spot.now) depth format)) }
+{
+    if let Some(reason) = at_once(alloc, spot, format)? {
+        return Ok(Some(alone(alloc, spot, depth, format, reason)?));
+    }
+    let Some(found) = format_of(spot.profile, spot.method, format) else {
+        return Ok(None);
+    };
+    let Some(sizes) = sizes_of(spot.profile, spot.method, format) else {
+        return Ok(None);
+    };
+    let order = order_of(alloc, found, spot.side)?;
+    let base = format_ranges(alloc, sizes, spot.parameters)?;
+    let look = Look {
+        spot: *spot,
+        format: found,
+        sizes,
+        order: order.as_slice(),
+        base: &base,
+    };
+    let seen = seen_of(alloc, &look, format)?;
+    let ranges = ranges_seen(alloc, &seen, &base)?;
+    let sighted = Sighted {
+        look,
+        number: format,
+        seen: &seen,
+        ranges: &ranges,
+    };
+    told_by(left, alloc, &sighted, depth)
+}
+
+/// One line of this reason.
+fn alone(
+    alloc: Global,
+    spot: &Spot<'_>,
+    depth: usize,
+    format: usize,
+    reason: Reason,
+) -> Result<Items<Line>, AllocError>
+    requires { spec.Stands (setting_of spot.now) format reason }
+    ensures { IfOk result (spec.Tells (setting_of spot.now) depth format) }
+{
+    let mut lines = Items::new(alloc);
+    lines.push(line(spot, depth, format, reason))?;
+    Ok(lines)
+}
+
+/// What stands against the format without a look at its fields.
+fn at_once(alloc: Global, spot: &Spot<'_>, format: usize) -> Result<Option<Reason>, AllocError>
+    ensures { IfOk result (λ o. IfSome o (spec.Stands (setting_of spot.now) format)) }
+{
+    if let Some(obstacle) = obstacle_of(alloc, spot.profile, spot.method, format)? {
+        return Ok(Some(Reason::Dead(obstacle)));
+    }
+    Ok(of_length(spot, format))
+}
+
+/// Whether there are fewer or more bits than a filling of the format has.
+fn of_length(spot: &Spot<'_>, format: usize) -> Option<Reason>
+    ensures { IfSome result (spec.Stands (setting_of spot.now) format) }
+{
+    let Some(sizes) = sizes_of(spot.profile, spot.method, format) else {
+        return None;
+    };
+    let bounds = whole_bounds(sizes, spot.side);
+    let length = spot.bits.len();
+    if (length as u128) < bounds.least {
+        return Some(Reason::Short {
+            length,
+            least: bounds.least,
+        });
+    }
+    if spot.is_whole && bounds.most < length as u128 {
+        return Some(Reason::Long {
+            length,
+            most: bounds.most,
+        });
+    }
+    None
+}
+
+fn whole_bounds(sizes: &FormatSizes, side: Side) -> Bounds
+    ensures { result ≡ places.side_bounds side sizes.now.whole }
+{
+    match side {
+        Side::Uncompressed => sizes.whole.uncompressed,
+        Side::Compressed => sizes.whole.compressed,
+    }
+}
+
+/// What is seen of the format's fields and of the whole.
+fn seen_of(alloc: Global, look: &Look<'_>, format: usize) -> Result<Seen, AllocError>
+    requires { listing.IsLook look.now format }
+    ensures { IfOk result (told.AreAllSeen (setting_of look.now.spot) look.now.format.now look.now.sizes.now) }
+{
+    let fields = sights(alloc, look, format)?;
+    let header = whole_side(alloc, fields.as_slice(), look.format, Side::Uncompressed)?;
+    let packed = whole_side(alloc, fields.as_slice(), look.format, Side::Compressed)?;
+    Ok(Seen {
+        fields,
+        whole: Sight {
+            uncompressed: header,
+            compressed: packed,
+        },
+    })
+}
+
+fn whole_side(
+    alloc: Global,
+    sights: &[Sight],
+    format: &Format,
+    side: Side,
+) -> Result<Option<Bits>, AllocError>
+    ensures { IfOk result (λ o. IfSome o (λ bits. told.joined sights.now side (places.order_of format.now side) ≡ Some bits)) }
+{
+    let order = order_of(alloc, format, side)?;
+    joined(alloc, sights, side, order.as_slice())
+}
+
+/// The lines that tell it by what is seen: of the first field with which something is wrong, in the order of the bits and then those that have none there, else of
+/// the first condition that is false.
+#[cycle(telling)]
+fn told_by(
+    left: usize,
+    alloc: Global,
+    sighted: &Sighted<'_>,
+    depth: usize,
+) -> Result<Option<Items<Line>>, AllocError>
+    requires { IsSighted sighted.now }
+    ensures { IfOk result (λ o. IfSome o (spec.Tells (setting_of sighted.now.look.spot) depth sighted.now.number)) }
+{
+    for index in sighted.look.order {
+        let found = told_by_field(left, alloc, sighted, depth, *index)?;
+        if found.is_some() {
+            return Ok(found);
+        }
+    }
+    for index in 0..sighted.look.format.fields.len() {
+        if !sighted.look.order.contains(&index) {
+            let found = told_by_field(left, alloc, sighted, depth, index)?;
+            if found.is_some() {
+                return Ok(found);
+            }
+        }
+    }
+    told_by_condition(alloc, sighted, depth)
+}
+
+/// The same by the first condition that is false.
+fn told_by_condition(
+    alloc: Global,
+    sighted: &Sighted<'_>,
+    depth: usize,
+) -> Result<Option<Items<Line>>, AllocError>
+    requires { IsSighted sighted.now }
+    ensures { IfOk result (λ o. IfSome o (spec.Tells (setting_of sighted.now.look.spot) depth sighted.now.number)) }
+{
+    let constraints = sighted.look.format.constraints.as_slice();
+    let Some(constraint) = first_untrue(constraints, sighted.ranges) else {
+        return Ok(None);
+    };
+    let reason = Reason::Untrue { constraint };
+    let lines = alone(alloc, &sighted.look.spot, depth, sighted.number, reason)?;
+    Ok(Some(lines))
+}
+
+/// The same by a field.
+#[cycle(telling)]
+fn told_by_field(
+    left: usize,
+    alloc: Global,
+    sighted: &Sighted<'_>,
+    depth: usize,
+    index: usize,
+) -> Result<Option<Items<Line>>, AllocError>
+    requires { IsSighted sighted.now }
+    ensures { IfOk result (λ o. IfSome o (spec.Tells (setting_of sighted.now.look.spot) depth sighted.now.number)) }
+{
+    let Some(field) = sighted.look.format.fields.get(index) else {
+        return Ok(None);
+    };
+    match field.encoding.get() {
+        Encoding::Call { method, arguments } => {
+            if left == 0 {
+                return Ok(None);
+            }
+            told_by_call(
+                left - 1,
+                alloc,
+                sighted,
+                depth,
+                index,
+                field,
+                *method,
+                arguments.as_slice(),
+            )
+        }
+        _ => {
+            let Some(reason) = conflict(alloc, sighted, index, field)? else {
+                return Ok(None);
+            };
+            let lines = alone(alloc, &sighted.look.spot, depth, sighted.number, reason)?;
+            Ok(Some(lines))
+        }
+    }
+}
+
+/// The same by a field that calls a method, where something stands against each format of that.
+#[cycle(telling)]
+fn told_by_call(
+    left: usize,
+    alloc: Global,
+    sighted: &Sighted<'_>,
+    depth: usize,
+    index: usize,
+    field: &Field,
+    method: usize,
+    arguments: &[Expr],
+) -> Result<Option<Items<Line>>, AllocError>
+    requires sighted { IsSighted sighted.now }
+    requires at { slice_get sighted.now.look.format.now.fields index ≡ Some field.now }
+    requires call { field.now.encoding ≡ encoding.Call method arguments.now }
+    ensures { IfOk result (λ o. IfSome o (spec.Tells (setting_of sighted.now.look.spot) depth sighted.now.number)) }
+{
+    let look = &sighted.look;
+    let begin = begin_of(
+        look.order,
+        look.sizes.fields.as_slice(),
+        look.spot.side,
+        index,
+    );
+    let Some(offset) = begin else {
+        return Ok(None);
+    };
+    let Some(parameters) = all_ranged(alloc, arguments, sighted.ranges)? else {
+        return Ok(None);
+    };
+    let Some(bits) = rest_of(alloc, look.spot.bits, offset)? else {
+        return Ok(None);
+    };
+    let path = below(alloc, look.spot.path, field.declared.name.as_str())?;
+    let inner = Spot {
+        profile: look.spot.profile,
+        context: look.spot.context,
+        method,
+        parameters: parameters.as_slice(),
+        path: path.as_str(),
+        side: look.spot.side,
+        bits: &bits,
+        is_whole: false,
+    };
+    let Some(deeper) = depth.checked_add(1) else {
+        return Ok(None);
+    };
+    let Some(more) = all_told(left, alloc, &inner, deeper)? else {
+        return Ok(None);
+    };
+    let mut lines = Items::new(alloc);
+    lines.push(line(
+        &look.spot,
+        depth,
+        sighted.number,
+        Reason::Inside { field: index },
+    ))?;
+    lines.append(more)?;
+    Ok(Some(lines))
+}
+
+/// The lines that tell it of each format of the method, where something is found against each.
+#[cycle(telling)]
+fn all_told(
+    left: usize,
+    alloc: Global,
+    spot: &Spot<'_>,
+    depth: usize,
+) -> Result<Option<Items<Line>>, AllocError>
+    ensures { IfOk result (λ o. IfSome o (spec.TellAll (setting_of spot.now) depth 0)) }
+{
+    let mut lines = Items::new(alloc);
+    for format in 0..formats_of(spot) {
+        let Some(more) = told(left, alloc, spot, depth, format)? else {
+            return Ok(None);
+        };
+        lines.append(more)?;
+    }
+    Ok(Some(lines))
+}
+
+/// The bits from the offset on. None where there are fewer.
+fn rest_of(alloc: Global, bits: &Bits, offset: usize) -> Result<Option<Bits>, AllocError>
+    ensures { IfOk result (λ o. IfSome o (λ rest. rest ≡ drop offset bits.now)) }
+{
+    bits.slice(alloc, offset, bits.len())
+}
+
+/// The ranges of the expressions, where each has one.
+fn all_ranged(
+    alloc: Global,
+    exprs: &[Expr],
+    ranges: &Ranges,
+) -> Result<Option<Items<Interval>>, AllocError>
+    ensures { IfOk result (λ o. IfSome o (λ found. spec.all_ranged (bounding_of ranges.now) exprs.now ≡ Some found)) }
+{
+    let mut found = Items::new(alloc);
+    for expr in exprs {
+        let Ok(interval) = range(expr, ranges) else {
+            return Ok(None);
+        };
+        found.push(interval)?;
+    }
+    Ok(Some(found))
+}
+
+fn format_of(profile: &Profile, method: usize, format: usize) -> Option<&Format>
+    ensures { option_copied result ≡ format_at profile.now.methods method format }
+{
+    profile.methods().get(method)?.formats.get(format)
+}
+
+fn sizes_of(profile: &Profile, method: usize, format: usize) -> Option<&FormatSizes>
+    ensures { option_copied result ≡ sizes_at profile.now.sizes method format }
+{
+    profile.sizes().get(method)?.formats.get(format)
+}
