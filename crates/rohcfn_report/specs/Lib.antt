@@ -4,6 +4,7 @@ pub mod Fields
 pub mod Linting
 pub mod ProfileLines
 pub mod Provings
+pub mod Reasons
 pub mod Reports
 pub mod Table
 pub mod Verdicts

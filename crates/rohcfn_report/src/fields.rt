@@ -43,7 +43,7 @@ pub fn fields_text(
     Ok(text)
 }
 
-fn head_line(alloc: Global, head: Head<'_>, format: &str) -> Result<String, AllocError>
+pub fn head_line(alloc: Global, head: Head<'_>, format: &str) -> Result<String, AllocError>
     ensures { IfOk result (λ text. string_bytes text ≡ spec.head_text head.entry.what.now head.entry.number format.now head.entry.bits) }
 {
     let Head { what, number, bits } = head;
@@ -82,7 +82,12 @@ fn further_in(alloc: Global, indent: &str) -> Result<String, AllocError>
 }
 
 /// How a field of a format is encoded, where there is such a field.
-fn encoding_at(methods: &[Method], method: usize, format: usize, field: usize) -> Option<&Encoding>
+pub(crate) fn encoding_at(
+    methods: &[Method],
+    method: usize,
+    format: usize,
+    field: usize,
+) -> Option<&Encoding>
     ensures { option_copied result ≡ spec.encoding_at methods.now method format field }
 {
     let field = field_at(methods, method, format, field)?;
@@ -125,7 +130,7 @@ fn name_cell(alloc: Global, indent: &str, name: &str) -> Result<Cell, AllocError
     Ok(Cell::new(text))
 }
 
-fn bits_cell(alloc: Global, bits: &Bits) -> Result<Cell, AllocError>
+pub(crate) fn bits_cell(alloc: Global, bits: &Bits) -> Result<Cell, AllocError>
     ensures { IfOk result (λ cell. cell ≡ bits_text bits.now) }
 {
     let text = bits.print_text(alloc)?;
@@ -152,7 +157,7 @@ fn part_word(part: Part) -> &'static str
 }
 
 /// What encodes a field, by the format of the filling inside it.
-fn method_cell(
+pub(crate) fn method_cell(
     alloc: Global,
     methods: &[Method],
     encoding: Option<&Encoding>,

@@ -1,4 +1,4 @@
-//! What `show`, `prove`, `check` and `lint` print, and what `fields` prints of a filling.
+//! What `show`, `prove`, `check` and `lint` print, what `fields` prints of a filling, and what `why` prints of reasons.
 #![tactic(auto)]
 
 pub mod accepting;
@@ -6,6 +6,7 @@ pub mod checking;
 pub mod fields;
 pub mod linting;
 pub mod proving;
+pub mod reasons;
 pub mod showing;
 pub mod table;
 pub mod verdicts;

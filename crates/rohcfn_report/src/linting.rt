@@ -88,7 +88,7 @@ fn line_text(
 // ---- the place
 
 /// Where in the profile the reason stands.
-fn place_of(methods: &[Method], dead: DeadFormat) -> Span
+pub(crate) fn place_of(methods: &[Method], dead: DeadFormat) -> Span
     ensures { result ≡ spec.place_of methods.now dead }
 {
     let constraints = constraints_at(methods, dead.method, dead.format);
@@ -104,7 +104,11 @@ fn place_of(methods: &[Method], dead: DeadFormat) -> Span
     }
 }
 
-fn constraints_at(methods: &[Method], method: usize, format: usize) -> &[Shared<Constraint>]
+pub(crate) fn constraints_at(
+    methods: &[Method],
+    method: usize,
+    format: usize,
+) -> &[Shared<Constraint>]
     ensures { result.now ≡ spec.constraints_at methods.now method format }
 {
     match format_at(methods, method, format) {
@@ -114,7 +118,7 @@ fn constraints_at(methods: &[Method], method: usize, format: usize) -> &[Shared<
 }
 
 /// The place of a method's name.
-fn method_place(methods: &[Method], method: usize) -> Span
+pub(crate) fn method_place(methods: &[Method], method: usize) -> Span
     ensures { result ≡ spec.method_place methods.now method }
 {
     match methods.get(method) {
@@ -124,7 +128,12 @@ fn method_place(methods: &[Method], method: usize) -> Span
 }
 
 /// The place of the first bracket of this side of the field, or another.
-fn bracket_or(constraints: &[Shared<Constraint>], field: usize, side: Side, other: Span) -> Span
+pub(crate) fn bracket_or(
+    constraints: &[Shared<Constraint>],
+    field: usize,
+    side: Side,
+    other: Span,
+) -> Span
     ensures { result ≡ unwrap_or (spec.first_bracket field side constraints.now) other }
 {
     match first_bracket(constraints, field, side) {
@@ -200,7 +209,7 @@ fn constraint_place(constraint: &Constraint) -> Span
 // ---- the words
 
 /// What keeps every filling from a format.
-fn obstacle_words(
+pub(crate) fn obstacle_words(
     alloc: Global,
     profile: &Profile,
     method: usize,

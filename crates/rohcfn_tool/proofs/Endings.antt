@@ -34,13 +34,13 @@ use Rattle.rohcfn_words.specs.declared.words.Direction.TheVariants.{Pack, Unpack
 use Rattle.rohcfn_words.specs.declared.words.End.{End}
 use Rattle.rohcfn_words.specs.declared.words.End.TheVariants.{Sending, Receiving}
 use Rattle.rohcfn_words.specs.declared.words.Order.{Order}
-use Rattle.rohcfn_tool.specs.Printed.{Prints, PrintsInput, AnsweredIn, AnsweredFor, AnsweredBy, AnsweredRun, Answered, SaysItem, FaultsItem, SaysPacket, FaultsPacket}
+use Rattle.rohcfn_tool.specs.Printed.{Prints, PrintsInput, AnsweredIn, AnsweredFor, AnsweredBy, AnsweredRun, Answered, SaysItem, FaultsItem, stop_of, SaysPacket, FaultsPacket}
 use Rattle.rohcfn_tool.specs.Printed.Prints.{done as prints_done, fault as prints_fault, line as prints_line}
 use Rattle.rohcfn_tool.specs.Printed.AnsweredIn.{answered as answered_in_answered, bad_line as answered_in_bad_line}
 use Rattle.rohcfn_tool.specs.Printed.AnsweredFor.{bad_context as answered_for_bad_context, from_context as answered_for_from_context}
 use Rattle.rohcfn_tool.specs.Printed.AnsweredBy.{by_profile as answered_by_by_profile, unaccepted as answered_by_unaccepted}
 use Rattle.rohcfn_tool.specs.Printed.AnsweredRun.{both as answered_run_both, no_input as answered_run_no_input}
-use Rattle.rohcfn_tool.specs.Printed.Answered.{checked as answers_checked, lined as answers_lined, linted as answers_linted, no_profile as answers_no_profile, proved as answers_proved, ran as answers_ran, shown as answers_shown, told as answers_told}
+use Rattle.rohcfn_tool.specs.Printed.Answered.{checked as answers_checked, lined as answers_lined, linted as answers_linted, no_profile as answers_no_profile, proved as answers_proved, ran as answers_ran, shown as answers_shown, told as answers_told, explained as answers_explained}
 use Rattle.fn_line.specs.declared.flow.LineVersion.{LineVersion}
 use Rattle.rohcfn_tool.specs.Lined.{PrintsSent, PrintsReceived, AnsweredEvents, AnsweredHex, AnsweredEnd, LinedBy, Lined, line_version}
 use Rattle.rohcfn_tool.specs.Lined.PrintsSent.{all_sent as prints_sent_all_sent, one_refused as prints_sent_one_refused}
@@ -52,7 +52,7 @@ use Rattle.rohcfn_tool.specs.Lined.Lined.{by_part as lined_by_part, no_part as l
 use Rattle.rohcfn_tool.specs.Program.{Fails, ForInput, Gives, RefusesBy, Replies, RunPrints, large_line}
 use Rattle.rohcfn_tool.specs.Program.RunPrints.{answered as run_prints_answered, bad_part as run_prints_bad_part, large as run_prints_large, no_words as run_prints_no_words}
 use Rattle.rohcfn_tool.specs.declared.printing.Shape.{Shape}
-use Rattle.rohcfn_tool.specs.declared.printing.Shape.TheVariants.{Line, Tree}
+use Rattle.rohcfn_tool.specs.declared.printing.Shape.TheVariants.{Line, Tree, Why}
 use Rattle.rohcfn_tool.specs.declared.program.Reply.{Reply}
 use Rattle.rohcfn_tool.specs.declared.program.Reply.TheVariants.{Print, Tell}
 use Rattle.rohcfn_tool.proofs.ProgramReplies.{large_refused}
@@ -65,14 +65,19 @@ MayPrint Refused = Unit {0}
 MayPrint Usage = ⊥
 MayPrint (Failed why) = ⊥
 
-prints_end : (X : Type 0) (says : Entries → ℕ → X → Filling → List ℕ → Type 0) (faults : Entries → ℕ → X → List ℕ → Type 0) (shows : Bool) (ctx : Entries) (n : ℕ) (xs : List X) (s : Status) (text : List ℕ) → Prints says faults shows ctx n xs s text → MayPrint s
-prints_end X says faults shows ctx n _ _ _ (prints_done h) = tt
-prints_end X says faults shows ctx n _ s _ (prints_line {xs = xs} f text rest said more) = prints_end X says faults shows (next ctx f) (n + 1) xs s rest more
-prints_end X says faults shows ctx n _ _ _ (prints_fault text h single) = tt
+prints_end : (X : Type 0) (says : Entries → ℕ → X → Filling → List ℕ → Type 0) (faults : Entries → ℕ → X → List ℕ → Type 0) (stop : Status) → MayPrint stop → (shows : Bool) (ctx : Entries) (n : ℕ) (xs : List X) (s : Status) (text : List ℕ) → Prints says faults stop shows ctx n xs s text → MayPrint s
+prints_end X says faults stop may shows ctx n _ _ _ (prints_done h) = tt
+prints_end X says faults stop may shows ctx n _ s _ (prints_line {xs = xs} f text rest said more) = prints_end X says faults stop may shows (next ctx f) (n + 1) xs s rest more
+prints_end X says faults stop may shows ctx n _ _ _ (prints_fault text h) = may
+
+may_stop : (shape : Shape) → MayPrint (stop_of shape)
+may_stop Line = tt
+may_stop Tree = tt
+may_stop (Why profile) = tt
 
 input_ends : (direction : Direction) (shape : Shape) (shows : Bool) (a : Accepting) (ctx : Entries) (octets : List ℕ) (s : Status) (output : List ℕ) → PrintsInput direction shape shows a ctx octets s output → MayPrint s
-input_ends Pack shape shows a ctx octets s output h = prints_end Item (SaysItem shape a) (FaultsItem a) shows ctx 1 h.0 s output h.2
-input_ends Unpack shape shows a ctx octets s output h = prints_end (List Bool) (SaysPacket shape a) (FaultsPacket a) shows ctx 1 h.0 s output h.2
+input_ends Pack shape shows a ctx octets s output h = prints_end Item (SaysItem shape a) (FaultsItem shape a) (stop_of shape) (may_stop shape) shows ctx 1 h.0 s output h.2
+input_ends Unpack shape shows a ctx octets s output h = prints_end (List Bool) (SaysPacket shape a) (FaultsPacket shape a) (stop_of shape) (may_stop shape) shows ctx 1 h.0 s output h.2
 
 in_ends : (direction : Direction) (shape : Shape) (shows : Bool) (a : Accepting) (ctx : Entries) (octets : List ℕ) (s : Status) (output : List ℕ) → AnsweredIn direction shape shows a ctx octets s output → MayPrint s
 in_ends direction shape shows a ctx octets _ _ (answered_in_bad_line n h) = tt
@@ -146,6 +151,7 @@ answer_ends order parts s output (answers_checked profile is asks h) = checked_e
 answer_ends order parts s output (answers_proved profile is asks h) = proved_ends order profile.now s output h
 answer_ends order parts s output (answers_ran profile direction is asks h) = run_ends direction Line order profile.now parts s output h
 answer_ends order parts s output (answers_told profile direction is asks h) = run_ends direction Tree order profile.now parts s output h
+answer_ends order parts s output (answers_explained profile direction is asks h) = run_ends direction (Why profile) order profile.now parts s output h
 answer_ends order parts s output (answers_lined profile end is asks h) = lined_ends end order profile.now parts s output h
 
 print_ends : (given : List (List ℕ)) (input : List ℕ) (s : Status) (output : List ℕ) → RunPrints given input s output → MayPrint s

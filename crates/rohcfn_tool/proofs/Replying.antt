@@ -31,45 +31,49 @@ abbrev pub Faults : Type 0 → Type 1
 Faults X = Entries → ℕ → X → List ℕ → Type 0
 
 -- the lines so far and those for what is left, from the context that is reached on, are all lines
-abbrev pub SoFar : {X : Type 0} → Says X → Faults X → Bool → Entries → List X → ℕ → Entries → List ℕ → Type 0
-SoFar says faults shows start inputs i ctx out = (s : Status) (rest : List ℕ) → Prints says faults shows ctx (i + 1) (drop i inputs) s rest → Prints says faults shows start 1 inputs s (out ++ rest)
+abbrev pub SoFar : {X : Type 0} → Says X → Faults X → Status → Bool → Entries → List X → ℕ → Entries → List ℕ → Type 0
+SoFar says faults stop shows start inputs i ctx out = (s : Status) (rest : List ℕ) → Prints says faults stop shows ctx (i + 1) (drop i inputs) s rest → Prints says faults stop shows start 1 inputs s (out ++ rest)
 
 joined : (out text rest : List ℕ) → out ++ (text ++ 10 ∷ rest) ≡ (out ++ text ++ 10 ∷ []) ++ rest
 joined out text rest = simp append_assoc
 
-module _ {X : Type 0} (says : Says X) (faults : Faults X) (shows : Bool) (start : Entries) (inputs : List X) where
-  pub printed_start : (out : List ℕ) → out ≡ [] → SoFar says faults shows start inputs 0 start out
-  printed_start out e s rest h = subst (λ o. Prints says faults shows start 1 inputs s (o ++ rest)) (sym e) h
+module _ {X : Type 0} (says : Says X) (faults : Faults X) (stop : Status) (shows : Bool) (start : Entries) (inputs : List X) where
+  pub printed_start : (out : List ℕ) → out ≡ [] → SoFar says faults stop shows start inputs 0 start out
+  printed_start out e s rest h = subst (λ o. Prints says faults stop shows start 1 inputs s (o ++ rest)) (sym e) h
 
   -- a line more
-  pub printed_on : (i : ℕ) (d x : X) (ctx reached : Entries) (out new : List ℕ) (b : Bool) → i < length inputs → x ≡ get_or inputs i d → SoFar says faults shows start inputs i ctx out → IsStep says faults ctx reached out new (i + 1) x b → b ≡ false
-      → SoFar says faults shows start inputs (i + 1) reached new
+  pub printed_on : (i : ℕ) (d x : X) (ctx reached : Entries) (out new : List ℕ) (b : Bool) → i < length inputs → x ≡ get_or inputs i d → SoFar says faults stop shows start inputs i ctx out → IsStep says faults ctx reached out new (i + 1) x b → b ≡ false
+      → SoFar says faults stop shows start inputs (i + 1) reached new
   printed_on i d x ctx reached out new b h e so step is s rest more =
       let l = subst (λ (y : Bool). IsStep says faults ctx reached out new (i + 1) x y) is step in
       let text = l.1.0 in
       let here : drop i inputs ≡ x ∷ drop (i + 1) inputs = drop_more inputs i d h ∙ ap (λ y. y ∷ drop (i + 1) inputs) (sym e) in
-      let next_one : Prints says faults shows (next ctx l.0) (i + 1 + 1) (drop (i + 1) inputs) s rest = subst (λ c. Prints says faults shows c (i + 1 + 1) (drop (i + 1) inputs) s rest) l.2 more in
-      let lines : Prints says faults shows ctx (i + 1) (x ∷ drop (i + 1) inputs) s (text ++ 10 ∷ rest) = line l.0 text rest l.1.1 next_one in
-      subst (λ o. Prints says faults shows start 1 inputs s o) (joined out text rest ∙ ap (λ o. o ++ rest) (sym l.1.2))
-      (so s (text ++ 10 ∷ rest) (subst (λ xs. Prints says faults shows ctx (i + 1) xs s (text ++ 10 ∷ rest)) (sym here) lines))
+      let next_one : Prints says faults stop shows (next ctx l.0) (i + 1 + 1) (drop (i + 1) inputs) s rest = subst (λ c. Prints says faults stop shows c (i + 1 + 1) (drop (i + 1) inputs) s rest) l.2 more in
+      let lines : Prints says faults stop shows ctx (i + 1) (x ∷ drop (i + 1) inputs) s (text ++ 10 ∷ rest) = line l.0 text rest l.1.1 next_one in
+      subst (λ o. Prints says faults stop shows start 1 inputs s o) (joined out text rest ∙ ap (λ o. o ++ rest) (sym l.1.2))
+      (so s (text ++ 10 ∷ rest) (subst (λ xs. Prints says faults stop shows ctx (i + 1) xs s (text ++ 10 ∷ rest)) (sym here) lines))
 
   -- the line that refuses
-  pub printed_fault : (i : ℕ) (d x : X) (ctx reached : Entries) (out new : List ℕ) (b : Bool) → i < length inputs → x ≡ get_or inputs i d → SoFar says faults shows start inputs i ctx out → IsStep says faults ctx reached out new (i + 1) x b → b ≡ true
-      → Prints says faults shows start 1 inputs status.Refused new
+  printed_fault : (i : ℕ) (d x : X) (ctx reached : Entries) (out new : List ℕ) (b : Bool) → i < length inputs → x ≡ get_or inputs i d → SoFar says faults stop shows start inputs i ctx out → IsStep says faults ctx reached out new (i + 1) x b → b ≡ true
+      → Prints says faults stop shows start 1 inputs stop new
   printed_fault i d x ctx reached out new b h e so step is =
       let f = subst (λ (y : Bool). IsStep says faults ctx reached out new (i + 1) x y) is step in
       let here : drop i inputs ≡ x ∷ drop (i + 1) inputs = drop_more inputs i d h ∙ ap (λ y. y ∷ drop (i + 1) inputs) (sym e) in
-      let last : Prints says faults shows ctx (i + 1) (x ∷ drop (i + 1) inputs) status.Refused (f.0 ++ 10 ∷ []) = fault f.0 f.1.0 f.1.1 in
-      let whole = so status.Refused (f.0 ++ 10 ∷ []) (subst (λ xs. Prints says faults shows ctx (i + 1) xs status.Refused (f.0 ++ 10 ∷ [])) (sym here) last) in
-      subst (λ o. Prints says faults shows start 1 inputs status.Refused o) (sym (f.2 ∙ append_assoc out f.0 (10 ∷ []))) whole
+      let last : Prints says faults stop shows ctx (i + 1) (x ∷ drop (i + 1) inputs) stop (f.0 ++ 10 ∷ []) = fault f.0 f.1 in
+      let whole = so stop (f.0 ++ 10 ∷ []) (subst (λ xs. Prints says faults stop shows ctx (i + 1) xs stop (f.0 ++ 10 ∷ [])) (sym here) last) in
+      subst (λ o. Prints says faults stop shows start 1 inputs stop o) (sym (f.2 ∙ append_assoc out f.0 (10 ∷ []))) whole
+
+  pub printed_stop : (s : Status) → s ≡ stop → (i : ℕ) (d x : X) (ctx reached : Entries) (out new : List ℕ) (b : Bool) → i < length inputs → x ≡ get_or inputs i d → SoFar says faults stop shows start inputs i ctx out
+      → IsStep says faults ctx reached out new (i + 1) x b → b ≡ true → Prints says faults stop shows start 1 inputs s new
+  printed_stop s same i d x ctx reached out new b h e so step is = subst (λ st. Prints says faults stop shows start 1 inputs st new) (sym same) (printed_fault i d x ctx reached out new b h e so step is)
 
   -- after the last
-  pub printed_end : (i : ℕ) (ctx : Entries) (out : List ℕ) (r : Result Answer AllocError) → length inputs ≤ i → SoFar says faults shows start inputs i ctx out → IfOk r (IsFinished shows ctx out) → IfOk r (Holds (Prints says faults shows start 1 inputs))
+  pub printed_end : (i : ℕ) (ctx : Entries) (out : List ℕ) (r : Result Answer AllocError) → length inputs ≤ i → SoFar says faults stop shows start inputs i ctx out → IfOk r (IsFinished shows ctx out) → IfOk r (Holds (Prints says faults stop shows start 1 inputs))
   printed_end i ctx out (Err e) h so f = tt
   printed_end i ctx out (Ok a) h so f =
-      let last : Prints says faults shows ctx (i + 1) (drop i inputs) status.Done f.text = subst (λ xs. Prints says faults shows ctx (i + 1) xs status.Done f.text) (sym (drop_all i inputs h)) (done f.ends) in
+      let last : Prints says faults stop shows ctx (i + 1) (drop i inputs) status.Done f.text = subst (λ xs. Prints says faults stop shows ctx (i + 1) xs status.Done f.text) (sym (drop_all i inputs h)) (done f.ends) in
       let whole = so status.Done f.text last in
-      subst (λ s. Prints says faults shows start 1 inputs s (string_bytes a.output)) (sym f.status_is) (subst (λ o. Prints says faults shows start 1 inputs status.Done o) (sym f.output_is) whole)
+      subst (λ s. Prints says faults stop shows start 1 inputs s (string_bytes a.output)) (sym f.status_is) (subst (λ o. Prints says faults stop shows start 1 inputs status.Done o) (sym f.output_is) whole)
 
 -- ---- a context that can't be read
 

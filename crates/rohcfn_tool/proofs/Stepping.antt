@@ -19,9 +19,13 @@ use Rattle.fn_engine.specs.declared.writer.PackFault.TheVariants as writer
 use Rattle.fn_engine.specs.declared.writer.Written.{Written}
 use Rattle.rohcfn_input.specs.ItemTexts.{HasMore, IsItemText}
 use Rattle.rohcfn_tool.proofs.PacketLines.{packet_faults}
-use Rattle.rohcfn_tool.specs.Printed.{HasLine, IsFoundText, IsItemStep, IsPacketFault, IsPacketStep, IsReadLine, IsRefusedItem, IsRefusedPacket, IsTaken, IsWrittenText, SaysItem, SaysPacket, tree_text}
+use Rattle.rohcfn_input.specs.OneLine.{IsLine}
+use Rattle.fn_reasons.specs.Reasons.{Verdicts}
+use Rattle.fn_reasons.specs.declared.line.Line as reasons
+use Rattle.rohcfn_report.specs.Reasons.{reasons_text}
+use Rattle.rohcfn_tool.specs.Printed.{ExplainsItem, ExplainsPacket, HasLine, IsItemFault, RefusesItem, RefusesPacket, head_of, item_setting, packet_setting, IsFoundText, IsItemStep, IsPacketFault, IsPacketStep, IsReadLine, IsRefusedItem, IsRefusedPacket, IsTaken, IsWrittenText, SaysItem, SaysPacket, tree_text}
 use Rattle.rohcfn_tool.specs.declared.printing.Shape.{Shape}
-use Rattle.rohcfn_tool.specs.declared.printing.Shape.TheVariants.{Line, Tree}
+use Rattle.rohcfn_tool.specs.declared.printing.Shape.TheVariants.{Line, Tree, Why}
 
 -- ---- items
 
@@ -30,6 +34,8 @@ written_says : (shape : Shape) (a : Accepting) (ctx : Entries) (before after : L
 written_says Line a ctx before after n it w is text = (text.0, record { best = is.best; spelled = subst (IsText text.0) is.packed_is text.1 }, text.2)
 written_says Tree a ctx before after n it w is text =
     (text.0, record { best = is.best; listed = text.1 ∙ ap (λ bits. tree_text a (codes "item") n (length bits) w.filling) is.packed_is }, text.2)
+written_says (Why profile) a ctx before after n it w is text =
+    (text.0, record { best = is.best; said = text.1 ∙ ap (λ bits. head_of a (codes "item") n (length bits) w.filling) is.packed_is }, text.2)
 
 pub packed_step : (shape : Shape) (a : Accepting) (old new : Entries) (before after : List ℕ) (n : ℕ) (it : Item) (w : Written) → writing.IsWritten a old it w → IsWrittenText shape a n w.packed w.filling before after
     → new ≡ overridden old (map (λ e. (string_bytes e.0, e.1)) w.entries.items) → IsItemStep shape a old new before after n it false
@@ -40,8 +46,13 @@ packed_step shape a old new before after n it w is text reached =
 pub no_flow_blamed : (a : Accepting) (ctx : Entries) (it : Item) (e : PackFault) → writing.Blames e a ctx it → ¬ (e ≡ writer.Flow)
 no_flow_blamed a ctx it e blames is = subst (λ (x : PackFault). writing.Blames x a ctx it) is blames
 
-pub item_refused : (shape : Shape) (a : Accepting) (old : Entries) (before after : List ℕ) (n : ℕ) (it : Item) (e : PackFault) → writing.Blames e a old it → IsRefusedItem e n before after → IsItemStep shape a old old before after n it true
-item_refused shape a old before after n it e blames is = (is.0, ((e, blames, is.1.0), is.1.1), is.2)
+pub item_refused : (a : Accepting) (ctx : Entries) (before after : List ℕ) (n : ℕ) (it : Item) (e : PackFault) → writing.Blames e a ctx it → IsRefusedItem e n before after → HasLine (RefusesItem a ctx n it) before after
+item_refused a ctx before after n it e blames is = (is.0, (e, blames, is.1.0, is.1.1), is.2)
+
+pub item_explained : (profile : List ℕ) (a : Accepting) (ctx : Entries) (n : ℕ) (it : Item) (e : PackFault) → writing.Blames e a ctx it → (plain text : List ℕ) → IsItemFault e n plain → IsLine plain → (lines : List reasons.Line) → Verdicts (item_setting a ctx it) 0 lines
+    → text ≡ plain ++ reasons_text profile a.profile lines → ExplainsItem profile a ctx n it text
+item_explained profile a ctx n it e blames plain text is single lines told all =
+    record { fault = e; blames = blames; plain = plain; plain_is = is; one_line = single; lines = lines; reasons_are = told; text_is = all }
 
 -- ---- packets
 
@@ -53,6 +64,8 @@ found_says Line a ctx before after n packet r fits item_is bits_is text =
     (text.0, record { fits = fits; taken = subst (λ k. IsTaken (item r.filling) k text.0) bits_is item_here }, text.2)
 found_says Tree a ctx before after n packet r fits item_is bits_is text =
     (text.0, record { fits = fits; listed = text.1 ∙ ap (λ k. tree_text a (codes "packet") n k r.filling) bits_is }, text.2)
+found_says (Why profile) a ctx before after n packet r fits item_is bits_is text =
+    (text.0, record { fits = fits; said = text.1 ∙ ap (λ k. head_of a (codes "packet") n k r.filling) bits_is }, text.2)
 
 pub read_step : (shape : Shape) (a : Accepting) (old new : Entries) (before after : List ℕ) (n : ℕ) (packet : List Bool) (from to : Place) (r : Read) → from ≡ record { used = []; left = packet } → reading.IsRead a old from to r
     → IsFoundText shape a (codes "packet") n r.bits r.item r.filling before after → new ≡ overridden old (map (λ e. (string_bytes e.0, e.1)) r.entries.items) → IsPacketStep shape a old new before after n packet false
@@ -60,10 +73,26 @@ read_step shape a old new before after n packet from to r start is text reached 
     let fits : reading.Fronts a old packet r.filling = record { fits = is.fits; rest = to.left; front = sym (ap (λ (p : Place). p.left) start) ∙ is.advances.left } in
     (r.filling, found_says shape a old before after n packet r fits is.item_is is.bits_is text, reached ∙ ap (overridden old) is.entries_are)
 
-pub packet_refused : (shape : Shape) (a : Accepting) (old : Entries) (before after : List ℕ) (n : ℕ) (packet : List Bool) (from : Place) (e : UnpackFault) → from ≡ record { used = []; left = packet } → reading.Blames e a old from.left → IsRefusedPacket a e n before after
-    → IsPacketStep shape a old old before after n packet true
-packet_refused shape a old before after n packet from e start blames is =
-    (is.0, ((e, subst (reading.Blames e a old) (ap (λ (q : Place). q.left) start) blames, is.1.0), is.1.1), is.2)
+pub packet_refused : (a : Accepting) (ctx : Entries) (before after : List ℕ) (n : ℕ) (packet : List Bool) (e : UnpackFault) → reading.Blames e a ctx packet → IsRefusedPacket a e n before after → HasLine (RefusesPacket a ctx n packet) before after
+packet_refused a ctx before after n packet e blames is = (is.0, (e, blames, is.1.0, is.1.1), is.2)
+
+pub packet_explained : (profile : List ℕ) (a : Accepting) (ctx : Entries) (n : ℕ) (packet : List Bool) (e : UnpackFault) → reading.Blames e a ctx packet → (methods : List Method) (p : Resolved) → p ≡ a.profile → methods ≡ p.methods → IsSound p → (plain text : List ℕ)
+    → IsPacketFault e methods n plain → (lines shown_lines : List reasons.Line) → Verdicts (packet_setting a ctx packet) 0 lines → shown_lines ≡ lines → text ≡ plain ++ reasons_text profile p shown_lines → ExplainsPacket profile a ctx n packet text
+packet_explained profile a ctx n packet e blames methods p same shown sound plain text is lines shown_lines told listed all =
+    let words : AreWords methods = subst AreWords (sym shown) sound.words in
+    record {
+      fault = e;
+      blames = blames;
+      plain = plain;
+      plain_is = subst (λ ms. IsPacketFault e ms n plain) (shown ∙ ap (λ (q : Resolved). q.methods) same) is;
+      one_line = packet_faults e methods n plain words is;
+      lines = lines;
+      reasons_are = told;
+      text_is = all ∙ ap (λ q. plain ++ reasons_text profile q shown_lines) same ∙ ap (λ ls. plain ++ reasons_text profile a.profile ls) listed;
+    }
+
+pub packet_blamed : (a : Accepting) (ctx : Entries) (packet : List Bool) (from : Place) (e : UnpackFault) → from ≡ record { used = []; left = packet } → reading.Blames e a ctx from.left → reading.Blames e a ctx packet
+packet_blamed a ctx packet from e start blames = subst (reading.Blames e a ctx) (ap (λ (q : Place). q.left) start) blames
 
 pub packet_faulted : (a : Accepting) (n : ℕ) (e : UnpackFault) (p : Resolved) (methods : List Method) (text line before after : List ℕ) → p ≡ a.profile → methods ≡ p.methods → IsPacketFault e methods n text → IsSound p → line ≡ text → after ≡ before ++ line ++ 10 ∷ []
     → IsRefusedPacket a e n before after

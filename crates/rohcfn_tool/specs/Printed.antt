@@ -5,7 +5,7 @@ use Rattle.fn_bits.specs.Text.{IsText}
 use Rattle.fn_context.specs.Entries.{Entries, bits_at}
 use Rattle.fn_context.specs.Text.{IsContextText}
 use Rattle.fn_normal.specs.declared.profile.Method.{Method}
-use Rattle.fn_filling.specs.declared.filling.Filling.{Filling}
+use Rattle.fn_filling.specs.declared.filling.Filling.{Filling, out-Filling}
 use Rattle.fn_filling.specs.declared.filling.Item.{Item}
 use Rattle.fn_filling.specs.Fillings.{packed, item}
 use Rattle.fn_filling.specs.Entries.{next}
@@ -34,9 +34,14 @@ use Rattle.rohcfn_input.specs.OneLine.{IsLine}
 use Rattle.rohcfn_input.specs.ItemTexts.{IsItemText}
 use Rattle.rohcfn_tool.specs.Lined.{Lined}
 use Rattle.rohcfn_tool.specs.declared.printing.Shape.{Shape}
-use Rattle.rohcfn_tool.specs.declared.printing.Shape.TheVariants.{Line, Tree}
-use Rattle.rohcfn_report.specs.Fields.{fields_text}
-use Rattle.rohcfn_report.specs.Verdicts.{format_words, method_name}
+use Rattle.rohcfn_tool.specs.declared.printing.Shape.TheVariants.{Line, Tree, Why}
+use Rattle.fn_expr.specs.declared.expr.Side.TheVariants.{Uncompressed, Compressed}
+use Rattle.fn_reasons.specs.Reasons.{Verdicts}
+use Rattle.fn_reasons.specs.Settings.{Setting}
+use Rattle.fn_reasons.specs.declared.line.Line as reasons
+use Rattle.rohcfn_report.specs.Fields.{fields_text, head_text}
+use Rattle.rohcfn_report.specs.Reasons.{reasons_text}
+use Rattle.rohcfn_report.specs.Verdicts.{format_name, format_words, method_name}
 use Rattle.rohcfn_report.specs.Linting.{LintedBy}
 use Rattle.rohcfn_report.specs.Reports.{ShownBy, CheckedOctets, ProvedOctets}
 use Rattle.rohcfn_input.specs.Refusals.{Holds}
@@ -73,14 +78,32 @@ pub record IsPacketTree (a : Accepting) (ctx : Entries) (n : ℕ) (packet : List
   pub fits : reading.Fronts a ctx packet f
   pub listed : text ≡ tree_text a (codes "packet") n (length (packed f)) f
 
--- what is said of the item or the packet of a number by its filling: a line, or the fields
+-- ---- the head line of an item or a packet
+
+-- what it is, its number, the format of the filling and how many bits the packet has
+abbrev pub head_of : Accepting → List ℕ → ℕ → ℕ → Filling → List ℕ
+head_of a what n bits f = head_text what n (format_name a.profile.methods a.profile.top (out-Filling f).format) bits
+
+-- for the item of that number, of the best filling that fits in the context and has the item
+pub record IsItemHead (a : Accepting) (ctx : Entries) (n : ℕ) (it : Item) (f : Filling) (text : List ℕ) : Type 0 where
+  pub best : Best a.profile.methods a.certificate.methods a.profile.top (bits_at ctx) it f
+  pub said : text ≡ head_of a (codes "item") n (length (packed f)) f
+
+-- for the packet of that number, of a filling that fits in the context and whose packed bits are at its front
+pub record IsPacketHead (a : Accepting) (ctx : Entries) (n : ℕ) (packet : List Bool) (f : Filling) (text : List ℕ) : Type 0 where
+  pub fits : reading.Fronts a ctx packet f
+  pub said : text ≡ head_of a (codes "packet") n (length (packed f)) f
+
+-- what is said of the item or the packet of a number by its filling: a line, the fields, or the head line
 abbrev pub SaysItem : Shape → Accepting → Entries → ℕ → Item → Filling → List ℕ → Type 0
 SaysItem Line a ctx n it f text = IsItemLine a ctx it f text
 SaysItem Tree a ctx n it f text = IsItemTree a ctx n it f text
+SaysItem (Why profile) a ctx n it f text = IsItemHead a ctx n it f text
 
 abbrev pub SaysPacket : Shape → Accepting → Entries → ℕ → List Bool → Filling → List ℕ → Type 0
 SaysPacket Line a ctx n packet f text = IsPacketLine a ctx packet f text
 SaysPacket Tree a ctx n packet f text = IsPacketTree a ctx n packet f text
+SaysPacket (Why profile) a ctx n packet f text = IsPacketHead a ctx n packet f text
 
 -- ---- the line of a refusal
 
@@ -101,12 +124,59 @@ IsPacketFault Truncated methods n text = text ≡ codes "packet " ++ decimal n +
 IsPacketFault (Refused at) methods n text = text ≡ refused_packet methods n at
 IsPacketFault OutOfMemory methods n text = ⊥
 
--- a fault that is there, with its line
-abbrev pub FaultsItem : Accepting → Entries → ℕ → Item → List ℕ → Type 0
-FaultsItem a ctx n it text = (e : PackFault) × writing.Blames e a ctx it × IsItemFault e n text
+-- a fault that is there, with its line, which is one
+abbrev pub RefusesItem : Accepting → Entries → ℕ → Item → List ℕ → Type 0
+RefusesItem a ctx n it text = (e : PackFault) × writing.Blames e a ctx it × IsItemFault e n text × IsLine text
 
-abbrev pub FaultsPacket : Accepting → Entries → ℕ → List Bool → List ℕ → Type 0
-FaultsPacket a ctx n packet text = (e : UnpackFault) × reading.Blames e a ctx packet × IsPacketFault e a.profile.methods n text
+abbrev pub RefusesPacket : Accepting → Entries → ℕ → List Bool → List ℕ → Type 0
+RefusesPacket a ctx n packet text = (e : UnpackFault) × reading.Blames e a ctx packet × IsPacketFault e a.profile.methods n text × IsLine text
+
+-- ---- why an item or a packet is refused
+
+-- the fillings of the top that have the header of the item, and those whose packed bits are at the front of the packet
+abbrev pub item_setting : Accepting → Entries → Item → Setting
+item_setting a ctx it = record { profile = a.profile; context = ctx; method = a.profile.top; parameters = []; path = []; side = Uncompressed; bits = it.header; is_whole = true }
+
+abbrev pub packet_setting : Accepting → Entries → List Bool → Setting
+packet_setting a ctx packet = record { profile = a.profile; context = ctx; method = a.profile.top; parameters = []; path = []; side = Compressed; bits = packet; is_whole = false }
+
+-- the line of a fault that is there, and then a line for each reason, by the text of the profile
+pub record ExplainsItem (profile : List ℕ) (a : Accepting) (ctx : Entries) (n : ℕ) (it : Item) (text : List ℕ) : Type 0 where
+  pub fault : PackFault
+  pub blames : writing.Blames fault a ctx it
+  pub plain : List ℕ
+  pub plain_is : IsItemFault fault n plain
+  pub one_line : IsLine plain
+  pub lines : List reasons.Line
+  pub reasons_are : Verdicts (item_setting a ctx it) 0 lines
+  pub text_is : text ≡ plain ++ reasons_text profile a.profile lines
+
+pub record ExplainsPacket (profile : List ℕ) (a : Accepting) (ctx : Entries) (n : ℕ) (packet : List Bool) (text : List ℕ) : Type 0 where
+  pub fault : UnpackFault
+  pub blames : reading.Blames fault a ctx packet
+  pub plain : List ℕ
+  pub plain_is : IsPacketFault fault a.profile.methods n plain
+  pub one_line : IsLine plain
+  pub lines : List reasons.Line
+  pub reasons_are : Verdicts (packet_setting a ctx packet) 0 lines
+  pub text_is : text ≡ plain ++ reasons_text profile a.profile lines
+
+-- what is said of one that is refused: the line of its fault; for `why` the reasons, too
+abbrev pub FaultsItem : Shape → Accepting → Entries → ℕ → Item → List ℕ → Type 0
+FaultsItem Line a ctx n it text = RefusesItem a ctx n it text
+FaultsItem Tree a ctx n it text = RefusesItem a ctx n it text
+FaultsItem (Why profile) a ctx n it text = ExplainsItem profile.now a ctx n it text
+
+abbrev pub FaultsPacket : Shape → Accepting → Entries → ℕ → List Bool → List ℕ → Type 0
+FaultsPacket Line a ctx n packet text = RefusesPacket a ctx n packet text
+FaultsPacket Tree a ctx n packet text = RefusesPacket a ctx n packet text
+FaultsPacket (Why profile) a ctx n packet text = ExplainsPacket profile.now a ctx n packet text
+
+-- the status after one that is refused: to say why is an answer
+abbrev pub stop_of : Shape → Status
+stop_of Line = status.Refused
+stop_of Tree = status.Refused
+stop_of (Why profile) = status.Done
 
 -- ---- line by line
 
@@ -116,18 +186,18 @@ IsEnd false ctx text = text ≡ []
 IsEnd true ctx text = (rest : List ℕ) × IsContextText ctx rest × (text ≡ codes "=== context\n" ++ rest)
 
 -- What is printed for inputs, counted from n, in a context. Each has a text, which is that of a filling whose entries go over the context; the first that is
--- refused has the line of its fault, which is one line and the last.
-pub data Prints {X : Type 0} (says : Entries → ℕ → X → Filling → List ℕ → Type 0) (faults : Entries → ℕ → X → List ℕ → Type 0) (shows : Bool) : Entries → ℕ → List X → Status → List ℕ → Type 0 where
-  done : {ctx : Entries} {n : ℕ} {text : List ℕ} → IsEnd shows ctx text → Prints says faults shows ctx n [] status.Done text
-  line : {ctx : Entries} {n : ℕ} {x : X} {xs : List X} {s : Status} (f : Filling) (text rest : List ℕ) → says ctx n x f text → Prints says faults shows (next ctx f) (n + 1) xs s rest
-      → Prints says faults shows ctx n (x ∷ xs) s (text ++ 10 ∷ rest)
-  fault : {ctx : Entries} {n : ℕ} {x : X} {xs : List X} (text : List ℕ) → faults ctx n x text → IsLine text → Prints says faults shows ctx n (x ∷ xs) status.Refused (text ++ 10 ∷ [])
+-- refused has that of its fault, which is the last and leaves that status.
+pub data Prints {X : Type 0} (says : Entries → ℕ → X → Filling → List ℕ → Type 0) (faults : Entries → ℕ → X → List ℕ → Type 0) (stop : Status) (shows : Bool) : Entries → ℕ → List X → Status → List ℕ → Type 0 where
+  done : {ctx : Entries} {n : ℕ} {text : List ℕ} → IsEnd shows ctx text → Prints says faults stop shows ctx n [] status.Done text
+  line : {ctx : Entries} {n : ℕ} {x : X} {xs : List X} {s : Status} (f : Filling) (text rest : List ℕ) → says ctx n x f text → Prints says faults stop shows (next ctx f) (n + 1) xs s rest
+      → Prints says faults stop shows ctx n (x ∷ xs) s (text ++ 10 ∷ rest)
+  fault : {ctx : Entries} {n : ℕ} {x : X} {xs : List X} (text : List ℕ) → faults ctx n x text → Prints says faults stop shows ctx n (x ∷ xs) stop (text ++ 10 ∷ [])
 
 abbrev pub PrintsItems : Shape → Accepting → Bool → Entries → ℕ → List Item → Status → List ℕ → Type 0
-PrintsItems shape a shows = Prints (SaysItem shape a) (FaultsItem a) shows
+PrintsItems shape a shows = Prints (SaysItem shape a) (FaultsItem shape a) (stop_of shape) shows
 
 abbrev pub PrintsPackets : Shape → Accepting → Bool → Entries → ℕ → List (List Bool) → Status → List ℕ → Type 0
-PrintsPackets shape a shows = Prints (SaysPacket shape a) (FaultsPacket a) shows
+PrintsPackets shape a shows = Prints (SaysPacket shape a) (FaultsPacket shape a) (stop_of shape) shows
 
 -- ---- by an accepted profile
 
@@ -202,6 +272,8 @@ pub data Answered (order : Order) (parts : Parts) : Status → List ℕ → Type
       → AnsweredRun direction Line order profile.now parts s output → Answered order parts s output
   told : {s : Status} {output : List ℕ} (profile : Bor (List ℕ)) (direction : Direction) → parts.profile ≡ Some profile → order.command ≡ Fields direction
       → AnsweredRun direction Tree order profile.now parts s output → Answered order parts s output
+  explained : {s : Status} {output : List ℕ} (profile : Bor (List ℕ)) (direction : Direction) → parts.profile ≡ Some profile → order.command ≡ command.Why direction
+      → AnsweredRun direction (Why profile) order profile.now parts s output → Answered order parts s output
   lined : {s : Status} {output : List ℕ} (profile : Bor (List ℕ)) (end : End) → parts.profile ≡ Some profile → order.command ≡ command.Line end
       → Lined end order profile.now parts s output → Answered order parts s output
 
@@ -252,22 +324,28 @@ IsReadLine it count = HasLine (IsTaken it count)
 abbrev pub IsTreeText : Accepting → List ℕ → ℕ → ℕ → Filling → List ℕ → List ℕ → Type 0
 IsTreeText a what n bits f = HasLine (λ text. text ≡ tree_text a what n bits f)
 
+-- the head line of a filling
+abbrev pub IsHeadText : Accepting → List ℕ → ℕ → ℕ → Filling → List ℕ → List ℕ → Type 0
+IsHeadText a what n bits f = HasLine (λ text. text ≡ head_of a what n bits f)
+
 -- what is printed of a filling that was written, and of one that was read
 abbrev pub IsWrittenText : Shape → Accepting → ℕ → List Bool → Filling → List ℕ → List ℕ → Type 0
 IsWrittenText Line a n bits f = IsBitsLine bits
 IsWrittenText Tree a n bits f = IsTreeText a (codes "item") n (length bits) f
+IsWrittenText (Why profile) a n bits f = IsHeadText a (codes "item") n (length bits) f
 
 abbrev pub IsFoundText : Shape → Accepting → List ℕ → ℕ → ℕ → Item → Filling → List ℕ → List ℕ → Type 0
 IsFoundText Line a what n bits it f = IsReadLine it bits
 IsFoundText Tree a what n bits it f = IsTreeText a what n bits f
+IsFoundText (Why profile) a what n bits it f = IsHeadText a what n bits f
 
--- The output goes on by what is said of an input, after which the context is the next; or, where it was refused, by the one line of its refusal.
+-- The output goes on by what is said of an input, after which the context is the next; or, where it was refused, by what is said of that.
 abbrev pub IsStep : {X : Type 0} → (Entries → ℕ → X → Filling → List ℕ → Type 0) → (Entries → ℕ → X → List ℕ → Type 0) → Entries → Entries → List ℕ → List ℕ → ℕ → X → Bool → Type 0
 IsStep says faults old new before after n x false = (f : Filling) × HasLine (says old n x f) before after × (new ≡ next old f)
-IsStep says faults old new before after n x true = HasLine (λ text. faults old n x text × IsLine text) before after
+IsStep says faults old new before after n x true = HasLine (faults old n x) before after
 
 abbrev pub IsItemStep : Shape → Accepting → Entries → Entries → List ℕ → List ℕ → ℕ → Item → Bool → Type 0
-IsItemStep shape a old new before after n it = IsStep (SaysItem shape a) (FaultsItem a) old new before after n it
+IsItemStep shape a old new before after n it = IsStep (SaysItem shape a) (FaultsItem shape a) old new before after n it
 
 abbrev pub IsPacketStep : Shape → Accepting → Entries → Entries → List ℕ → List ℕ → ℕ → List Bool → Bool → Type 0
-IsPacketStep shape a old new before after n packet = IsStep (SaysPacket shape a) (FaultsPacket a) old new before after n packet
+IsPacketStep shape a old new before after n packet = IsStep (SaysPacket shape a) (FaultsPacket shape a) old new before after n packet

@@ -2,6 +2,7 @@
 #![tactic(auto)]
 
 pub mod events;
+mod explaining;
 pub mod lined;
 pub mod printing;
 pub mod program;

@@ -2,8 +2,11 @@
 
 ghost use Rattle.std.specs.Prelude.{◌≡◌, ◌≢◌, ◌∷◌, ◌++◌, [], true, IfOk, OnOk, codes, decimal, string_bytes};
 ghost use Rattle.rohcfn_input.specs.OneLine.{IsLine};
+ghost use Rattle.fn_engine.specs.Reading as reading;
+ghost use Rattle.fn_engine.specs.Writing as writing;
 ghost use Rattle.rohcfn_tool.specs.Printed as spec;
 
+use crate::explaining::{explain_item, explain_packet};
 use fn_bits::{Bits, Cursor};
 use fn_checker::Accepted;
 use fn_context::Context;
@@ -14,29 +17,41 @@ use fn_reader::Blamed;
 use itoa::Buffer;
 use rohcfn_input::spelling::{push_bits, push_item_text, push_line};
 use rohcfn_input::status::{Answer, Status};
-use rohcfn_report::fields::{Head, fields_text};
+use rohcfn_report::fields::{Head, fields_text, head_line};
 use rohcfn_report::verdicts::{format_name, method_name};
 use std::alloc::{AllocError, Global};
 
 /// What is printed for an item or a packet.
 #[derive(Clone, Copy)]
-pub enum Shape {
+pub enum Shape<'a> {
     /// The packed bits, or the item, in a line.
     Line,
     /// The fields of the filling, in a line each.
     Tree,
+    /// The format of the filling; of one that is refused what stands against each format, at its place in these octets of the profile.
+    Why(&'a [u8]),
+}
+
+/// The status after an item or a packet that is refused.
+fn stop_status(shape: Shape<'_>) -> Status
+    ensures { result ≡ spec.stop_of shape.entry }
+{
+    match shape {
+        Shape::Line | Shape::Tree => Status::Refused,
+        Shape::Why(_) => Status::Done,
+    }
 }
 
 /// A line of packed bits or the fields for each item, up to the first that is refused, and after the last the context that is reached, where it is wanted.
 pub(crate) fn pack_all(
     alloc: Global,
-    shape: Shape,
+    shape: Shape<'_>,
     shows: bool,
     accepted: &Accepted,
     start: Context,
     items: &[Item],
 ) -> Result<Answer, AllocError>
-    ensures { IfOk result (λ a. spec.PrintsItems shape accepted.now shows start 1 items.now a.status (string_bytes a.output)) }
+    ensures { IfOk result (λ a. spec.PrintsItems shape.entry accepted.now shows start 1 items.now a.status (string_bytes a.output)) }
 {
     let mut context = start;
     let mut output = String::new(alloc);
@@ -52,7 +67,7 @@ pub(crate) fn pack_all(
         )?;
         if refused {
             return Ok(Answer {
-                status: Status::Refused,
+                status: stop_status(shape),
                 output,
             });
         }
@@ -63,13 +78,13 @@ pub(crate) fn pack_all(
 /// A line for each packet, its item and how many bits it took, or its fields, likewise.
 pub(crate) fn unpack_all(
     alloc: Global,
-    shape: Shape,
+    shape: Shape<'_>,
     shows: bool,
     accepted: &Accepted,
     start: Context,
     packets: &[Bits],
 ) -> Result<Answer, AllocError>
-    ensures { IfOk result (λ a. spec.PrintsPackets shape accepted.now shows start 1 packets.now a.status (string_bytes a.output)) }
+    ensures { IfOk result (λ a. spec.PrintsPackets shape.entry accepted.now shows start 1 packets.now a.status (string_bytes a.output)) }
 {
     let mut context = start;
     let mut output = String::new(alloc);
@@ -85,7 +100,7 @@ pub(crate) fn unpack_all(
         )?;
         if refused {
             return Ok(Answer {
-                status: Status::Refused,
+                status: stop_status(shape),
                 output,
             });
         }
@@ -131,14 +146,14 @@ fn with_context(alloc: Global, output: String, context: &Context) -> Result<Answ
 /// Adds the line or the fields of an item, whose number counts from 1. The context goes on to the next. Whether it was refused.
 fn pack_one(
     alloc: Global,
-    shape: Shape,
+    shape: Shape<'_>,
     accepted: &Accepted,
     context: &mut Context,
     output: &mut String,
     number: usize,
     item: &Item,
 ) -> Result<bool, AllocError>
-    ensures { IfOk result (spec.IsItemStep shape accepted.now context.old context.new (string_bytes output.old) (string_bytes output.new) number item.now) }
+    ensures { IfOk result (spec.IsItemStep shape.entry accepted.now context.old context.new (string_bytes output.old) (string_bytes output.new) number item.now) }
 {
     match pack(alloc, accepted, context, item) {
         Ok(
@@ -153,23 +168,47 @@ fn pack_one(
             Ok(false)
         }
         Err(fault) => {
-            refuse_item(alloc, output, number, fault)?;
+            stop_item(alloc, shape, accepted, context, output, number, item, fault)?;
             Ok(true)
         }
     }
 }
 
-/// Adds the line of packed bits, or the fields of their filling.
+/// Adds what is said of a refused item.
+fn stop_item(
+    alloc: Global,
+    shape: Shape<'_>,
+    accepted: &Accepted,
+    context: &Context,
+    output: &mut String,
+    number: usize,
+    item: &Item,
+    fault: PackFault,
+) -> Result<(), AllocError>
+    requires flow { fault ≢ PackFault.Flow }
+    requires blames { writing.Blames fault accepted.now context.now item.now }
+    ensures { OnOk result (spec.HasLine (spec.FaultsItem shape.entry accepted.now context.now number item.now) (string_bytes output.old) (string_bytes output.new)) }
+{
+    match shape {
+        Shape::Line => refuse_item(alloc, output, number, fault),
+        Shape::Tree => refuse_item(alloc, output, number, fault),
+        Shape::Why(octets) => explain_item(
+            alloc, octets, accepted, context, output, number, item, fault,
+        ),
+    }
+}
+
+/// Adds the line of packed bits, or the fields of their filling, or its head line.
 fn push_written(
     alloc: Global,
-    shape: Shape,
+    shape: Shape<'_>,
     accepted: &Accepted,
     output: &mut String,
     number: usize,
     packed: &Bits,
     filling: &Filling,
 ) -> Result<(), AllocError>
-    ensures { OnOk result (spec.IsWrittenText shape accepted.now number packed.now filling.now (string_bytes output.old) (string_bytes output.new)) }
+    ensures { OnOk result (spec.IsWrittenText shape.entry accepted.now number packed.now filling.now (string_bytes output.old) (string_bytes output.new)) }
 {
     match shape {
         Shape::Line => push_packed(alloc, output, packed),
@@ -179,7 +218,29 @@ fn push_written(
             let head = Head { what, number, bits };
             push_fields(alloc, accepted, output, head, filling)
         }
+        Shape::Why(_) => {
+            let what = "item";
+            let bits = packed.len();
+            let head = Head { what, number, bits };
+            push_head(alloc, accepted, output, head, filling)
+        }
     }
+}
+
+/// Adds the head line of a filling of the top.
+fn push_head(
+    alloc: Global,
+    accepted: &Accepted,
+    output: &mut String,
+    head: Head<'_>,
+    filling: &Filling,
+) -> Result<(), AllocError>
+    ensures { OnOk result (spec.IsHeadText accepted.now head.entry.what.now head.entry.number head.entry.bits filling.now (string_bytes output.old) (string_bytes output.new)) }
+{
+    let profile = accepted.profile();
+    let format = format_name(profile.methods(), profile.top(), filling.format);
+    let text = head_line(alloc, head, format)?;
+    push_line(output, text.as_str())
 }
 
 /// Adds the fields of a filling of the top.
@@ -222,7 +283,11 @@ fn refuse_item(
 }
 
 /// The line of a refused item.
-fn item_fault(alloc: Global, number: usize, fault: PackFault) -> Result<String, AllocError>
+pub(crate) fn item_fault(
+    alloc: Global,
+    number: usize,
+    fault: PackFault,
+) -> Result<String, AllocError>
     requires { fault ≢ PackFault.Flow }
     ensures says { IfOk result (λ text. spec.IsItemFault fault number (string_bytes text)) }
     ensures line { IfOk result (λ text. IsLine (string_bytes text)) }
@@ -256,14 +321,14 @@ fn asked_line(alloc: Global, number: usize, name: &str) -> Result<String, AllocE
 /// Adds the line or the fields of a packet, whose number counts from 1. The context goes on to the next. Whether it was refused.
 fn unpack_one(
     alloc: Global,
-    shape: Shape,
+    shape: Shape<'_>,
     accepted: &Accepted,
     context: &mut Context,
     output: &mut String,
     number: usize,
     packet: &Bits,
 ) -> Result<bool, AllocError>
-    ensures { IfOk result (spec.IsPacketStep shape accepted.now context.old context.new (string_bytes output.old) (string_bytes output.new) number packet.now) }
+    ensures { IfOk result (spec.IsPacketStep shape.entry accepted.now context.old context.new (string_bytes output.old) (string_bytes output.new) number packet.now) }
 {
     let mut cursor = Cursor::new(packet);
     match unpack(alloc, accepted, context, &mut cursor) {
@@ -282,9 +347,34 @@ fn unpack_one(
             Ok(false)
         }
         Err(fault) => {
-            refuse_packet(alloc, accepted, output, number, fault)?;
+            stop_packet(
+                alloc, shape, accepted, context, output, number, packet, fault,
+            )?;
             Ok(true)
         }
+    }
+}
+
+/// Adds what is said of a refused packet.
+fn stop_packet(
+    alloc: Global,
+    shape: Shape<'_>,
+    accepted: &Accepted,
+    context: &Context,
+    output: &mut String,
+    number: usize,
+    packet: &Bits,
+    fault: UnpackFault,
+) -> Result<(), AllocError>
+    requires { reading.Blames fault accepted.now context.now packet.now }
+    ensures { OnOk result (spec.HasLine (spec.FaultsPacket shape.entry accepted.now context.now number packet.now) (string_bytes output.old) (string_bytes output.new)) }
+{
+    match shape {
+        Shape::Line => refuse_packet(alloc, accepted, output, number, fault),
+        Shape::Tree => refuse_packet(alloc, accepted, output, number, fault),
+        Shape::Why(octets) => explain_packet(
+            alloc, octets, accepted, context, output, number, packet, fault,
+        ),
     }
 }
 
@@ -309,18 +399,19 @@ fn refuse_packet(
 /// Adds the line of an item that was read, or the fields of its filling.
 fn push_found(
     alloc: Global,
-    shape: Shape,
+    shape: Shape<'_>,
     accepted: &Accepted,
     output: &mut String,
     head: Head<'_>,
     item: &Item,
     filling: &Filling,
 ) -> Result<(), AllocError>
-    ensures { OnOk result (spec.IsFoundText shape accepted.now head.entry.what.now head.entry.number head.entry.bits item.now filling.now (string_bytes output.old) (string_bytes output.new)) }
+    ensures { OnOk result (spec.IsFoundText shape.entry accepted.now head.entry.what.now head.entry.number head.entry.bits item.now filling.now (string_bytes output.old) (string_bytes output.new)) }
 {
     match shape {
         Shape::Line => push_read(alloc, output, item, head.bits),
         Shape::Tree => push_fields(alloc, accepted, output, head, filling),
+        Shape::Why(_) => push_head(alloc, accepted, output, head, filling),
     }
 }
 
@@ -342,7 +433,7 @@ fn push_took(text: &mut String, bits: usize) -> Result<(), AllocError>
 }
 
 /// The line of a refused packet.
-fn packet_fault(
+pub(crate) fn packet_fault(
     alloc: Global,
     methods: &[Method],
     number: usize,

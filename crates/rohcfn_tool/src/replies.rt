@@ -21,7 +21,7 @@ use rohcfn_words::words::{Command, Direction, Order};
 use std::alloc::{AllocError, Global};
 
 /// What is printed for an order: the listing of a profile, the formats by which nothing can be packed, the verdict on a certificate, a certificate, a line or the
-/// fields for each item or packet up to the first refusal, the octets and items of a line of flows, or the one line of another fault.
+/// fields for each item or packet up to the first refusal, what stands against each format where one is refused, the octets and items of a line of flows, or the one line of another fault.
 ///
 /// The order of faults: the missing part `profile`, another missing part, the profile, its certificate, a line of the context, a line of the items, packets or events
 /// or octets that are no hex, and then each item, packet or event.
@@ -45,6 +45,9 @@ pub fn answer(alloc: Global, order: &Order<'_>, parts: &Parts<'_>) -> Result<Ans
         Command::Fields(direction) => {
             answer_run(alloc, direction, Shape::Tree, order, profile, parts)
         }
+        Command::Why(direction) => {
+            answer_run(alloc, direction, Shape::Why(profile), order, profile, parts)
+        }
         Command::Line(end) => answer_line(alloc, end, order, profile, parts),
     }
 }
@@ -53,12 +56,12 @@ pub fn answer(alloc: Global, order: &Order<'_>, parts: &Parts<'_>) -> Result<Ans
 fn answer_run(
     alloc: Global,
     direction: Direction,
-    shape: Shape,
+    shape: Shape<'_>,
     order: &Order<'_>,
     profile: &[u8],
     parts: &Parts<'_>,
 ) -> Result<Answer, AllocError>
-    ensures { IfOk result (spec.AnswersRun direction shape order.now profile.now parts.now) }
+    ensures { IfOk result (spec.AnswersRun direction shape.entry order.now profile.now parts.now) }
 {
     match direction {
         Direction::Pack => match parts.items {
@@ -84,13 +87,13 @@ fn answer_run(
 fn answer_by(
     alloc: Global,
     direction: Direction,
-    shape: Shape,
+    shape: Shape<'_>,
     order: &Order<'_>,
     profile: &[u8],
     parts: &Parts<'_>,
     input: &[u8],
 ) -> Result<Answer, AllocError>
-    ensures { IfOk result (spec.AnswersBy direction shape order.now profile.now parts.now input.now) }
+    ensures { IfOk result (spec.AnswersBy direction shape.entry order.now profile.now parts.now input.now) }
 {
     match accept(alloc, order.top, profile, Origin::of(order.version, parts))? {
         Judged::Accepted(accepted) => {
@@ -105,13 +108,13 @@ fn answer_by(
 fn answer_for(
     alloc: Global,
     direction: Direction,
-    shape: Shape,
+    shape: Shape<'_>,
     shows: bool,
     accepted: &Accepted,
     parts: &Parts<'_>,
     input: &[u8],
 ) -> Result<Answer, AllocError>
-    ensures { IfOk result (spec.AnswersFor direction shape shows accepted.now parts.now.context input.now) }
+    ensures { IfOk result (spec.AnswersFor direction shape.entry shows accepted.now parts.now.context input.now) }
 {
     match read_context(alloc, parts) {
         Ok(context) => answer_lines(alloc, direction, shape, shows, accepted, context, input),
@@ -127,13 +130,13 @@ fn answer_for(
 fn answer_lines(
     alloc: Global,
     direction: Direction,
-    shape: Shape,
+    shape: Shape<'_>,
     shows: bool,
     accepted: &Accepted,
     context: Context,
     input: &[u8],
 ) -> Result<Answer, AllocError>
-    ensures { IfOk result (spec.AnswersIn direction shape shows accepted.now context input.now) }
+    ensures { IfOk result (spec.AnswersIn direction shape.entry shows accepted.now context input.now) }
 {
     match direction {
         Direction::Pack => answer_items(alloc, shape, shows, accepted, context, input),
@@ -144,13 +147,13 @@ fn answer_lines(
 /// The answer to the octets of items.
 fn answer_items(
     alloc: Global,
-    shape: Shape,
+    shape: Shape<'_>,
     shows: bool,
     accepted: &Accepted,
     context: Context,
     input: &[u8],
 ) -> Result<Answer, AllocError>
-    ensures { IfOk result (spec.AnswersIn Direction.Pack shape shows accepted.now context input.now) }
+    ensures { IfOk result (spec.AnswersIn Direction.Pack shape.entry shows accepted.now context input.now) }
 {
     match read_items(alloc, input) {
         Ok(items) => pack_all(alloc, shape, shows, accepted, context, items.as_slice()),
@@ -165,13 +168,13 @@ fn answer_items(
 /// The answer to the octets of packets.
 fn answer_packets(
     alloc: Global,
-    shape: Shape,
+    shape: Shape<'_>,
     shows: bool,
     accepted: &Accepted,
     context: Context,
     input: &[u8],
 ) -> Result<Answer, AllocError>
-    ensures { IfOk result (spec.AnswersIn Direction.Unpack shape shows accepted.now context input.now) }
+    ensures { IfOk result (spec.AnswersIn Direction.Unpack shape.entry shows accepted.now context input.now) }
 {
     match read_packets(alloc, input) {
         Ok(packets) => unpack_all(alloc, shape, shows, accepted, context, packets.as_slice()),

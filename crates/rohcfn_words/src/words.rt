@@ -25,6 +25,8 @@ pub enum Command {
     Run(Direction),
     /// Lists for each line the fields of the filling that it belongs to.
     Fields(Direction),
+    /// Tells for each line that is refused what stands against each format.
+    Why(Direction),
     /// Sends or receives packets of several flows on one line, by the part `profile`.
     Line(End),
 }
@@ -79,9 +81,9 @@ impl From<AllocError> for WordsError {
     }
 }
 
-/// Reads the words that follow the program's name: a command, `pack`, `unpack`, `fields`, `show`, `lint`, `check`,
-/// `prove` or `line`, and its flags: `--top NAME`, for all commands but `show` and `lint` also `--v2`, for `pack`, `unpack` and `fields` also
-/// `--context`, for `fields` also `--items`, and for `line` also `--receive` and `--wide`.
+/// Reads the words that follow the program's name: a command, `pack`, `unpack`, `fields`, `why`, `show`, `lint`, `check`,
+/// `prove` or `line`, and its flags: `--top NAME`, for all commands but `show` and `lint` also `--v2`, for `pack`, `unpack`, `fields` and `why` also
+/// `--context`, for `fields` and `why` also `--items`, and for `line` also `--receive` and `--wide`.
 ///
 /// The clauses say it by clap's own account of a command line (`asked_of`), on which clap's parse is
 /// proved exact. Words that ask for help alone are no usage fault. The clauses say nothing of the text, and not
@@ -120,6 +122,8 @@ A bundle is read from standard input: parts, each after a line `=== PART`. For e
   rohcfn unpack --top plain <BUNDLE          profile, packets > the item of each packet
   rohcfn fields --top plain <BUNDLE          profile, packets > the fields of each packet
   rohcfn fields --top plain --items <BUNDLE  profile, items > the fields of each item's packet
+  rohcfn why --top plain <BUNDLE             profile, packets > why the first that is refused is
+  rohcfn why --top plain --items <BUNDLE     profile, items > the same of the first item that is
   rohcfn line --top plain <BUNDLE            profile, events > octets in hex, then `FLOW ITEM` lines
   rohcfn line --top plain --receive <BUNDLE  profile, octets > `FLOW ITEM` lines
 
@@ -145,12 +149,14 @@ fn program<'a>(alloc: Global) -> Result<clap::Command<'a>, AllocError>
     let two = one.subcommand(unpack)?;
     let fields = with_items(alloc, "fields", "Lists the fields of the part packets")?;
     let three = two.subcommand(fields)?;
+    let why = with_items(alloc, "why", "Tells why one of the part packets is refused")?;
+    let reasons = three.subcommand(why)?;
     let show = with_top(
         alloc,
         "show",
         "Shows the methods, bounds and constraints of the part profile",
     )?;
-    let four = three.subcommand(show)?;
+    let four = reasons.subcommand(show)?;
     let lint = with_top(
         alloc,
         "lint",
@@ -316,6 +322,8 @@ fn command_of(name: &str, receives: bool, packs: bool) -> Option<Command>
         Some(Command::Run(Direction::Unpack))
     } else if name == "fields" {
         Some(Command::Fields(direction_of(packs)))
+    } else if name == "why" {
+        Some(Command::Why(direction_of(packs)))
     } else if name == "show" {
         Some(Command::Show)
     } else if name == "lint" {

@@ -1,7 +1,7 @@
 use Rattle.std.proofs.Common.{refl, subst}
 use Rattle.rohcfn_tool.specs.Lined.{Lined}
-use Rattle.rohcfn_tool.specs.Printed.{Answered, AnsweredRun, no_profile, shown, linted, checked, proved, ran, told, lined}
-use Rattle.rohcfn_tool.specs.declared.printing.Shape.TheVariants.{Line, Tree}
+use Rattle.rohcfn_tool.specs.Printed.{Answered, AnsweredRun, no_profile, shown, linted, checked, proved, ran, told, explained, lined}
+use Rattle.rohcfn_tool.specs.declared.printing.Shape.TheVariants.{Line, Tree, Why}
 use Rattle.rohcfn_report.specs.Linting.{LintedBy}
 use Rattle.rohcfn_report.specs.Reports.{CheckedOctets, ProvedOctets, ShownBy}
 use Rattle.rohcfn_input.proofs.AnswersHeld.{passed_on, refusal_is}
@@ -34,6 +34,10 @@ returns-in-Run c =
 pub returns-in-Fields : goal.returns-in-Fields
 returns-in-Fields c =
     passed_on (AnsweredRun c.in-Fields.direction Tree c.args.order.now c.in-Some.profile.now c.args.parts.now) (Answered c.args.order.now c.args.parts.now) c.answer_run-in-Fields.result (λ s out h. told c.in-Some.profile c.in-Fields.direction c.in-Some.is c.in-Fields.is h) c.answer_run-in-Fields.ensures
+
+pub returns-in-Why : goal.returns-in-Why
+returns-in-Why c =
+    passed_on (AnsweredRun c.in-Why.direction (Why c.in-Some.profile) c.args.order.now c.in-Some.profile.now c.args.parts.now) (Answered c.args.order.now c.args.parts.now) c.answer_run-in-Why.result (λ s out h. explained c.in-Some.profile c.in-Why.direction c.in-Some.is c.in-Why.is h) c.answer_run-in-Why.ensures
 
 pub returns-in-Line : goal.returns-in-Line
 returns-in-Line c =

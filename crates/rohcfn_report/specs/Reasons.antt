@@ -1,0 +1,72 @@
+-- What `why` prints of the reasons that stand against formats: a line for each (docs/FORMATS.md).
+use Rattle.std.specs.Prelude.{ℕ, List, ◌++◌, None, codes, decimal, flat_map, replicate, string_bytes}
+use Rattle.std.specs.Option.{unwrap_or}
+use Rattle.fn_source.specs.declared.span.Span.{Span}
+use Rattle.fn_source.specs.Places.{line_of, column_of}
+use Rattle.fn_expr.specs.declared.expr.Side.{Side}
+use Rattle.fn_expr.specs.declared.expr.Side.TheVariants.{Uncompressed, Compressed}
+use Rattle.fn_normal.specs.declared.profile.Method.{Method}
+use Rattle.fn_lint.specs.declared.obstacle.Obstacle.TheVariants as obstacle
+use Rattle.fn_profile.specs.Resolved.{Resolved}
+use Rattle.fn_reasons.specs.declared.line.Line.{Line}
+use Rattle.fn_reasons.specs.declared.reason.Reason.{Reason}
+use Rattle.fn_reasons.specs.declared.reason.Reason.TheVariants.{Dead, Short, Long, NoReference, Differs, NoSide, Untrue, Inside, Nothing}
+use Rattle.rohcfn_report.specs.BitTexts.{bits_text}
+use Rattle.rohcfn_report.specs.Fields.{encoding_at, method_word}
+use Rattle.rohcfn_report.specs.Linting.{constraints_at, first_bracket, method_place, obstacle_words}
+pub use Rattle.rohcfn_report.specs.Linting.{place_of}
+pub use Rattle.rohcfn_report.specs.Verdicts.{field_name}
+use Rattle.rohcfn_report.specs.Verdicts.{format_name, method_name}
+
+-- the place of a field: its bracket, first that of what is sent, else the method's name
+abbrev pub field_place : List Method → ℕ → ℕ → ℕ → Span
+field_place methods k n i = unwrap_or (first_bracket i Compressed (constraints_at methods k n)) (unwrap_or (first_bracket i Uncompressed (constraints_at methods k n)) (method_place methods k))
+
+-- where in the profile the reason stands
+abbrev pub reason_place : List Method → ℕ → ℕ → Reason → Span
+reason_place methods k n (Dead o) = place_of methods (record { method = k; format = n; obstacle = o })
+reason_place methods k n (Short length least) = method_place methods k
+reason_place methods k n (Long length most) = method_place methods k
+reason_place methods k n (NoReference i path) = field_place methods k n i
+reason_place methods k n (Differs i side found due) = field_place methods k n i
+reason_place methods k n (NoSide i side found) = field_place methods k n i
+reason_place methods k n (Untrue j) = place_of methods (record { method = k; format = n; obstacle = obstacle.NeverTrue j })
+reason_place methods k n (Inside i) = field_place methods k n i
+reason_place methods k n Nothing = method_place methods k
+
+-- what has that side
+abbrev pub side_word : Side → List ℕ
+side_word Uncompressed = codes "header"
+side_word Compressed = codes "packet"
+
+-- what encodes the field, and its name
+abbrev pub coded_words : List Method → ℕ → ℕ → ℕ → List ℕ
+coded_words methods k n i = method_word methods (encoding_at methods k n i) None ++ codes " of " ++ field_name methods k n i
+
+abbrev pub reason_words : Resolved → ℕ → ℕ → Reason → List ℕ
+reason_words p k n (Dead o) = obstacle_words p k n o
+reason_words p k n (Short length least) = decimal length ++ codes " bits are there, and at least " ++ decimal least ++ codes " are due"
+reason_words p k n (Long length most) = decimal length ++ codes " bits are there, and at most " ++ decimal most ++ codes " may be"
+reason_words p k n (NoReference i path) = coded_words p.methods k n i ++ codes ": the context has no entry " ++ string_bytes path ++ codes ", and INITIAL gives none"
+reason_words p k n (Differs i side found due) = coded_words p.methods k n i ++ codes ": the " ++ side_word side ++ codes " has " ++ bits_text found ++ codes ", and " ++ bits_text due ++ codes " is due"
+reason_words p k n (NoSide i side found) = coded_words p.methods k n i ++ codes ": the " ++ side_word side ++ codes " has " ++ bits_text found ++ codes ", with which nothing goes"
+reason_words p k n (Untrue j) = codes "the condition is false"
+reason_words p k n (Inside i) = codes "nothing goes in " ++ field_name p.methods k n i ++ codes ", by no format of " ++ method_word p.methods (encoding_at p.methods k n i) None
+reason_words p k n Nothing = codes "nothing simple stands against it"
+
+-- two blanks for each call on the way
+abbrev pub indent : ℕ → List ℕ
+indent depth = replicate depth 32 ++ replicate depth 32
+
+-- a line and a column of the profile, the method and the format after some blanks, and what stands against it
+abbrev pub reason_text : ℕ → ℕ → List ℕ → List ℕ → List ℕ → List ℕ → List ℕ
+reason_text line column blanks method format words = codes "\n" ++ decimal line ++ codes ":" ++ decimal column ++ codes ": " ++ blanks ++ method ++ codes "." ++ format ++ codes ": " ++ words
+
+abbrev pub reason_line : List ℕ → Resolved → Line → List ℕ
+reason_line octets p l =
+    reason_text (line_of octets (reason_place p.methods l.method l.format l.reason).from) (column_of octets (reason_place p.methods l.method l.format l.reason).from) (indent l.depth)
+    (method_name p.methods l.method) (format_name p.methods l.method l.format) (reason_words p l.method l.format l.reason)
+
+-- each after a line feed
+abbrev pub reasons_text : List ℕ → Resolved → List Line → List ℕ
+reasons_text octets p lines = flat_map (reason_line octets p) lines

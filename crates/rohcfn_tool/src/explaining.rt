@@ -1,0 +1,148 @@
+//! Why an item or a packet is refused.
+
+ghost use Rattle.std.specs.Prelude.{◌≡◌, ◌≢◌, ◌++◌, IfOk, OnOk, string_bytes};
+ghost use Rattle.fn_engine.specs.Reading as reading;
+ghost use Rattle.fn_engine.specs.Writing as writing;
+ghost use Rattle.fn_reasons.specs.Reasons.{Verdicts};
+ghost use Rattle.rohcfn_tool.specs.Printed as spec;
+
+use crate::printing::{item_fault, packet_fault};
+use fn_bits::Bits;
+use fn_checker::Accepted;
+use fn_context::Context;
+use fn_engine::{PackFault, UnpackFault};
+use fn_expr::Side;
+use fn_filling::Item;
+use fn_reasons::{Line, Spot, reasons};
+use rohcfn_input::spelling::push_line;
+use rohcfn_report::reasons::push_reasons;
+use sqlite_items::Items;
+use std::alloc::{AllocError, Global};
+
+/// Adds the line of a refused item, whose number counts from 1, and then what stands against each format, by the octets of the profile.
+pub(crate) fn explain_item(
+    alloc: Global,
+    octets: &[u8],
+    accepted: &Accepted,
+    context: &Context,
+    output: &mut String,
+    number: usize,
+    item: &Item,
+    fault: PackFault,
+) -> Result<(), AllocError>
+    requires flow { fault ≢ PackFault.Flow }
+    requires blames { writing.Blames fault accepted.now context.now item.now }
+    ensures { OnOk result (spec.HasLine (spec.ExplainsItem octets.now accepted.now context.now number item.now) (string_bytes output.old) (string_bytes output.new)) }
+{
+    let text = item_text(alloc, octets, accepted, context, number, item, fault)?;
+    push_line(output, text.as_str())
+}
+
+fn item_text(
+    alloc: Global,
+    octets: &[u8],
+    accepted: &Accepted,
+    context: &Context,
+    number: usize,
+    item: &Item,
+    fault: PackFault,
+) -> Result<String, AllocError>
+    requires flow { fault ≢ PackFault.Flow }
+    requires blames { writing.Blames fault accepted.now context.now item.now }
+    ensures { IfOk result (λ text. spec.ExplainsItem octets.now accepted.now context.now number item.now (string_bytes text)) }
+{
+    let lines = item_reasons(alloc, accepted, context, item)?;
+    let mut text = item_fault(alloc, number, fault)?;
+    push_reasons(
+        alloc,
+        &mut text,
+        octets,
+        accepted.profile(),
+        lines.as_slice(),
+    )?;
+    Ok(text)
+}
+
+/// What stands against each format by which the item might go.
+fn item_reasons(
+    alloc: Global,
+    accepted: &Accepted,
+    context: &Context,
+    item: &Item,
+) -> Result<Items<Line>, AllocError>
+    ensures { IfOk result (Verdicts (spec.item_setting accepted.now context.now item.now) 0) }
+{
+    let profile = accepted.profile();
+    let spot = Spot {
+        profile,
+        context,
+        method: profile.top(),
+        parameters: &[],
+        path: "",
+        side: Side::Uncompressed,
+        bits: &item.header,
+        is_whole: true,
+    };
+    reasons(alloc, &spot)
+}
+
+/// Adds the line of a refused packet, whose number counts from 1, and then what stands against each format, by the octets of the profile.
+pub(crate) fn explain_packet(
+    alloc: Global,
+    octets: &[u8],
+    accepted: &Accepted,
+    context: &Context,
+    output: &mut String,
+    number: usize,
+    packet: &Bits,
+    fault: UnpackFault,
+) -> Result<(), AllocError>
+    requires { reading.Blames fault accepted.now context.now packet.now }
+    ensures { OnOk result (spec.HasLine (spec.ExplainsPacket octets.now accepted.now context.now number packet.now) (string_bytes output.old) (string_bytes output.new)) }
+{
+    let text = packet_text(alloc, octets, accepted, context, number, packet, fault)?;
+    push_line(output, text.as_str())
+}
+
+fn packet_text(
+    alloc: Global,
+    octets: &[u8],
+    accepted: &Accepted,
+    context: &Context,
+    number: usize,
+    packet: &Bits,
+    fault: UnpackFault,
+) -> Result<String, AllocError>
+    requires { reading.Blames fault accepted.now context.now packet.now }
+    ensures { IfOk result (λ text. spec.ExplainsPacket octets.now accepted.now context.now number packet.now (string_bytes text)) }
+{
+    let profile = accepted.profile();
+    profile.keeps();
+    let lines = packet_reasons(alloc, accepted, context, packet)?;
+    let mut text = packet_fault(alloc, profile.methods(), number, fault)?;
+    push_reasons(alloc, &mut text, octets, profile, lines.as_slice())?;
+    Ok(text)
+}
+
+/// What stands against each format by which the packet might go.
+fn packet_reasons(
+    alloc: Global,
+    accepted: &Accepted,
+    context: &Context,
+    packet: &Bits,
+) -> Result<Items<Line>, AllocError>
+    ensures { IfOk result (Verdicts (spec.packet_setting accepted.now context.now packet.now) 0) }
+{
+    let profile = accepted.profile();
+    let spot = Spot {
+        profile,
+        context,
+        method: profile.top(),
+        parameters: &[],
+        path: "",
+        side: Side::Compressed,
+        bits: packet,
+        is_whole: false,
+    };
+    reasons(alloc, &spot)
+}
