@@ -18,6 +18,7 @@ INPUTS = {
     "pack": ("item", "items", "from_context", "certificate", "pcap", "flow"),
     "unpack": ("packet", "packets", "from_context", "certificate"),
     "fields": ("item", "items", "packet", "packets", "from_context", "certificate", "pcap", "flow"),
+    "why": ("item", "items", "packet", "packets", "from_context", "certificate", "pcap", "flow"),
     "show": (),
     "lint": (),
     "check": ("certificate",),
@@ -25,10 +26,10 @@ INPUTS = {
     "line": ("events", "octets", "certificate", "pcap"),
 }
 TOLD = ("v2", "context")
-FLAGS = {"pack": TOLD, "unpack": TOLD, "fields": TOLD, "show": (), "lint": (), "check": ("v2",), "prove": ("v2",), "line": ("v2", "receive", "wide")}
+FLAGS = {"pack": TOLD, "unpack": TOLD, "fields": TOLD, "why": TOLD, "show": (), "lint": (), "check": ("v2",), "prove": ("v2",), "line": ("v2", "receive", "wide")}
 PACKED, READ = ("item", "items", "pcap"), ("packet", "packets")
 # One of these at least is needed.
-NEEDED = {"pack": PACKED, "unpack": READ, "fields": PACKED + READ, "line": ("events", "octets", "pcap")}
+NEEDED = {"pack": PACKED, "unpack": READ, "fields": PACKED + READ, "why": PACKED + READ, "line": ("events", "octets", "pcap")}
 VALUED = ("top", "item", "items", "packet", "packets", "from_context", "certificate", "events", "octets", "pcap", "flow")
 PLAIN = ("v2", "context", "receive", "wide", "diagnose")
 LINES = {"item": "items", "items": "items", "packet": "packets", "packets": "packets"}
@@ -109,7 +110,7 @@ def judge(order):
     if needed and not given:
         raise Usage("%s needs one of %s" % (order.command, ", ".join(map(option, needed))))
     both = [next((it for it in kind if it in given), None) for kind in (PACKED, READ)]
-    apart = both if order.command == "fields" and all(both) else given
+    apart = both if order.command in ("fields", "why") and all(both) else given
     if len(apart) > 1 and ("pcap" in given or apart is both or order.command == "line"):
         raise Usage("%s and %s don't go together" % (option(apart[0]), option(apart[1])))
     if order.has("flow") and (not order.has("pcap") or not (order.flow.isascii() and order.flow.isdigit())):
@@ -196,7 +197,7 @@ def events(order, kind, asked, flows, found):
 
 def flags_of(order):
     """The flags that go to the program. Which part there is tells that items are meant, or octets."""
-    meant = ["--items"] if order.command == "fields" and any(order.has(it) for it in PACKED) else []
+    meant = ["--items"] if order.command in ("fields", "why") and any(order.has(it) for it in PACKED) else []
     return [option(it) for it in FLAGS[order.command] if order.has(it) or it == "receive" and order.octets is not None] + meant
 
 

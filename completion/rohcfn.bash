@@ -29,7 +29,7 @@ _rohcfn_has_profile() {
 }
 
 _rohcfn() {
-  local word=${COMP_WORDS[COMP_CWORD]} before=${COMP_WORDS[COMP_CWORD - 1]} commands='pack unpack fields show lint check prove line help' options=''
+  local word=${COMP_WORDS[COMP_CWORD]} before=${COMP_WORDS[COMP_CWORD - 1]} commands='pack unpack fields why show lint check prove line help' options=''
   COMPREPLY=()
   if [[ $before == = ]]; then before=${COMP_WORDS[COMP_CWORD - 2]}; fi
   case $word in
@@ -52,6 +52,7 @@ _rohcfn() {
     pack) options='--top --v2 --context --help --item --items --from-context --certificate --pcap --flow --diagnose' ;;
     unpack) options='--top --v2 --context --help --packet --packets --from-context --certificate --diagnose' ;;
     fields) options='--top --v2 --context --help --items --item --packet --packets --from-context --certificate --pcap --flow --diagnose' ;;
+    why) options='--top --v2 --context --help --items --item --packet --packets --from-context --certificate --pcap --flow --diagnose' ;;
     show) options='--top --help --diagnose' ;;
     lint) options='--top --help --diagnose' ;;
     check) options='--top --v2 --help --certificate --diagnose' ;;
