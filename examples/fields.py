@@ -77,9 +77,9 @@ def refusal(subject, item):
     return "%s: F2 Asked %s" % (item, asked[0]) if asked else "%s: F3 NoFormat" % item
 
 
-def printed(words, profile, context, part, lines):
-    """The lines that the program prints, and its status."""
-    entries = "".join("%s %s\n" % (path, text(bits)) for path, bits in context.items())
+def printed(words, profile, context, part, lines, entries=""):
+    """The lines that the program prints, and its status; the entries are lines of the context that stand before those of `context`."""
+    entries += "".join("%s %s\n" % (path, text(bits)) for path, bits in context.items())
     data = "=== words\n%s\n=== profile\n%s=== context\n%s=== %s\n%s" % (words, profile, entries, part, "".join(it + "\n" for it in lines))
     run = subprocess.run([roundtrip.PROGRAM], input=data.encode(), stdout=subprocess.PIPE, check=False)
     return run.stdout.decode().splitlines(), run.returncode

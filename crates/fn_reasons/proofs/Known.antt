@@ -194,11 +194,11 @@ module _ (s : Setting) (sound : IsSound s.profile) (n : ℕ) (format : Format) (
 
   -- ---- numbers
 
-  known_is : (e : Expr) → StandsIn format e → val (assignment_of (known_level f h.args)) e ≡ val numbers e
+  pub known_is : (e : Expr) → StandsIn format e → val (assignment_of (known_level f h.args)) e ≡ val numbers e
   known_is e st = (fitting.evaluated p sound s.method n sit (bits_at s.context) h.args s.path f arguments h.fits h.format_is).value_is e st
 
   -- the ranges by the bounds, and by those of the arguments
-  base_lie : LieIn (assignment_of (known_level f h.args)) (bounding_of (base_ranges s sizes))
+  pub base_lie : LieIn (assignment_of (known_level f h.args)) (bounding_of (base_ranges s sizes))
   base_lie =
       known_lies f h.args (record { formats = table.0.formats; whole = table.0.whole; parameters = s.parameters }) sizes as_many
       (fitting.fields_small p sound s.method n sit (bits_at s.context) h.args s.path f arguments h.fits h.format_is)

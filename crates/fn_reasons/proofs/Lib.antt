@@ -5,3 +5,4 @@ pub mod Numbered
 pub mod True
 pub mod Making
 pub mod Arms
+pub mod Undefined

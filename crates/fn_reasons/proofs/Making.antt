@@ -19,7 +19,9 @@ use Rattle.fn_normal.specs.declared.profile.FormatSizes.{FormatSizes}
 use Rattle.fn_normal.specs.declared.profile.Library.{Library}
 use Rattle.fn_normal.specs.declared.profile.Library.TheVariants as library
 use Rattle.fn_normal.specs.declared.profile.CrcArguments.{CrcArguments}
+use Rattle.fn_source.specs.declared.span.Span.{Span}
 use Rattle.fn_bounds.specs.Faults.{side_bounds}
+use Rattle.fn_bounds.specs.Laws.{encoding_exprs}
 use Rattle.fn_filling.specs.Entries.{below}
 use Rattle.fn_fits.specs.Bounded.{sizes_at}
 use Rattle.fn_lint.specs.Obstacles.{Hinders}
@@ -31,12 +33,15 @@ use Rattle.fn_reasons.specs.Looks.{IsLook, ToldOf, SeenOf, SoFar}
 use Rattle.fn_reasons.specs.Places.{HaveLength, one_more, BeginsAt, Holds, only_length}
 use Rattle.fn_reasons.specs.Settings.{Setting, setting_of}
 use Rattle.fn_reasons.specs.Told.{placed, empty, across, Related, AreSeen, all_pinned, base_ranges, is_crc, leaves_empty, method_in, opposite, pinned, reference_in, seen_at}
-use Rattle.fn_reasons.specs.Reasons.{View, HasMethod, Stands, dead, short, long, no_reference, differs, no_side, untrue, Calls, Tells, by_reason, by_call, TellAll, ends, next, Verdicts, no_more, out, open_still, all_ranged, formats_of, inside, line_of, ranges_in, wants_reference}
+use Rattle.fn_reasons.specs.Reasons.{View, HasMethod, Stands, dead, short, long, no_reference, differs, no_side, untrue, no_argument, no_truth, Calls, Tells, by_reason, by_call, TellAll, ends, next, Verdicts, no_more, out, open_still, all_ranged, formats_of, inside, line_of, ranges_in, wants_reference}
+use Rattle.fn_reasons.specs.Figures.{figures_at}
+use Rattle.fn_reasons.specs.Undefined.{first_undefined, undefined_condition}
 use Rattle.fn_reasons.specs.Listing as listing
 use Rattle.fn_reasons.specs.declared.across.Valued.{Valued}
 use Rattle.fn_reasons.specs.declared.across.Valued.TheVariants as valued
 use Rattle.fn_reasons.specs.declared.conflict.Coded.{Coded}
 use Rattle.fn_reasons.specs.declared.conflict.Sighted.{Sighted}
+use Rattle.fn_reasons.specs.declared.figures.Figure.{Figure}
 use Rattle.fn_reasons.specs.declared.line.Line.{Line}
 use Rattle.fn_reasons.specs.declared.reason.Reason.{Reason}
 use Rattle.fn_reasons.specs.declared.reason.Reason.TheVariants as reason
@@ -186,8 +191,19 @@ pub long_is : (s : Setting) (n : ℕ) (sizes : FormatSizes) → sizes_at s.profi
 long_is s n sizes at whole many most m l more =
     subst (λ z. Stands s n (reason.Long z most)) (sym m) (subst (λ z. Stands s n (reason.Long (length s.bits) z)) (sym l) (long sizes at whole (omega (arith, m, l, more))))
 
-pub untrue_is : (k : Sighted) → IsSighted k → (j : ℕ) → IsUntrue k.look.format.now.constraints (bounding_of k.ranges.now) j → StandsIn k (reason.Untrue j)
-untrue_is k h j u = untrue k.look.format.now k.look.sizes.now k.seen.now (view_is k h) (subst (λ z. IsUntrue k.look.format.now.constraints (bounding_of z) j) h.ranges_are u)
+pub untrue_is : (k : Sighted) → IsSighted k → (j : ℕ) (figures : List Figure) → figures ≡ figures_at (bounding_of k.ranges.now) (slice_get k.look.format.now.constraints j) → IsUntrue k.look.format.now.constraints (bounding_of k.ranges.now) j
+    → StandsIn k (reason.Untrue j figures)
+untrue_is k h j figures is u =
+    subst (λ z. StandsIn k (reason.Untrue j z)) (sym (is ∙ ap (λ z. figures_at (bounding_of z) (slice_get k.look.format.now.constraints j)) h.ranges_are))
+    (untrue k.look.format.now k.look.sizes.now k.seen.now (view_is k h) (subst (λ z. IsUntrue k.look.format.now.constraints (bounding_of z) j) h.ranges_are u))
+
+pub no_argument_is : (k : Sighted) → IsSighted k → (i : ℕ) (d : Field) → slice_get k.look.format.now.fields i ≡ Some d → (at : Span) → first_undefined (bounding_of k.ranges.now) (encoding_exprs d.encoding) ≡ Some at → StandsIn k (reason.Undefined at)
+no_argument_is k h i d field_at at is =
+    no_argument {i = i} k.look.format.now k.look.sizes.now k.seen.now d (view_is k h) field_at (ap (λ z. first_undefined (bounding_of z) (encoding_exprs d.encoding)) (sym h.ranges_are) ∙ is)
+
+pub no_truth_is : (k : Sighted) → IsSighted k → (at : Span) → undefined_condition (bounding_of k.ranges.now) k.look.format.now.constraints ≡ Some at → StandsIn k (reason.Undefined at)
+no_truth_is k h at is =
+    no_truth k.look.format.now k.look.sizes.now k.seen.now (view_is k h) (ap (λ z. undefined_condition (bounding_of z) k.look.format.now.constraints) (sym h.ranges_are) ∙ is)
 
 -- ---- lines
 

@@ -33,6 +33,7 @@ use Rattle.fn_normal.specs.declared.profile.Library.TheVariants as library
 use Rattle.fn_normal.specs.declared.profile.Method.{Method}
 use Rattle.fn_bounds.specs.Faults.{side_bounds}
 use Rattle.fn_bounds.specs.Laws.{StandsIn, in_encoding, encoding_exprs}
+use Rattle.fn_source.specs.declared.span.Span.{Span}
 use Rattle.fn_profile.specs.Resolved.{IsSound}
 use Rattle.fn_filling.specs.declared.filling.Filling.{Filling, out-Filling}
 use Rattle.fn_filling.specs.Fillings.{sides_of, level, header, packed}
@@ -47,11 +48,13 @@ use Rattle.fn_lint.proofs.Dead.{obstacles-kill}
 use Rattle.fn_reasons.specs.Laws.{ReasonsAreTrue}
 use Rattle.fn_reasons.specs.Settings.{Setting, IsSought, IsOut, whole_side}
 use Rattle.fn_reasons.specs.Told.{Covers, Related, opposite, reference_in, seen_at, seen_subject}
-use Rattle.fn_reasons.specs.Reasons.{View, HasMethod, Stands, dead, short, long, no_reference, differs, no_side, untrue, Tells, by_reason, by_call, TellAll, ends, next, all_ranged, formats_of, inside, ranges_in, range_of, wants_reference}
+use Rattle.fn_reasons.specs.Reasons.{View, HasMethod, Stands, dead, short, long, no_reference, differs, no_side, untrue, no_argument, no_truth, Tells, by_reason, by_call, TellAll, ends, next, all_ranged, formats_of, inside, ranges_in, range_of, wants_reference}
 use Rattle.fn_reasons.specs.declared.line.Line.{Line}
 use Rattle.fn_reasons.specs.declared.reason.Reason.{Reason}
 use Rattle.fn_reasons.specs.declared.sight.Seen.{Seen}
 use Rattle.fn_reasons.proofs.Known as known
+use Rattle.fn_reasons.specs.Undefined.{first_undefined, undefined_condition}
+use Rattle.fn_reasons.proofs.Undefined as undefined
 use Rattle.fn_reasons.proofs.Ordered.{piece}
 use Rattle.fn_reasons.proofs.Pinned.{LiesIn, same_method}
 
@@ -193,6 +196,31 @@ module _ (s : Setting) (sound : IsSound s.profile) (n : ℕ) (f : Filling) (h : 
             not_true lies-in-ranges (assignment_of (known.numbers_of s sound n format v.format_is sizes v.sizes_are f h)) (ranges_in s sizes seen) (known.all_lie s sound n format v.format_is sizes v.sizes_are f h seen v.is_seen) condition never
             (known.condition_is s sound n format v.format_is sizes v.sizes_are f h j condition place at)
 
+    -- ---- values
+
+    -- an argument of a field's encoding has a value
+    argument_has : (i : ℕ) (d : Field) → slice_get format.fields i ≡ Some d → (e : Encoding) → d.encoding ≡ e → (q : ℕ) (x : Expr) → slice_get (encoding_exprs e) q ≡ Some x → (v : ℤ) × (val (assigned format.listing (level f) h.args) x ≡ Some v)
+    argument_has i d at encoding.Bare is q x here = absurd (cc)
+    argument_has i d at (encoding.Library l) is q x here =
+        let c = known.coded s sound n format v.format_is sizes v.sizes_are f h i d at l is in
+        undefined.has_values (side_of format.listing (level f)) (assigned format.listing (level f) h.args) l c.0 c.1 q x here
+    argument_has i d at (encoding.Call k es) is q x here =
+        let c = known.called s sound n format v.format_is sizes v.sizes_are f h i d at k es is in
+        undefined.all_there (assigned format.listing (level f) h.args) es c.args c.is_args q x here
+
+    no_undefined : (i : ℕ) (d : Field) (at : Span) → slice_get format.fields i ≡ Some d → first_undefined (ranges_in s sizes seen) (encoding_exprs d.encoding) ≡ Some at → ⊥
+    no_undefined i d at field_at is =
+        let t = undefined.one_undefined (ranges_in s sizes seen) (encoding_exprs d.encoding) at is in
+        let has = argument_has i d field_at d.encoding refl t.0 t.1 t.2 in
+        undefined.no_value (assignment_of (known.numbers_of s sound n format v.format_is sizes v.sizes_are f h)) (ranges_in s sizes seen) (known.all_lie s sound n format v.format_is sizes v.sizes_are f h seen v.is_seen) t.1 at t.3 has.0
+        (known.known_is s sound n format v.format_is sizes v.sizes_are f h t.1 (in_encoding i t.0 field_at t.2) ∙ has.1)
+
+    no_untold : (at : Span) → undefined_condition (ranges_in s sizes seen) format.constraints ≡ Some at → ⊥
+    no_untold at is =
+        let t = undefined.one_condition (ranges_in s sizes seen) format.constraints at is in
+        undefined.no_truth (assignment_of (known.numbers_of s sound n format v.format_is sizes v.sizes_are f h)) (ranges_in s sizes seen) (known.all_lie s sound n format v.format_is sizes v.sizes_are f h seen v.is_seen) t.1 at t.4 true
+        (known.condition_is s sound n format v.format_is sizes v.sizes_are f h t.0 t.1 t.2 t.3)
+
     -- ---- a method inside
 
     no_call : (i : ℕ) (d : Field) (k : ℕ) (es : List Expr) (parameters : List Interval) (offset : ℕ) → slice_get format.fields i ≡ Some d → d.encoding ≡ encoding.Call k es → all_ranged (ranges_in s sizes seen) es ≡ Some parameters
@@ -228,6 +256,8 @@ module _ (s : Setting) (sound : IsSound s.profile) (n : ℕ) (f : Filling) (h : 
   no_stand r (differs {i} {found} {due} side format sizes seen d m own v has own_is only found_is differ) = no_difference format sizes seen v i side found due own d m has own_is only found_is differ
   no_stand r (no_side {i} {side} {found} format sizes seen d m v has found_is none) = no_lack format sizes seen v i side found d m has found_is none
   no_stand r (untrue {j} format sizes seen v u) = no_untrue format sizes seen v j u
+  no_stand r (no_argument {i} {at} format sizes seen d v field_at is) = no_undefined format sizes seen v i d at field_at is
+  no_stand r (no_truth {at} format sizes seen v is) = no_untold format sizes seen v at is
 
 -- ---- together
 

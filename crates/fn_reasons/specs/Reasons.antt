@@ -17,15 +17,19 @@ use Rattle.fn_normal.specs.declared.profile.FormatSizes.{FormatSizes}
 use Rattle.fn_normal.specs.declared.profile.Library.{Library}
 use Rattle.fn_normal.specs.declared.profile.Library.TheVariants as library
 use Rattle.fn_normal.specs.declared.profile.Method.{Method}
+use Rattle.fn_source.specs.declared.span.Span.{Span}
 use Rattle.fn_bounds.specs.Faults.{side_bounds}
+use Rattle.fn_bounds.specs.Laws.{encoding_exprs}
 use Rattle.fn_filling.specs.Entries.{below}
 use Rattle.fn_fits.specs.Bounded.{sizes_at}
 use Rattle.fn_fits.specs.Fits.{format_at}
 use Rattle.fn_lint.specs.Never.{IsUntrue}
 use Rattle.fn_lint.specs.Obstacles.{Hinders}
+use Rattle.fn_reasons.specs.Figures.{figures_at}
 use Rattle.fn_reasons.specs.Settings.{Setting}
 use Rattle.fn_reasons.specs.Places.{BeginsAt, only_length, order_of}
 use Rattle.fn_reasons.specs.Told.{AreAllSeen, Covers, Related, base_ranges, method_in, opposite, ranges_seen, reference_in, seen_at}
+use Rattle.fn_reasons.specs.Undefined.{first_undefined, undefined_condition}
 use Rattle.fn_reasons.specs.declared.line.Line.{Line}
 use Rattle.fn_reasons.specs.declared.reason.Reason.{Reason}
 use Rattle.fn_reasons.specs.declared.reason.Reason.TheVariants as reason
@@ -73,8 +77,14 @@ pub data Stands (s : Setting) (n : ℕ) : Reason → Type 0 where
   -- one side of a field has these bits, to which its method relates none
   no_side : {i : ℕ} {side : Side} {found : List Bool} (format : Format) (sizes : FormatSizes) (seen : Seen) (d : Field) (m : lib.Method) → View s n format sizes seen → HasMethod s format sizes seen i d m
       → seen_at seen.fields i side ≡ Some found → IsOnly (Related m (reference_in s d) side found) None → Stands s n (reason.NoSide i side found)
-  -- a condition is false by what is seen
-  untrue : {j : ℕ} (format : Format) (sizes : FormatSizes) (seen : Seen) → View s n format sizes seen → IsUntrue format.constraints (ranges_in s sizes seen) j → Stands s n (reason.Untrue j)
+  -- a condition is false by what is seen, with the numbers by which it goes
+  untrue : {j : ℕ} (format : Format) (sizes : FormatSizes) (seen : Seen) → View s n format sizes seen → IsUntrue format.constraints (ranges_in s sizes seen) j
+      → Stands s n (reason.Untrue j (figures_at (ranges_in s sizes seen) (slice_get format.constraints j)))
+  -- an argument of a field's encoding has no value by what is seen
+  no_argument : {i : ℕ} {at : Span} (format : Format) (sizes : FormatSizes) (seen : Seen) (d : Field) → View s n format sizes seen → slice_get format.fields i ≡ Some d → first_undefined (ranges_in s sizes seen) (encoding_exprs d.encoding) ≡ Some at
+      → Stands s n (reason.Undefined at)
+  -- nor has a condition
+  no_truth : {at : Span} (format : Format) (sizes : FormatSizes) (seen : Seen) → View s n format sizes seen → undefined_condition (ranges_in s sizes seen) format.constraints ≡ Some at → Stands s n (reason.Undefined at)
 
 -- ---- a method inside
 

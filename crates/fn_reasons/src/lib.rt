@@ -1,6 +1,7 @@
 //! Why no filling of a format has a header, or packed bits at the front of a packet.
 #![tactic(auto)]
 
+pub use figures::Figure;
 pub use line::Line;
 pub use reason::Reason;
 pub use spot::Spot;
@@ -8,6 +9,7 @@ pub use verdicts::reasons;
 
 mod across;
 mod conflict;
+pub mod figures;
 pub mod laws;
 pub mod line;
 mod numbers;
@@ -17,4 +19,5 @@ mod seeing;
 mod sight;
 pub mod spot;
 mod subjects;
+mod undefined;
 pub mod verdicts;

@@ -1,8 +1,11 @@
 //! What may stand against a format.
 
+use crate::figures::Figure;
 use fn_bits::Bits;
 use fn_expr::Side;
 use fn_lint::Obstacle;
+use fn_source::Span;
+use sqlite_items::Items;
 
 /// What stands against a format, so that no filling of it is asked for. Fields and constraints go by their indices, lengths are in bits.
 #[derive(Drop)]
@@ -37,9 +40,14 @@ pub enum Reason {
         side: Side,
         found: Bits,
     },
-    /// The constraint is a condition that is false.
+    /// The constraint is a condition that is false, by numbers of which these are known.
     Untrue {
         constraint: usize,
+        figures: Items<Figure>,
+    },
+    /// An argument or a condition has no value: the part of it at this place divides by 0.
+    Undefined {
+        at: Span,
     },
     /// Something stands against each format of the method that the field calls.
     Inside {

@@ -14,6 +14,7 @@ ghost use Rattle.fn_reasons.specs.Settings.{setting_of};
 ghost use Rattle.fn_reasons.specs.Told as told;
 
 use crate::conflict::{Sighted, conflict};
+use crate::figures::figures_at;
 use crate::line::Line;
 use crate::numbers::ranges_seen;
 use crate::placing::{begin_of, order_of};
@@ -22,6 +23,7 @@ use crate::seeing::{Look, sights};
 use crate::sight::{Seen, Sight};
 use crate::spot::Spot;
 use crate::subjects::joined;
+use crate::undefined::{undefined_argument, undefined_condition};
 use fn_bits::Bits;
 use fn_bounds::ranging::format_ranges;
 use fn_expr::{Expr, Interval, Ranges, Side, range};
@@ -241,7 +243,7 @@ fn told_by(
     told_by_condition(alloc, sighted, depth)
 }
 
-/// The same by the first condition that is false.
+/// The same by the first condition that is false, else by the first that has no value.
 fn told_by_condition(
     alloc: Global,
     sighted: &Sighted<'_>,
@@ -252,9 +254,51 @@ fn told_by_condition(
 {
     let constraints = sighted.look.format.constraints.as_slice();
     let Some(constraint) = first_untrue(constraints, sighted.ranges) else {
+        return told_by_truth(alloc, sighted, depth);
+    };
+    let figures = figures_at(alloc, constraints, constraint, sighted.ranges)?;
+    let reason = Reason::Untrue {
+        constraint,
+        figures,
+    };
+    let lines = alone(alloc, &sighted.look.spot, depth, sighted.number, reason)?;
+    Ok(Some(lines))
+}
+
+/// The same by the first condition that has no value.
+fn told_by_truth(
+    alloc: Global,
+    sighted: &Sighted<'_>,
+    depth: usize,
+) -> Result<Option<Items<Line>>, AllocError>
+    requires { IsSighted sighted.now }
+    ensures { IfOk result (λ o. IfSome o (spec.Tells (setting_of sighted.now.look.spot) depth sighted.now.number)) }
+{
+    let constraints = sighted.look.format.constraints.as_slice();
+    let Some(at) = undefined_condition(constraints, sighted.ranges) else {
         return Ok(None);
     };
-    let reason = Reason::Untrue { constraint };
+    let reason = Reason::Undefined { at };
+    let lines = alone(alloc, &sighted.look.spot, depth, sighted.number, reason)?;
+    Ok(Some(lines))
+}
+
+/// The same by an argument that has no value.
+fn told_by_argument(
+    alloc: Global,
+    sighted: &Sighted<'_>,
+    depth: usize,
+    index: usize,
+    field: &Field,
+) -> Result<Option<Items<Line>>, AllocError>
+    requires sighted { IsSighted sighted.now }
+    requires at { slice_get sighted.now.look.format.now.fields index ≡ Some field.now }
+    ensures { IfOk result (λ o. IfSome o (spec.Tells (setting_of sighted.now.look.spot) depth sighted.now.number)) }
+{
+    let Some(at) = undefined_argument(field.encoding.get(), sighted.ranges) else {
+        return Ok(None);
+    };
+    let reason = Reason::Undefined { at };
     let lines = alone(alloc, &sighted.look.spot, depth, sighted.number, reason)?;
     Ok(Some(lines))
 }
@@ -274,6 +318,10 @@ fn told_by_field(
     let Some(field) = sighted.look.format.fields.get(index) else {
         return Ok(None);
     };
+    let found = told_by_argument(alloc, sighted, depth, index, field)?;
+    if found.is_some() {
+        return Ok(found);
+    }
     match field.encoding.get() {
         Encoding::Call { method, arguments } => {
             if left == 0 {

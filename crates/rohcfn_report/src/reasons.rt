@@ -1,6 +1,8 @@
 //! What `why` prints of the reasons that stand against formats.
 
 ghost use Rattle.std.specs.Prelude.{◌≡◌, ◌++◌, IfOk, OnOk, None, codes, decimal, string_bytes};
+ghost use Rattle.std.specs.Fmt.{signed_decimal};
+ghost use Rattle.std.specs.Option.{option_copied};
 ghost use Rattle.rohcfn_report.specs.BitTexts.{bits_text};
 ghost use Rattle.rohcfn_report.specs.Fields.{encoding_at as encoding_of, method_word};
 ghost use Rattle.rohcfn_report.specs.Reasons as spec;
@@ -10,11 +12,11 @@ use crate::linting::{bracket_or, constraints_at, method_place, obstacle_words, p
 use crate::table::push_blanks;
 use crate::verdicts::{field_name, format_name, method_name};
 use fn_bits::Bits;
-use fn_expr::Side;
+use fn_expr::{Input, Measure, Side, Subject};
 use fn_lint::{DeadFormat, Obstacle};
-use fn_normal::Method;
+use fn_normal::{Method, Name};
 use fn_profile::Profile;
-use fn_reasons::{Line, Reason};
+use fn_reasons::{Figure, Line, Reason};
 use fn_source::{Span, line_column};
 use std::alloc::{AllocError, Global};
 
@@ -112,7 +114,8 @@ fn reason_place(methods: &[Method], method: usize, format: usize, reason: &Reaso
         Reason::Differs { field, .. } => field_place(methods, method, format, *field),
         Reason::NoSide { field, .. } => field_place(methods, method, format, *field),
         Reason::Inside { field } => field_place(methods, method, format, *field),
-        Reason::Untrue { constraint } => {
+        Reason::Undefined { at } => *at,
+        Reason::Untrue { constraint, .. } => {
             let obstacle = Obstacle::NeverTrue {
                 constraint: *constraint,
             };
@@ -171,7 +174,12 @@ fn reason_words(
         Reason::NoSide { field, side, found } => {
             lacking_words(alloc, methods, method, format, *field, *side, found)
         }
-        Reason::Untrue { .. } => String::from_str(alloc, "the condition is false"),
+        Reason::Untrue { figures, .. } => {
+            false_words(alloc, methods, method, format, figures.as_slice())
+        }
+        Reason::Undefined { .. } => {
+            String::from_str(alloc, "this has no value, since it divides by 0")
+        }
         Reason::Inside { field } => inside_words(alloc, methods, method, format, *field),
         Reason::Nothing => String::from_str(alloc, "nothing simple stands against it"),
     }
@@ -296,6 +304,118 @@ fn called_words(alloc: Global, name: &str, called: &str) -> Result<String, Alloc
     ensures { IfOk result (λ text. string_bytes text ≡ codes "nothing goes in " ++ name.now ++ codes ", by no format of " ++ called.now) }
 {
     format!(in alloc; "nothing goes in {name}, by no format of {called}")
+}
+
+/// That a condition is false, and the numbers by which it goes.
+fn false_words(
+    alloc: Global,
+    methods: &[Method],
+    method: usize,
+    format: usize,
+    figures: &[Figure],
+) -> Result<String, AllocError>
+    ensures { IfOk result (λ text. string_bytes text ≡ spec.false_words methods.now method format figures.now) }
+{
+    let mut text = String::from_str(alloc, "the condition is false")?;
+    for figure in figures {
+        push_figure(alloc, &mut text, methods, method, format, *figure)?;
+    }
+    Ok(text)
+}
+
+fn push_figure(
+    alloc: Global,
+    text: &mut String,
+    methods: &[Method],
+    method: usize,
+    format: usize,
+    figure: Figure,
+) -> Result<(), AllocError>
+    ensures { OnOk result (string_bytes text.new ≡ string_bytes text.old ++ spec.figure_words methods.now method format figure) }
+{
+    let words = figure_words(alloc, methods, method, format, figure)?;
+    text.push_str(words.as_str())
+}
+
+fn figure_words(
+    alloc: Global,
+    methods: &[Method],
+    method: usize,
+    format: usize,
+    figure: Figure,
+) -> Result<String, AllocError>
+    ensures { IfOk result (λ text. string_bytes text ≡ spec.figure_words methods.now method format figure) }
+{
+    let name = input_name(alloc, methods, method, format, figure.input)?;
+    value_words(alloc, name.as_str(), figure.value)
+}
+
+fn value_words(alloc: Global, name: &str, value: i128) -> Result<String, AllocError>
+    ensures { IfOk result (λ text. string_bytes text ≡ codes "; " ++ name.now ++ codes " is " ++ signed_decimal value) }
+{
+    format!(in alloc; "; {name} is {value}")
+}
+
+fn input_name(
+    alloc: Global,
+    methods: &[Method],
+    method: usize,
+    format: usize,
+    input: Input,
+) -> Result<String, AllocError>
+    ensures { IfOk result (λ text. string_bytes text ≡ spec.input_name methods.now method format input) }
+{
+    match input {
+        Input::Parameter(parameter) => {
+            String::from_str(alloc, parameter_name(methods, method, parameter))
+        }
+        Input::Attribute(attribute) => attribute_name(
+            alloc,
+            subject_name(methods, method, format, attribute.subject),
+            attribute_word(attribute.side, attribute.measure),
+        ),
+    }
+}
+
+fn attribute_name(alloc: Global, subject: &str, word: &str) -> Result<String, AllocError>
+    ensures { IfOk result (λ text. string_bytes text ≡ subject.now ++ codes "." ++ word.now) }
+{
+    format!(in alloc; "{subject}.{word}")
+}
+
+fn parameter_name(methods: &[Method], method: usize, parameter: usize) -> &str
+    ensures { result.now ≡ spec.parameter_name methods.now method parameter }
+{
+    match parameter_at(methods, method, parameter) {
+        Some(name) => name.as_str(),
+        None => "-",
+    }
+}
+
+fn parameter_at(methods: &[Method], method: usize, parameter: usize) -> Option<&Name>
+    ensures { option_copied result ≡ spec.parameter_at methods.now method parameter }
+{
+    methods.get(method)?.parameters.get(parameter)
+}
+
+fn subject_name(methods: &[Method], method: usize, format: usize, subject: Subject) -> &str
+    ensures { result.now ≡ spec.subject_name methods.now method format subject }
+{
+    match subject {
+        Subject::Field(field) => field_name(methods, method, format, field),
+        Subject::This => "THIS",
+    }
+}
+
+fn attribute_word(side: Side, measure: Measure) -> &'static str
+    ensures { result.now ≡ spec.attribute_word side measure }
+{
+    match (side, measure) {
+        (Side::Uncompressed, Measure::Value) => "UVALUE",
+        (Side::Uncompressed, Measure::Length) => "ULENGTH",
+        (Side::Compressed, Measure::Value) => "CVALUE",
+        (Side::Compressed, Measure::Length) => "CLENGTH",
+    }
 }
 
 fn side_word(side: Side) -> &'static str

@@ -1,10 +1,13 @@
-use Rattle.std.proofs.Common.{subst}
+use Rattle.std.proofs.Common.{ap, subst, ◌∙◌}
+use Rattle.std.specs.Prelude.{slice_get}
 use Rattle.fn_expr.specs.Bounds.{bounding_of}
 use Rattle.fn_lint.specs.Never.{IsUntrue}
+use Rattle.fn_reasons.specs.Figures.{figures_at}
 use Rattle.fn_reasons.proofs.Making.{untrue_is}
 use Rattle.fn_reasons.proofs.verdicts.told_by_condition.Goals as goal
 
 pub alone-requires : goal.alone-requires
 alone-requires c =
-    untrue_is c.args.sighted.now c.requires c.in-Some.constraint
+    untrue_is c.args.sighted.now c.requires c.in-Some.constraint c.in_ok-figures.figures
+    (c.in_ok-figures.ensures ∙ ap (λ z. figures_at (bounding_of c.args.sighted.now.ranges.now) (slice_get z c.in-Some.constraint)) c.as_slice-constraints.ensures)
     (subst (λ z. IsUntrue z (bounding_of c.args.sighted.now.ranges.now) c.in-Some.constraint) c.as_slice-constraints.ensures (rw c.in-Some.is at c.first_untrue.ensures))

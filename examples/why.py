@@ -1,0 +1,156 @@
+#!/usr/bin/env python3
+"""Through the built program: what `why` prints of items and packets that are refused. For each format of the top there is a line, in the order of the text. Where it tells a reason, a slow search over
+all headers and all values of asked fields (searching.py) finds no filling of that format with the item's header, or at the front of the packet. The fault line is that of `pack` or `unpack`.
+The items and packets are drawn, many of them damaged, and those of the cases in cases/ whose profile is a sample (samples.py)."""
+import collections
+import itertools
+import pathlib
+import random
+import re
+import sys
+
+import cases
+import roundtrip
+import samples
+from fields import bits_of, printed
+from roundtrip import text
+from searching import Search
+
+LINE = re.compile(r"[1-9]\d*:[1-9]\d*: (?P<blanks> *)(?P<method>\w+)\.(?P<format>\w+|-): (?P<reason>.+)")
+NOTHING = "nothing simple stands against it"
+SAMPLES = ["tick", "opt", "mode", "turn"]
+REFUSED = re.compile(r"^(?:item|packet) ([1-9]\d*): (?:F3|U1|U2) ", re.MULTILINE)
+MOST = 1 << 12  # headers with values of the asked fields that are searched for a stored case
+Filled = collections.namedtuple("Filled", "index header packed entries")
+
+
+def fillings(subject, context):
+    """All of the top in a context: every header, every value of the asked fields."""
+    top = len(subject.methods) - 1
+    fields = subject.methods[top].formats[0].fields
+    asked = {it.name: ["".join(bits) for bits in itertools.product("01", repeat=it.u[1])] for it in fields if it.asked}
+    search = Search(subject.methods, context, subject.initial)
+    for header in headers(subject):
+        for values in itertools.product(*asked.values()):
+            for it in search.fillings(top, (), "", header, dict(zip(asked, values))):
+                yield Filled(it.index, it.header, it.packed, it.entries)
+
+
+def headers(subject):
+    """Every header of the greatest length, and one that is a bit short."""
+    most = subject.methods[-1].formats[0].most("U")
+    return ["".join(it) for it in itertools.product("01", repeat=most)] + ["0" * (most - 1)]
+
+
+def damaged(packed, draw):
+    """Packed bits with one bit turned, cut by a bit, or followed by others."""
+    place = draw.randrange(len(packed)) if packed else 0
+    turned = packed[:place] + ("1" if packed[place:place + 1] == "0" else "0") + packed[place + 1:]
+    return [turned, packed[:-1], turned + "".join(draw.choice("01") for _ in range(9))]
+
+
+def calls(subject, context, draw, most):
+    """Items and packets of one context: the command, its flags, the part, the line, and the formats of which a filling is asked for."""
+    known = list(fillings(subject, context))
+    asked = [it for it in subject.methods[-1].formats[0].fields if it.asked]
+    for header in draw.sample(headers(subject), most) + headers(subject)[-1:]:
+        values = {it.name: "".join(draw.choice("01") for _ in range(it.u[1])) for it in asked}
+        yield "pack", " --items", "items", roundtrip.line_of(header, values), {it.index for it in known if it.header == header}
+    packets = ["".join(draw.choice("01") for _ in range(draw.randrange(13))) for _ in range(most)]
+    for it in draw.sample(known, min(len(known), most)):
+        packets += damaged(it.packed, draw)
+    for packet in packets:
+        yield "unpack", "", "packets", text(packet), {it.index for it in known if packet.startswith(it.packed)}
+
+
+def is_told(subject, lines, there):
+    """Whether the lines are those of the formats of the top, of which none that is blamed has a filling; and how many are blamed."""
+    found = [LINE.fullmatch(it) for it in lines]
+    if not all(found):
+        return False, 0
+    top = [it for it in found if not it["blanks"] and it["method"] == subject.methods[-1].name]
+    names = [it.shown() for it in subject.methods[-1].formats]
+    blamed = [it["format"] for it in top if it["reason"] != NOTHING]
+    return [it["format"] for it in top] == names and not any(names.index(it) in there for it in blamed), len(blamed)
+
+
+def trials(subject, context, draw, most):
+    """For each call what is wrong with it, if anything, and how many formats were blamed."""
+    for command, flags, part, line, there in calls(subject, context, draw, most):
+        yield told_or_wrong(subject, context, command, flags, part, line, there)
+
+
+def told_or_wrong(subject, context, command, flags, part, line, there):
+    """What is wrong with one call, if anything, and how many formats were blamed."""
+    refusal, _ = printed(subject.words(command), subject.profile, context, part, [line])
+    lines, status = printed(subject.words("why") + flags, subject.profile, context, part, [line])
+    if ": F" in refusal[0] or ": U" in refusal[0]:
+        right, blamed = is_told(subject, lines[1:], there)
+        right = right and lines[:1] == refusal
+    else:
+        right, blamed = len(lines) == 1 and bool(there), 0
+    return None if right and status == 0 else (subject.profile, context, flags, line, refusal, lines, there), blamed
+
+
+def parts_of(bundle):
+    """The parts of a bundle, by their names."""
+    return {name: body + "\n" for name, _, body in (it.partition("\n") for it in ("\n" + bundle).split("\n=== ")[1:])}
+
+
+def stored():
+    """The stored cases in which an item or a packet of a sample is refused: the subject, the context that is reached, the flags, the line, and the formats that it may be of."""
+    names = {text: name for name, text in samples.TEXTS.items()}
+    for path in sorted(pathlib.Path(__file__).parent.glob("cases/*.cases")):
+        for _, bundle, _, output in cases.stored(path):
+            parts, number = parts_of(bundle.decode("latin-1")), REFUSED.search(output.decode("latin-1"))
+            words = parts.get("words", "").split()
+            name = names.get(parts.get("profile", "").rstrip("\n") + "\n")
+            if number and words[:1] in (["pack"], ["unpack"]) and name == words[2] and "certificate" not in parts:
+                part = "items" if words[0] == "pack" else "packets"
+                yield roundtrip.sample(name), words, parts.get("context", ""), part, parts[part].split("\n")[:int(number[1])]
+
+
+def reached(subject, words, start, part, lines):
+    """The context after the lines, as the program prints it."""
+    entries = dict(it.split(" ") for it in start.split("\n") if it)
+    if lines:
+        shown, _ = printed(" ".join(words[:1] + ["--context"] + words[1:]), subject.profile, {}, part, lines, start)
+        entries = dict(it.split(" ") for it in shown[shown.index("=== context") + 1:])
+    return {path: bits_of(bits) for path, bits in entries.items()}
+
+
+def stored_trials():
+    """For each of these what is wrong with it, if anything, and how many formats were blamed."""
+    for subject, words, start, part, lines in stored():
+        form = subject.methods[-1].formats[0]
+        if 1 << form.most("U") + sum(it.u[1] for it in form.fields if it.asked) > MOST:
+            continue
+        context = reached(subject, words, start, part, lines[:-1])
+        known, bits = list(fillings(subject, context)), bits_of(lines[-1].split(" ")[0])
+        there = {it.index for it in known if (bits == it.header if part == "items" else bits.startswith(it.packed))}
+        yield told_or_wrong(subject, context, words[0], " --items" if part == "items" else "", part, lines[-1], there)
+
+
+def subjects(draw):
+    for name in SAMPLES:
+        for context in roundtrip.CONTEXTS[name]:
+            yield roundtrip.sample(name), context, 12
+    for subject, context in roundtrip.referring(draw):
+        yield subject, context, 4
+
+
+def main():
+    draw = random.Random(4997)
+    passed = failed = told = 0
+    of_cases = list(stored_trials())
+    drawn = (it for subject, context, most in subjects(draw) for it in trials(subject, context, draw, most))
+    for wrong, blamed in itertools.chain(of_cases, drawn):
+        passed, failed, told = passed + (wrong is None), failed + (wrong is not None), told + blamed
+        if wrong is not None and failed < 5:
+            print("why:", *wrong)
+    print("why: %d passed, %d of them of stored cases, %d failed; %d formats with a reason" % (passed, len(of_cases), failed, told))
+    return 1 if failed or not told or not of_cases else 0
+
+
+if __name__ == "__main__":
+    sys.exit(main())
