@@ -1,7 +1,8 @@
 -- What is told of the fields of a format is so in each filling that is asked for.
-use Rattle.std.proofs.Common.{◌≡◌, ◌∙◌, refl, sym, ap, subst, ℕ, zero, ◌+◌, ◌<◌, Bool, true, false, cond, List, [], ◌∷◌, ◌++◌, length, map, flat_map, drop, arith}
+use Rattle.std.proofs.Common.{◌≡◌, ◌∙◌, refl, sym, ap, subst, ℕ, zero, ◌+◌, ◌<◌, ◌≤◌, Bool, true, false, cond, List, [], ◌∷◌, ◌++◌, length, map, flat_map, drop, arith}
 use Rattle.std.specs.Prelude.{ℤ, Option, Some, None, IfSome, slice_get, nat_eq}
-use Rattle.std.specs.Option.{option_map, option_and_then}
+use Rattle.std.specs.Option.{option_map, option_and_then, option_or}
+use Rattle.std.proofs.lemmas.List.{length-append}
 use Rattle.std.proofs.lemmas.Option.{slice_get_within, slice_get-map}
 use Rattle.std.proofs.lemmas.Bool.{true≢false}
 use Rattle.std.proofs.lemmas.Bool.Decides.{nat_tests}
@@ -60,11 +61,12 @@ use Rattle.fn_lint.proofs.Fitting.{Sits}
 use Rattle.fn_lint.proofs.Fitting as fitting
 use Rattle.fn_reasons.specs.Settings.{Setting, IsSought, whole_side}
 use Rattle.fn_reasons.specs.Places.{BeginsAt, only_length, only_within, order_of}
-use Rattle.fn_reasons.specs.Told.{Told, placed, empty, across, Related, IsSeen, AreAllSeen, base_ranges, is_crc, leaves_empty, opposite, joined, ranges_seen, reference_in, seen_at, seen_side, seen_subject}
+use Rattle.fn_reasons.specs.Told.{Told, placed, empty, across, Related, IsSeen, AreAllSeen, base_ranges, is_crc, leaves_empty, length_of, told_length, opposite, joined, ranges_seen, reference_in, seen_at, seen_side, seen_subject}
 use Rattle.fn_reasons.specs.declared.sight.Seen.{Seen}
 use Rattle.fn_reasons.specs.declared.sight.Sight.{Sight}
 use Rattle.fn_reasons.proofs.Numbered.{fields_lie, one_side, joined_is}
 use Rattle.fn_reasons.proofs.Ordered.{piece, whole_pieces, begun, held}
+use Rattle.fn_reasons.proofs.Measured.{library_has, noted, pick}
 use Rattle.fn_reasons.proofs.Pinned.{LiesIn, same_method}
 
 -- the only length of a side
@@ -91,10 +93,6 @@ left_empty encoding.Bare Uncompressed e = absurd (cc)
 left_empty encoding.Bare Compressed e = absurd (cc)
 left_empty (encoding.Call k es) Uncompressed e = absurd (cc)
 left_empty (encoding.Call k es) Compressed e = absurd (cc)
-
-abbrev pick : Side → List Bool → List Bool → List Bool
-pick Uncompressed u c = u
-pick Compressed u c = c
 
 unsent : (l : Library) (side : Side) → leaves_empty (encoding.Library l) side ≡ true → (sides : Subject → Side → List Bool) (a : Assignment) (m : lib.Method) (ref : Option (List Bool)) (u c : List Bool)
     → method_of sides a l ≡ Some m → Lib m ref u c → pick side u c ≡ []
@@ -159,18 +157,8 @@ module _ (s : Setting) (sound : IsSound s.profile) (n : ℕ) (format : Format) (
 
   -- ---- the bits at a field's place
 
-  each : (side : Side) (i m : ℕ) → only_length sizes.fields side i ≡ Some m → length (piece (level f) side i) ≡ m
-  each side i m e =
-      let b = and_then_some (λ z. only_within (side_bounds side z)) (slice_get sizes.fields i) m e in
-      let within : i < length sizes.fields = slice_get_within sizes.fields i b.0 b.1 in
-      let x = there (level f) i (let same = as_many in omega arith) in
-      (λ j. length (field_side (x.1 j) side)) ∙ only_is (side_bounds side b.0) m (length (field_side (Some x.0) side)) b.2 (side_lies b.0 x.0 side (lie.fields i x.0 b.0 x.1 b.1))
-
   in_front : s.bits ≡ flat_map (piece (level f) s.side) (order_of format s.side) ++ h.rest
   in_front = h.in_front ∙ ap (λ z. z ++ h.rest) (whole_pieces format f shaped s.side)
-
-  pub begins : (i offset : ℕ) → BeginsAt (order_of format s.side) (only_length sizes.fields s.side) i offset → (later : List Bool) × (drop offset s.bits ≡ piece (level f) s.side i ++ later)
-  begins = begun (level f) s.side (order_of format s.side) (only_length sizes.fields s.side) (each s.side) s.bits h.rest in_front
 
   -- ---- the sides of a field
 
@@ -222,6 +210,47 @@ module _ (s : Setting) (sound : IsSound s.profile) (n : ℕ) (format : Format) (
   library_in : (i : ℕ) (d : Field) (l : Library) → slice_get format.fields i ≡ Some d → d.encoding ≡ encoding.Library l → (q : ℕ) (e : Expr) → slice_get (library_exprs l) q ≡ Some e → StandsIn format e
   library_in i d l at is q e here = in_encoding i q at (ap (λ z. slice_get (encoding_exprs z) q) is ∙ here)
 
+  -- ---- lengths
+
+  by_bounds : (i m : ℕ) → only_length sizes.fields s.side i ≡ Some m → length (piece (level f) s.side i) ≡ m
+  by_bounds i m e =
+      let b = and_then_some (λ z. only_within (side_bounds s.side z)) (slice_get sizes.fields i) m e in
+      let within : i < length sizes.fields = slice_get_within sizes.fields i b.0 b.1 in
+      let x = there (level f) i (let same = as_many in omega arith) in
+      (λ j. length (field_side (x.1 j) s.side)) ∙ only_is (side_bounds s.side b.0) m (length (field_side (Some x.0) s.side)) b.2 (side_lies b.0 x.0 s.side (lie.fields i x.0 b.0 x.1 b.1))
+
+  by_method : (i m : ℕ) (d : Field) → slice_get format.fields i ≡ Some d → (e : Encoding) → d.encoding ≡ e → told_length (bounding_of (base_ranges s sizes)) (reference_in s d) e s.side ≡ Some m → length (piece (level f) s.side i) ≡ m
+  by_method i m d at (encoding.Library l) is told =
+      let g = stood i d at in
+      let c = coded i d at l is in
+      ap length (g.side_is s.side ∙ picked (sides_of g.field) s.side)
+      ∙ library_has (bounding_of (base_ranges s sizes)) numbers (side_of format.listing (level f)) (reference_in s d) l c.0 (sides_of g.field).uncompressed (sides_of g.field).compressed s.side m
+      (λ q e here. lies_in (bounding_of (base_ranges s sizes)) base_lie e (library_in i d l at is q e here)) c.1 c.2 told
+  by_method i m d at encoding.Bare is told = absurd (cc)
+  by_method i m d at (encoding.Call k es) is told = absurd (cc)
+
+  each : (i m : ℕ) → length_of s format sizes i ≡ Some m → length (piece (level f) s.side i) ≡ m
+  each i m e = let t = noted s (base_ranges s sizes) sizes 0 format.fields i m e in by t.0 t.1 (only_length sizes.fields s.side (0 + i)) refl t.2
+    where
+      here : 0 + i ≡ i
+      here = omega arith
+
+      by : (d : Field) → slice_get format.fields i ≡ Some d → (o : Option ℕ) → only_length sizes.fields s.side (0 + i) ≡ o
+          → option_or o (told_length (bounding_of (base_ranges s sizes)) (reference_in s d) d.encoding s.side) ≡ Some m → length (piece (level f) s.side i) ≡ m
+      by d at (Some k) is told = let same : k ≡ m = cc in by_bounds i m (ap (only_length sizes.fields s.side) (sym here) ∙ (is ∙ ap Some same))
+      by d at None is told = by_method i m d at d.encoding refl told
+
+  pub begins : (i offset : ℕ) → BeginsAt (order_of format s.side) (length_of s format sizes) i offset → (later : List Bool) × (drop offset s.bits ≡ piece (level f) s.side i ++ later)
+  begins = begun (level f) s.side (order_of format s.side) (length_of s format sizes) each s.bits h.rest in_front
+
+  -- a field has as many bits as are due
+  pub enough : (i offset due : ℕ) → BeginsAt (order_of format s.side) (length_of s format sizes) i offset → length_of s format sizes i ≡ Some due → due ≤ length (drop offset s.bits)
+  enough i offset due b is =
+      let t = begins i offset b in
+      let own = each i due is in
+      let all = ap length t.1 ∙ length-append (piece (level f) s.side i) t.0 in
+      omega (arith, own, all)
+
   abbrev pub numbers_of : Known
   numbers_of = known_level f h.args
 
@@ -234,7 +263,7 @@ module _ (s : Setting) (sound : IsSound s.profile) (n : ℕ) (format : Format) (
   -- ---- what is told
 
   pub told_is : (i : ℕ) (side : Side) (own : List Bool) → Told s format sizes i side own → piece (level f) side i ≡ own
-  told_is i side own (placed t) = held (level f) s.side (order_of format s.side) (only_length sizes.fields s.side) (each s.side) s.bits h.rest in_front i own t
+  told_is i side own (placed t) = held (level f) s.side (order_of format s.side) (length_of s format sizes) each s.bits h.rest in_front i own t
   told_is i side own (empty d at leaves) =
       let g = stood i d at in
       let l = left_empty d.encoding side leaves in

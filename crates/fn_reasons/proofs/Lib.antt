@@ -5,4 +5,5 @@ pub mod Numbered
 pub mod True
 pub mod Making
 pub mod Arms
-pub mod Undefined
+pub mod Valueless
+pub mod Measured

@@ -30,10 +30,10 @@ use Rattle.fn_lint.specs.declared.obstacle.Obstacle.{Obstacle}
 use Rattle.fn_reasons.specs.Across.{with_values, crc_with_values, two_valued, method_of}
 use Rattle.fn_reasons.specs.Conflicts.{IsSighted, IsCoded, StandsIn, reference_of}
 use Rattle.fn_reasons.specs.Looks.{IsLook, ToldOf, SeenOf, SoFar}
-use Rattle.fn_reasons.specs.Places.{HaveLength, one_more, BeginsAt, Holds, only_length}
+use Rattle.fn_reasons.specs.Places.{HaveLength, one_more, BeginsAt, Holds, length_in, order_of}
 use Rattle.fn_reasons.specs.Settings.{Setting, setting_of}
-use Rattle.fn_reasons.specs.Told.{placed, empty, across, Related, AreSeen, all_pinned, base_ranges, is_crc, leaves_empty, method_in, opposite, pinned, reference_in, seen_at}
-use Rattle.fn_reasons.specs.Reasons.{View, HasMethod, Stands, dead, short, long, no_reference, differs, no_side, untrue, no_argument, no_truth, Calls, Tells, by_reason, by_call, TellAll, ends, next, Verdicts, no_more, out, open_still, all_ranged, formats_of, inside, line_of, ranges_in, wants_reference}
+use Rattle.fn_reasons.specs.Told.{placed, empty, across, Related, AreSeen, all_pinned, base_ranges, is_crc, leaves_empty, length_of, lengths_from, method_in, opposite, pinned, reference_in, seen_at}
+use Rattle.fn_reasons.specs.Reasons.{View, HasMethod, Stands, dead, short, long, cut, no_reference, differs, no_side, untrue, no_argument, no_truth, Calls, Tells, by_reason, by_call, TellAll, ends, next, Verdicts, no_more, out, open_still, all_ranged, formats_of, inside, line_of, ranges_in, wants_reference}
 use Rattle.fn_reasons.specs.Figures.{figures_at}
 use Rattle.fn_reasons.specs.Undefined.{first_undefined, undefined_condition}
 use Rattle.fn_reasons.specs.Listing as listing
@@ -60,8 +60,16 @@ begun order only i place offset at before = record { place = place; at_place = a
 
 -- ---- what is told
 
-pub placed_is : (k : Look) (n i : ℕ) → IsLook k n → (own : List Bool) → Holds k.order.now (only_length k.sizes.now.fields k.spot.side) k.spot.bits.now i own → ToldOf k i k.spot.side own
-placed_is k n i look own h = placed (subst (λ z. Holds z (only_length k.sizes.now.fields k.spot.side) k.spot.bits.now i own) look.order_is h)
+-- the lengths that a look goes by are those of its format
+lengths_same : (k : Look) (n : ℕ) → IsLook k n → length_in k.lengths.now ≡ length_of (setting_of k.spot) k.format.now k.sizes.now
+lengths_same k n look = ap length_in (look.lengths_are ∙ ap (λ z. lengths_from (setting_of k.spot) z k.sizes.now 0 k.format.now.fields) look.base_is)
+
+begins_same : (k : Look) (n : ℕ) → IsLook k n → (i offset : ℕ) → BeginsAt k.order.now (length_in k.lengths.now) i offset → BeginsAt (order_of k.format.now k.spot.side) (length_of (setting_of k.spot) k.format.now k.sizes.now) i offset
+begins_same k n look i offset b = subst (λ z. BeginsAt (order_of k.format.now k.spot.side) z i offset) (lengths_same k n look) (subst (λ z. BeginsAt z (length_in k.lengths.now) i offset) look.order_is b)
+
+pub placed_is : (k : Look) (n i : ℕ) → IsLook k n → (own : List Bool) → Holds k.order.now (length_in k.lengths.now) k.spot.bits.now i own → ToldOf k i k.spot.side own
+placed_is k n i look own h =
+    placed (subst (λ z. Holds (order_of k.format.now k.spot.side) z k.spot.bits.now i own) (lengths_same k n look) (subst (λ z. Holds z (length_in k.lengths.now) k.spot.bits.now i own) look.order_is h))
 
 pub empty_is : (k : Look) (i : ℕ) (side : Side) (d : Field) → slice_get k.format.now.fields i ≡ Some d → leaves_empty d.encoding side ≡ true → ToldOf k i side []
 empty_is k i side d at leaves = empty d at leaves
@@ -191,6 +199,11 @@ pub long_is : (s : Setting) (n : ℕ) (sizes : FormatSizes) → sizes_at s.profi
 long_is s n sizes at whole many most m l more =
     subst (λ z. Stands s n (reason.Long z most)) (sym m) (subst (λ z. Stands s n (reason.Long (length s.bits) z)) (sym l) (long sizes at whole (omega (arith, m, l, more))))
 
+pub cut_is : (k : Sighted) → IsSighted k → (i offset due left : ℕ) → BeginsAt k.look.order.now (length_in k.look.lengths.now) i offset → length_in k.look.lengths.now i ≡ Some due → left ≡ length (drop offset k.look.spot.bits.now) → left < due → StandsIn k (reason.Cut i left due)
+cut_is k h i offset due left begins is left_is few =
+    subst (λ z. StandsIn k (reason.Cut i z due)) (sym left_is)
+    (cut offset k.look.format.now k.look.sizes.now h.look.format_is h.look.sizes_are (begins_same k.look k.number h.look i offset begins) (ap (λ z. z i) (sym (lengths_same k.look k.number h.look)) ∙ is) (subst (λ z. z < due) left_is few))
+
 pub untrue_is : (k : Sighted) → IsSighted k → (j : ℕ) (figures : List Figure) → figures ≡ figures_at (bounding_of k.ranges.now) (slice_get k.look.format.now.constraints j) → IsUntrue k.look.format.now.constraints (bounding_of k.ranges.now) j
     → StandsIn k (reason.Untrue j figures)
 untrue_is k h j figures is u =
@@ -211,7 +224,7 @@ pub alone_is : (s : Setting) (depth n : ℕ) (r : Reason) (line : Line) (lines :
 alone_is s depth n r line lines stands is are = subst (λ z. Tells s depth n z) (sym (are ∙ (λ j. is j ∷ []))) (by_reason r stands)
 
 pub calls_is : (k : Sighted) → IsSighted k → (i : ℕ) (d : Field) → slice_get k.look.format.now.fields i ≡ Some d → (m : ℕ) (es : List Expr) → d.encoding ≡ encoding.Call m es → (parameters : List Interval) → all_ranged (bounding_of k.ranges.now) es ≡ Some parameters
-    → (offset : ℕ) → BeginsAt k.look.order.now (only_length k.look.sizes.now.fields k.look.spot.side) i offset → (inner : Setting) → inner ≡ inside (setting_of k.look.spot) d m parameters offset → Calls (setting_of k.look.spot) k.number i inner
+    → (offset : ℕ) → BeginsAt k.look.order.now (length_in k.look.lengths.now) i offset → (inner : Setting) → inner ≡ inside (setting_of k.look.spot) d m parameters offset → Calls (setting_of k.look.spot) k.number i inner
 calls_is k h i d at m es is parameters ranges offset begins inner inner_is = record {
   format = k.look.format.now;
   sizes = k.look.sizes.now;
@@ -225,7 +238,7 @@ calls_is k h i d at m es is parameters ranges offset begins inner inner_is = rec
   parameters = parameters;
   ranges_are = subst (λ z. all_ranged (bounding_of z) es ≡ Some parameters) h.ranges_are ranges;
   offset = offset;
-  begins = subst (λ z. BeginsAt z (only_length k.look.sizes.now.fields k.look.spot.side) i offset) h.look.order_is begins;
+  begins = begins_same k.look k.number h.look i offset begins;
   inner_is = inner_is;
 }
 

@@ -38,7 +38,7 @@ one_number i v w e lies = by (int_eq i.from i.to) refl e
         omega (arith, ints, ends, is, above, below)
     by false same e = absurd (cc)
 
-one_value_of : (r : Bounding) (a : Assignment) (e : Expr) → LiesIn r a e → (v w : ℤ) → pinned r e ≡ Some v → val a e ≡ Some w → w ≡ v
+pub one_value_of : (r : Bounding) (a : Assignment) (e : Expr) → LiesIn r a e → (v w : ℤ) → pinned r e ≡ Some v → val a e ≡ Some w → w ≡ v
 one_value_of r a e lies v w p is = by (ranged r e) refl p
   where
     by : (o : Result Interval RangeFault) → ranged r e ≡ o → only_in o ≡ Some v → w ≡ v

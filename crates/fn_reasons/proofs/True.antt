@@ -1,5 +1,5 @@
 -- What stands against a format is true: no filling of it is asked for.
-use Rattle.std.proofs.Common.{◌≡◌, ◌≢◌, ◌∙◌, refl, sym, ap, subst, ℕ, zero, suc, ◌+◌, ◌≤◌, ◌<◌, Bool, true, false, List, [], ◌∷◌, ◌++◌, length, arith}
+use Rattle.std.proofs.Common.{◌≡◌, ◌≢◌, ◌∙◌, refl, sym, ap, subst, ℕ, zero, suc, ◌+◌, ◌≤◌, ◌<◌, Bool, true, false, List, [], ◌∷◌, ◌++◌, length, drop, arith}
 use Rattle.std.specs.Prelude.{ℤ, Option, Some, None, Result, Ok, Err, slice_get, nat_eq}
 use Rattle.std.proofs.lemmas.Bool.{true≢false}
 use Rattle.std.proofs.lemmas.Bool.Decides.{nat_tests}
@@ -38,7 +38,7 @@ use Rattle.fn_profile.specs.Resolved.{IsSound}
 use Rattle.fn_filling.specs.declared.filling.Filling.{Filling, out-Filling}
 use Rattle.fn_filling.specs.Fillings.{sides_of, level, header, packed}
 use Rattle.fn_fits.specs.Bounded.{ArgumentsLie, LiesBetween, SidesLie, sizes_at}
-use Rattle.fn_reasons.specs.Places.{BeginsAt, only_length, order_of}
+use Rattle.fn_reasons.specs.Places.{BeginsAt, order_of}
 use Rattle.fn_fits.specs.Fits.{assigned, field_side, format_at, method_of, side_of, vals}
 use Rattle.fn_fits.proofs.Inverted.{FitsParts, parts}
 use Rattle.fn_fits.proofs.Sized.{and_then_some, map_some, some_and, two_parts}
@@ -47,14 +47,14 @@ use Rattle.fn_lint.proofs.Apart.{not_true}
 use Rattle.fn_lint.proofs.Dead.{obstacles-kill}
 use Rattle.fn_reasons.specs.Laws.{ReasonsAreTrue}
 use Rattle.fn_reasons.specs.Settings.{Setting, IsSought, IsOut, whole_side}
-use Rattle.fn_reasons.specs.Told.{Covers, Related, opposite, reference_in, seen_at, seen_subject}
-use Rattle.fn_reasons.specs.Reasons.{View, HasMethod, Stands, dead, short, long, no_reference, differs, no_side, untrue, no_argument, no_truth, Tells, by_reason, by_call, TellAll, ends, next, all_ranged, formats_of, inside, ranges_in, range_of, wants_reference}
+use Rattle.fn_reasons.specs.Told.{Covers, Related, length_of, opposite, reference_in, seen_at, seen_subject}
+use Rattle.fn_reasons.specs.Reasons.{View, HasMethod, Stands, dead, short, long, cut, no_reference, differs, no_side, untrue, no_argument, no_truth, Tells, by_reason, by_call, TellAll, ends, next, all_ranged, formats_of, inside, ranges_in, range_of, wants_reference}
 use Rattle.fn_reasons.specs.declared.line.Line.{Line}
 use Rattle.fn_reasons.specs.declared.reason.Reason.{Reason}
 use Rattle.fn_reasons.specs.declared.sight.Seen.{Seen}
 use Rattle.fn_reasons.proofs.Known as known
 use Rattle.fn_reasons.specs.Undefined.{first_undefined, undefined_condition}
-use Rattle.fn_reasons.proofs.Undefined as undefined
+use Rattle.fn_reasons.proofs.Valueless as undefined
 use Rattle.fn_reasons.proofs.Ordered.{piece}
 use Rattle.fn_reasons.proofs.Pinned.{LiesIn, same_method}
 
@@ -135,6 +135,10 @@ module _ (s : Setting) (sound : IsSound s.profile) (n : ℕ) (f : Filling) (h : 
       let all = in_all in
       let rest : length h.rest ≡ 0 = ap length (h.whole_is whole) in
       omega (arith, many, l, all, rest)
+
+  no_cut : (i offset due : ℕ) (format : Format) (sizes : FormatSizes) → format_at s.profile.methods s.method n ≡ Some format → sizes_at s.profile.sizes s.method n ≡ Some sizes
+      → BeginsAt (order_of format s.side) (length_of s format sizes) i offset → length_of s format sizes i ≡ Some due → length (drop offset s.bits) < due → ⊥
+  no_cut i offset due format sizes at sizes_are begins is few = let enough = known.enough s sound n format at sizes sizes_are f h i offset due begins is in omega (arith, few, enough)
 
   table_sizes : (format : Format) → format_at s.profile.methods s.method n ≡ Some format → (sizes : FormatSizes) × (sizes_at s.profile.sizes s.method n ≡ Some sizes)
   table_sizes format at = known.sized s sound n format at
@@ -224,7 +228,7 @@ module _ (s : Setting) (sound : IsSound s.profile) (n : ℕ) (f : Filling) (h : 
     -- ---- a method inside
 
     no_call : (i : ℕ) (d : Field) (k : ℕ) (es : List Expr) (parameters : List Interval) (offset : ℕ) → slice_get format.fields i ≡ Some d → d.encoding ≡ encoding.Call k es → all_ranged (ranges_in s sizes seen) es ≡ Some parameters
-        → BeginsAt (order_of format s.side) (only_length sizes.fields s.side) i offset → ((j : ℕ) → j < formats_of (inside s d k parameters offset) → IsOut (inside s d k parameters offset) j) → ⊥
+        → BeginsAt (order_of format s.side) (length_of s format sizes) i offset → ((j : ℕ) → j < formats_of (inside s d k parameters offset) → IsOut (inside s d k parameters offset) j) → ⊥
     no_call i d k es parameters offset at is ranges_are begins out =
         let g = known.stood s sound n format v.format_is sizes v.sizes_are f h i d at in
         let c = known.called s sound n format v.format_is sizes v.sizes_are f h i d at k es is in
@@ -252,6 +256,7 @@ module _ (s : Setting) (sound : IsSound s.profile) (n : ℕ) (f : Filling) (h : 
   no_stand r (dead o has) = obstacles-kill s.profile sound s.method n o has (bits_at s.context) h.args s.path f has.whole has.whole_at (h.in_table has.whole has.whole_at) h.fits h.format_is
   no_stand r (short sizes at few) = no_short sizes at few
   no_stand r (long sizes at whole many) = no_long sizes at whole many
+  no_stand r (cut {i} {due} offset format sizes at sizes_are begins is few) = no_cut i offset due format sizes at sizes_are begins is few
   no_stand r (no_reference {i} format d at d_at wants none path_is) = none_unreferenced i format d at d_at wants none
   no_stand r (differs {i} {found} {due} side format sizes seen d m own v has own_is only found_is differ) = no_difference format sizes seen v i side found due own d m has own_is only found_is differ
   no_stand r (no_side {i} {side} {found} format sizes seen d m v has found_is none) = no_lack format sizes seen v i side found d m has found_is none

@@ -5,7 +5,7 @@ use Rattle.fn_fits.specs.Bounded.{sizes_at}
 use Rattle.fn_fits.specs.Fits.{format_at}
 use Rattle.fn_reasons.specs.Settings.{setting_of}
 use Rattle.fn_reasons.specs.Places.{order_of}
-use Rattle.fn_reasons.specs.Told.{Told, IsSeen, base_ranges}
+use Rattle.fn_reasons.specs.Told.{Told, IsSeen, base_ranges, lengths_from}
 use Rattle.fn_reasons.specs.declared.seeing.Look.{Look}
 use Rattle.fn_reasons.specs.declared.sight.Sight.{Sight}
 
@@ -14,6 +14,7 @@ pub record IsLook (k : Look) (n : ℕ) : Type 0 where
   pub format_is : format_at k.spot.profile.now.methods k.spot.method n ≡ Some k.format.now
   pub sizes_are : sizes_at k.spot.profile.now.sizes k.spot.method n ≡ Some k.sizes.now
   pub order_is : k.order.now ≡ order_of k.format.now k.spot.side
+  pub lengths_are : k.lengths.now ≡ lengths_from (setting_of k.spot) k.base.now k.sizes.now 0 k.format.now.fields
   pub base_is : k.base.now ≡ base_ranges (setting_of k.spot) k.sizes.now
 
 -- what is told of that side of the field i

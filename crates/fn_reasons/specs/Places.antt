@@ -1,5 +1,6 @@
 -- Where the sides of fields stand in the bits that they are joined to, by the bounds on lengths alone.
 use Rattle.std.specs.Prelude.{◌≡◌, ℕ, ◌+◌, ◌≤◌, nat_eq, Bool, List, [], ◌∷◌, length, slice_get, slice_range, Option, Some, None, option_and_then, if◌then◌else◌}
+use Rattle.std.specs.Option.{option_flatten}
 use Rattle.fn_expr.specs.declared.expr.Side.{Side}
 use Rattle.fn_expr.specs.declared.expr.Side.TheVariants.{Uncompressed, Compressed}
 use Rattle.fn_normal.specs.declared.profile.Bounds.{Bounds}
@@ -26,6 +27,10 @@ only_within b = if nat_eq b.least b.most then Some b.least else None
 -- that of a side of the field i
 abbrev pub only_length : List Sizes → Side → ℕ → Option ℕ
 only_length sizes side i = option_and_then (λ b. only_within (side_bounds side b)) (slice_get sizes i)
+
+-- that of the field i, of lengths that are noted where they are known
+abbrev pub length_in : List (Option ℕ) → ℕ → Option ℕ
+length_in lengths i = option_flatten (slice_get lengths i)
 
 -- the first k fields of the order have each one length, and n bits together
 pub data HaveLength (order : List ℕ) (only : ℕ → Option ℕ) : ℕ → ℕ → Type 0 where

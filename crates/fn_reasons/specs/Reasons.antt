@@ -27,8 +27,8 @@ use Rattle.fn_lint.specs.Never.{IsUntrue}
 use Rattle.fn_lint.specs.Obstacles.{Hinders}
 use Rattle.fn_reasons.specs.Figures.{figures_at}
 use Rattle.fn_reasons.specs.Settings.{Setting}
-use Rattle.fn_reasons.specs.Places.{BeginsAt, only_length, order_of}
-use Rattle.fn_reasons.specs.Told.{AreAllSeen, Covers, Related, base_ranges, method_in, opposite, ranges_seen, reference_in, seen_at}
+use Rattle.fn_reasons.specs.Places.{BeginsAt, order_of}
+use Rattle.fn_reasons.specs.Told.{AreAllSeen, Covers, Related, base_ranges, length_of, method_in, opposite, ranges_seen, reference_in, seen_at}
 use Rattle.fn_reasons.specs.Undefined.{first_undefined, undefined_condition}
 use Rattle.fn_reasons.specs.declared.line.Line.{Line}
 use Rattle.fn_reasons.specs.declared.reason.Reason.{Reason}
@@ -68,6 +68,9 @@ pub data Stands (s : Setting) (n : ℕ) : Reason → Type 0 where
   short : (sizes : FormatSizes) → sizes_at s.profile.sizes s.method n ≡ Some sizes → length s.bits < (side_bounds s.side sizes.whole).least → Stands s n (reason.Short (length s.bits) (side_bounds s.side sizes.whole).least)
   -- there are more
   long : (sizes : FormatSizes) → sizes_at s.profile.sizes s.method n ≡ Some sizes → s.is_whole ≡ true → (side_bounds s.side sizes.whole).most < length s.bits → Stands s n (reason.Long (length s.bits) (side_bounds s.side sizes.whole).most)
+  -- a field begins where fewer bits are left than it has
+  cut : {i due : ℕ} (offset : ℕ) (format : Format) (sizes : FormatSizes) → format_at s.profile.methods s.method n ≡ Some format → sizes_at s.profile.sizes s.method n ≡ Some sizes
+      → BeginsAt (order_of format s.side) (length_of s format sizes) i offset → length_of s format sizes i ≡ Some due → length (drop offset s.bits) < due → Stands s n (reason.Cut i (length (drop offset s.bits)) due)
   -- a field wants a reference, and there is none at its path
   no_reference : {i : ℕ} {path : _} (format : Format) (d : Field) → format_at s.profile.methods s.method n ≡ Some format → slice_get format.fields i ≡ Some d → wants_reference d.encoding ≡ true → reference_in s d ≡ None
       → string_bytes path ≡ below s.path d.declared.name → Stands s n (reason.NoReference i path)
@@ -124,7 +127,7 @@ pub record Calls (s : Setting) (n i : ℕ) (inner : Setting) : Type 0 where
   pub parameters : List Interval
   pub ranges_are : all_ranged (ranges_in s sizes seen) arguments ≡ Some parameters
   pub offset : ℕ
-  pub begins : BeginsAt (order_of format s.side) (only_length sizes.fields s.side) i offset
+  pub begins : BeginsAt (order_of format s.side) (length_of s format sizes) i offset
   pub inner_is : inner ≡ inside s field method parameters offset
 
 -- how many formats the method has

@@ -1,5 +1,6 @@
 -- What is told of the sides of a format's fields, and of the numbers in its expressions.
-use Rattle.std.specs.Prelude.{◌≡◌, ℕ, ◌+◌, ℤ, pos, nat_le, Bool, true, false, List, [], ◌∷◌, ◌++◌, length, slice_get, Option, Some, None, option_map, option_and_then, Result, Ok, Err, IfSome, if◌then◌else◌}
+use Rattle.std.specs.Prelude.{◌≡◌, ℕ, ◌+◌, ℤ, pos, negsuc, nat_le, Bool, true, false, List, [], ◌∷◌, ◌++◌, length, slice_get, Option, Some, None, option_map, option_and_then, Result, Ok, Err, IfSome, if◌then◌else◌}
+use Rattle.std.specs.Option.{option_or}
 use Rattle.std.specs.Ordering.{int_eq}
 use Rattle.fn_bits.specs.Number.{num}
 use Rattle.fn_context.specs.Entries.{bits_at}
@@ -29,7 +30,7 @@ use Rattle.fn_bounds.specs.Ranging.{format_ranges}
 use Rattle.fn_filling.specs.Entries.{below}
 use Rattle.fn_fits.specs.Fits.{reference_of, two_values, crc_values}
 use Rattle.fn_reasons.specs.Settings.{Setting}
-use Rattle.fn_reasons.specs.Places.{Holds, only_length, order_of}
+use Rattle.fn_reasons.specs.Places.{Holds, length_in, only_length, order_of}
 use Rattle.fn_reasons.specs.declared.sight.Seen.{Seen}
 use Rattle.fn_reasons.specs.declared.sight.Sight.{Sight}
 
@@ -86,10 +87,52 @@ leaves_empty _ side = false
 abbrev pub base_ranges : Setting → FormatSizes → Ranges
 base_ranges s sizes = format_ranges sizes s.parameters
 
+-- ---- lengths
+
+abbrev pub as_length : Option ℤ → Option ℕ
+as_length (Some (pos n)) = Some n
+as_length (Some (negsuc n)) = None
+as_length None = None
+
+abbrev pub bits_length : Option (List Bool) → Option ℕ
+bits_length (Some bits) = Some (length bits)
+bits_length None = None
+
+-- the length of that side of a field, where its method tells it by its arguments or the reference
+abbrev pub library_length : Bounding → Option (List Bool) → Library → Side → Option ℕ
+library_length r ref (library.UncompressedValue len v) Uncompressed = as_length (pinned r len)
+library_length r ref (library.UncompressedValue len v) Compressed = None
+library_length r ref (library.CompressedValue len v) Uncompressed = None
+library_length r ref (library.CompressedValue len v) Compressed = as_length (pinned r len)
+library_length r ref (library.Irregular len) side = as_length (pinned r len)
+library_length r ref library.Static Uncompressed = bits_length ref
+library_length r ref library.Static Compressed = None
+library_length r ref (library.Lsb k offset) Uncompressed = bits_length ref
+library_length r ref (library.Lsb k offset) Compressed = as_length (pinned r k)
+library_length r ref (library.Crc crc) Uncompressed = None
+library_length r ref (library.Crc crc) Compressed = as_length (pinned r crc.bits)
+
+abbrev pub told_length : Bounding → Option (List Bool) → Encoding → Side → Option ℕ
+told_length r ref (encoding.Library l) side = library_length r ref l side
+told_length r ref encoding.Bare side = None
+told_length r ref (encoding.Call k arguments) side = None
+
+-- the length of a field on the side that is asked for, under ranges of the format's numbers: by its bounds, else by its method
+abbrev pub length_at : Setting → Ranges → FormatSizes → ℕ → Field → Option ℕ
+length_at s base sizes i d = option_or (only_length sizes.fields s.side i) (told_length (bounding_of base) (reference_in s d) d.encoding s.side)
+
+-- of each field, from the one of number k on
+abbrev pub lengths_from : Setting → Ranges → FormatSizes → ℕ → List Field → List (Option ℕ)
+lengths_from s base sizes k [] = []
+lengths_from s base sizes k (d ∷ ds) = length_at s base sizes k d ∷ lengths_from s base sizes (k + 1) ds
+
+abbrev pub length_of : Setting → Format → FormatSizes → ℕ → Option ℕ
+length_of s format sizes = length_in (lengths_from s (base_ranges s sizes) sizes 0 format.fields)
+
 -- What that side of the field i has in each filling that is asked for.
 pub data Told (s : Setting) (format : Format) (sizes : FormatSizes) : ℕ → Side → List Bool → Type 0 where
   -- the bits at its place
-  placed : {i : ℕ} {own : List Bool} → Holds (order_of format s.side) (only_length sizes.fields s.side) s.bits i own → Told s format sizes i s.side own
+  placed : {i : ℕ} {own : List Bool} → Holds (order_of format s.side) (length_of s format sizes) s.bits i own → Told s format sizes i s.side own
   -- none
   empty : {i : ℕ} {side : Side} (d : Field) → slice_get format.fields i ≡ Some d → leaves_empty d.encoding side ≡ true → Told s format sizes i side []
   -- the only bits that its method relates to the other side

@@ -88,7 +88,7 @@ fn crc_with_values(crc: &CrcArguments, ranges: &Ranges) -> Option<Valued>
 }
 
 /// The one value that the expression can have, by its range.
-fn pinned(expr: &Expr, ranges: &Ranges) -> Option<i128>
+pub(crate) fn pinned(expr: &Expr, ranges: &Ranges) -> Option<i128>
     ensures { result ≡ told.pinned (bounding_of ranges.now) expr.now }
 {
     match range(expr, ranges) {

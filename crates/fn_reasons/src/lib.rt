@@ -11,6 +11,7 @@ mod across;
 mod conflict;
 pub mod figures;
 pub mod laws;
+mod lengths;
 pub mod line;
 mod numbers;
 mod placing;

@@ -49,17 +49,16 @@ fn is_header(field: &Field) -> bool
 pub(crate) fn held(
     alloc: Global,
     order: &[usize],
-    sizes: &[Sizes],
-    side: Side,
+    lengths: &[Option<u128>],
     bits: &Bits,
     field: usize,
 ) -> Result<Option<Bits>, AllocError>
-    ensures { IfOk result (λ o. IfSome o (spec.Holds order.now (spec.only_length sizes.now side) bits.now field)) }
+    ensures { IfOk result (λ o. IfSome o (spec.Holds order.now (spec.length_in lengths.now) bits.now field)) }
 {
-    let Some(offset) = begin_of(order, sizes, side, field) else {
+    let Some(offset) = begin_of(order, lengths, field) else {
         return Ok(None);
     };
-    let Some(count) = only_length(sizes, side, field) else {
+    let Some(count) = length_in(lengths, field) else {
         return Ok(None);
     };
     cut(alloc, bits, offset, count)
@@ -78,15 +77,15 @@ fn cut(alloc: Global, bits: &Bits, offset: usize, count: u128) -> Result<Option<
 }
 
 /// After how many bits the field begins, where those before it have each one length.
-pub(crate) fn begin_of(order: &[usize], sizes: &[Sizes], side: Side, field: usize) -> Option<usize>
-    ensures { IfSome result (spec.BeginsAt order.now (spec.only_length sizes.now side) field) }
+pub(crate) fn begin_of(order: &[usize], lengths: &[Option<u128>], field: usize) -> Option<usize>
+    ensures { IfSome result (spec.BeginsAt order.now (spec.length_in lengths.now) field) }
 {
     let mut offset = 0;
     for place in 0..order.len() {
         if is_at(order, place, field) {
             return Some(offset);
         }
-        let Some(next) = next_offset(order, sizes, side, place, offset) else {
+        let Some(next) = next_offset(order, lengths, place, offset) else {
             return None;
         };
         offset = next;
@@ -106,17 +105,16 @@ fn is_at(order: &[usize], place: usize, field: usize) -> bool
 /// After how many bits the next field of the order begins.
 fn next_offset(
     order: &[usize],
-    sizes: &[Sizes],
-    side: Side,
+    lengths: &[Option<u128>],
     place: usize,
     offset: usize,
 ) -> Option<usize>
-    ensures { IfSome result (λ next. spec.HaveLength order.now (spec.only_length sizes.now side) place offset → spec.HaveLength order.now (spec.only_length sizes.now side) (place + 1) next) }
+    ensures { IfSome result (λ next. spec.HaveLength order.now (spec.length_in lengths.now) place offset → spec.HaveLength order.now (spec.length_in lengths.now) (place + 1) next) }
 {
     let Some(field) = at(order, place) else {
         return None;
     };
-    let Some(only) = only_length(sizes, side, *field) else {
+    let Some(only) = length_in(lengths, *field) else {
         return None;
     };
     let Ok(count) = usize::try_from(only) else {
@@ -125,8 +123,18 @@ fn next_offset(
     offset.checked_add(count)
 }
 
-/// The only length of a side of the field, in bits.
-fn only_length(sizes: &[Sizes], side: Side, field: usize) -> Option<u128>
+/// The length of the field, in bits, where it is known.
+pub(crate) fn length_in(lengths: &[Option<u128>], field: usize) -> Option<u128>
+    ensures { result ≡ spec.length_in lengths.now field }
+{
+    match at(lengths, field) {
+        Some(length) => *length,
+        None => None,
+    }
+}
+
+/// The only length of a side of the field by its bounds, in bits.
+pub(crate) fn only_length(sizes: &[Sizes], side: Side, field: usize) -> Option<u128>
     ensures { result ≡ spec.only_length sizes.now side field }
 {
     match at(sizes, field) {

@@ -22,6 +22,12 @@ pub enum Reason {
         length: usize,
         most: u128,
     },
+    /// The field begins where fewer bits are left than it has.
+    Cut {
+        field: usize,
+        left: usize,
+        due: u128,
+    },
     /// The field is encoded by `static` or `lsb`, and there is neither an entry at its path nor a value of INITIAL.
     NoReference {
         field: usize,

@@ -18,13 +18,15 @@ use fn_normal::{Encoding, Field, Format, FormatSizes, Library};
 use sqlite_items::Items;
 use std::alloc::{AllocError, Global};
 
-/// What a look at a format of the spot's method goes by: its bounds, the fields on the spot's side in order, and the ranges of its numbers by the bounds.
+/// What a look at a format of the spot's method goes by: its bounds, the fields on the spot's side in order, their lengths on that side where they are known, and the
+/// ranges of its numbers by the bounds.
 #[derive(Clone, Copy)]
 pub(crate) struct Look<'a> {
     pub(crate) spot: Spot<'a>,
     pub(crate) format: &'a Format,
     pub(crate) sizes: &'a FormatSizes,
     pub(crate) order: &'a [usize],
+    pub(crate) lengths: &'a [Option<u128>],
     pub(crate) base: &'a Ranges,
 }
 
@@ -181,15 +183,7 @@ fn placed(
     requires { spec.IsLook look.now format }
     ensures { IfOk result (λ o. IfSome o (spec.ToldOf look.now index look.now.spot.side)) }
 {
-    let sizes = look.sizes.fields.as_slice();
-    held(
-        alloc,
-        look.order,
-        sizes,
-        look.spot.side,
-        look.spot.bits,
-        index,
-    )
+    held(alloc, look.order, look.lengths, look.spot.bits, index)
 }
 
 /// The other side, by this one.

@@ -15,9 +15,10 @@ ghost use Rattle.fn_reasons.specs.Told as told;
 
 use crate::conflict::{Sighted, conflict};
 use crate::figures::figures_at;
+use crate::lengths::lengths;
 use crate::line::Line;
 use crate::numbers::ranges_seen;
-use crate::placing::{begin_of, order_of};
+use crate::placing::{begin_of, length_in, order_of};
 use crate::reason::Reason;
 use crate::seeing::{Look, sights};
 use crate::sight::{Seen, Sight};
@@ -108,11 +109,13 @@ fn told(
     };
     let order = order_of(alloc, found, spot.side)?;
     let base = format_ranges(alloc, sizes, spot.parameters)?;
+    let lengths = lengths(alloc, spot, found.fields.as_slice(), sizes, &base)?;
     let look = Look {
         spot: *spot,
         format: found,
         sizes,
         order: order.as_slice(),
+        lengths: lengths.as_slice(),
         base: &base,
     };
     let seen = seen_of(alloc, &look, format)?;
@@ -283,6 +286,36 @@ fn told_by_truth(
     Ok(Some(lines))
 }
 
+/// The same by the length of a field that begins where fewer bits are left.
+fn told_by_length(
+    alloc: Global,
+    sighted: &Sighted<'_>,
+    depth: usize,
+    index: usize,
+) -> Result<Option<Items<Line>>, AllocError>
+    requires { IsSighted sighted.now }
+    ensures { IfOk result (λ o. IfSome o (spec.Tells (setting_of sighted.now.look.spot) depth sighted.now.number)) }
+{
+    let look = &sighted.look;
+    let Some(offset) = begin_of(look.order, look.lengths, index) else {
+        return Ok(None);
+    };
+    let Some(due) = length_in(look.lengths, index) else {
+        return Ok(None);
+    };
+    let left = look.spot.bits.len().saturating_sub(offset);
+    if left as u128 >= due {
+        return Ok(None);
+    }
+    let reason = Reason::Cut {
+        field: index,
+        left,
+        due,
+    };
+    let lines = alone(alloc, &look.spot, depth, sighted.number, reason)?;
+    Ok(Some(lines))
+}
+
 /// The same by an argument that has no value.
 fn told_by_argument(
     alloc: Global,
@@ -318,6 +351,10 @@ fn told_by_field(
     let Some(field) = sighted.look.format.fields.get(index) else {
         return Ok(None);
     };
+    let cut = told_by_length(alloc, sighted, depth, index)?;
+    if cut.is_some() {
+        return Ok(cut);
+    }
     let found = told_by_argument(alloc, sighted, depth, index, field)?;
     if found.is_some() {
         return Ok(found);
@@ -366,13 +403,7 @@ fn told_by_call(
     ensures { IfOk result (λ o. IfSome o (spec.Tells (setting_of sighted.now.look.spot) depth sighted.now.number)) }
 {
     let look = &sighted.look;
-    let begin = begin_of(
-        look.order,
-        look.sizes.fields.as_slice(),
-        look.spot.side,
-        index,
-    );
-    let Some(offset) = begin else {
+    let Some(offset) = begin_of(look.order, look.lengths, index) else {
         return Ok(None);
     };
     let Some(parameters) = all_ranged(alloc, arguments, sighted.ranges)? else {

@@ -19,7 +19,7 @@ use Rattle.fn_cert.specs.Text.{name_of}
 use Rattle.fn_reasons.specs.declared.figures.Figure.{Figure}
 use Rattle.fn_reasons.specs.declared.line.Line.{Line}
 use Rattle.fn_reasons.specs.declared.reason.Reason.{Reason}
-use Rattle.fn_reasons.specs.declared.reason.Reason.TheVariants.{Dead, Short, Long, NoReference, Differs, NoSide, Untrue, Undefined, Inside, Nothing}
+use Rattle.fn_reasons.specs.declared.reason.Reason.TheVariants.{Dead, Short, Long, Cut, NoReference, Differs, NoSide, Untrue, Undefined, Inside, Nothing}
 use Rattle.rohcfn_report.specs.BitTexts.{bits_text}
 use Rattle.rohcfn_report.specs.Fields.{encoding_at, method_word}
 use Rattle.rohcfn_report.specs.Linting.{constraints_at, first_bracket, method_place, obstacle_words}
@@ -36,6 +36,7 @@ abbrev pub reason_place : List Method → ℕ → ℕ → Reason → Span
 reason_place methods k n (Dead o) = place_of methods (record { method = k; format = n; obstacle = o })
 reason_place methods k n (Short length least) = method_place methods k
 reason_place methods k n (Long length most) = method_place methods k
+reason_place methods k n (Cut i left due) = field_place methods k n i
 reason_place methods k n (NoReference i path) = field_place methods k n i
 reason_place methods k n (Differs i side found due) = field_place methods k n i
 reason_place methods k n (NoSide i side found) = field_place methods k n i
@@ -86,6 +87,7 @@ abbrev pub reason_words : Resolved → ℕ → ℕ → Reason → List ℕ
 reason_words p k n (Dead o) = obstacle_words p k n o
 reason_words p k n (Short length least) = decimal length ++ codes " bits are there, and at least " ++ decimal least ++ codes " are due"
 reason_words p k n (Long length most) = decimal length ++ codes " bits are there, and at most " ++ decimal most ++ codes " may be"
+reason_words p k n (Cut i left due) = coded_words p.methods k n i ++ codes ": " ++ decimal left ++ codes " bits are left, and " ++ decimal due ++ codes " are due"
 reason_words p k n (NoReference i path) = coded_words p.methods k n i ++ codes ": the context has no entry " ++ string_bytes path ++ codes ", and INITIAL gives none"
 reason_words p k n (Differs i side found due) = coded_words p.methods k n i ++ codes ": the " ++ side_word side ++ codes " has " ++ bits_text found ++ codes ", and " ++ bits_text due ++ codes " is due"
 reason_words p k n (NoSide i side found) = coded_words p.methods k n i ++ codes ": the " ++ side_word side ++ codes " has " ++ bits_text found ++ codes ", with which nothing goes"

@@ -110,6 +110,7 @@ fn reason_place(methods: &[Method], method: usize, format: usize, reason: &Reaso
         Reason::Short { .. } | Reason::Long { .. } | Reason::Nothing => {
             method_place(methods, method)
         }
+        Reason::Cut { field, .. } => field_place(methods, method, format, *field),
         Reason::NoReference { field, .. } => field_place(methods, method, format, *field),
         Reason::Differs { field, .. } => field_place(methods, method, format, *field),
         Reason::NoSide { field, .. } => field_place(methods, method, format, *field),
@@ -161,6 +162,10 @@ fn reason_words(
         Reason::Dead(obstacle) => obstacle_words(alloc, profile, method, format, *obstacle),
         Reason::Short { length, least } => short_words(alloc, *length, *least),
         Reason::Long { length, most } => long_words(alloc, *length, *most),
+        Reason::Cut { field, left, due } => {
+            let coded = coded_words(alloc, methods, method, format, *field)?;
+            cut_words(alloc, coded.as_str(), *left, *due)
+        }
         Reason::NoReference { field, path } => {
             let coded = coded_words(alloc, methods, method, format, *field)?;
             reference_words(alloc, coded.as_str(), path.as_str())
@@ -195,6 +200,12 @@ fn long_words(alloc: Global, length: usize, most: u128) -> Result<String, AllocE
     ensures { IfOk result (λ text. string_bytes text ≡ decimal length ++ codes " bits are there, and at most " ++ decimal most ++ codes " may be") }
 {
     format!(in alloc; "{length} bits are there, and at most {most} may be")
+}
+
+fn cut_words(alloc: Global, coded: &str, left: usize, due: u128) -> Result<String, AllocError>
+    ensures { IfOk result (λ text. string_bytes text ≡ coded.now ++ codes ": " ++ decimal left ++ codes " bits are left, and " ++ decimal due ++ codes " are due") }
+{
+    format!(in alloc; "{coded}: {left} bits are left, and {due} are due")
 }
 
 /// What encodes the field, and its name.

@@ -1,6 +1,5 @@
 use Rattle.std.proofs.Common.{rules, ap, subst, false, ◌∙◌, ◌++◌, ◌∷◌, []}
 use Rattle.fn_filling.specs.Entries.{below}
-use Rattle.fn_reasons.specs.Places.{BeginsAt, only_length}
 use Rattle.fn_reasons.specs.Reasons.{TellAll}
 use Rattle.fn_reasons.specs.Settings.{Setting, setting_of}
 use Rattle.fn_reasons.proofs.Making.{all_end, all_next, called_is, calls_is, inner_same}
@@ -19,7 +18,7 @@ told_by_call-returns t c =
     let s = setting_of k.look.spot in
     let d = c.args.field.now in
     let line = c.line.result in
-    let begins = subst (λ z. BeginsAt k.look.order.now (only_length z k.look.spot.side) c.args.index c.in-Some.offset) c.as_slice.ensures (rw c.in-Some.is at c.begin_of-begin.ensures) in
+    let begins = rw c.in-Some.is at c.begin_of.ensures in
     let inner : Setting = record { profile = s.profile; context = s.context; method = c.args.method; parameters = c.as_slice-2.result.now; path = c.as_str-2.result.now; side = s.side; bits = c.in-Some-3.bits; is_whole = false } in
     let inner_is = inner_same s d c.args.method c.in-Some-2.parameters c.as_slice-2.result.now c.in-Some.offset c.as_str-2.result.now c.in-Some-3.bits c.as_slice-2.ensures
     (c.as_str-2.ensures.value ∙ (c.in_ok-path.ensures ∙ ap (below s.path) c.as_str.ensures)) (rw c.in-Some-3.is at c.in_ok-bits.ensures) in
