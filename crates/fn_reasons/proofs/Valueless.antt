@@ -61,8 +61,8 @@ no_negation : (o : Option Bool) (b : Bool) → option_map not o ≡ Some b → (
 no_negation (Some c) b e = (c, refl)
 no_negation None b e = absurd (cc)
 
-pub module _ (a : Assignment) (r : Bounding) (lie : LieIn a r) where
-  no_value : (e : Expr) (at : Span) → undefined r e ≡ Some at → (v : ℤ) → val a e ≡ Some v → ⊥
+module _ (a : Assignment) (r : Bounding) (lie : LieIn a r) where
+  pub no_value : (e : Expr) (at : Span) → undefined r e ≡ Some at → (v : ℤ) → val a e ≡ Some v → ⊥
   no_value (Number s n) at e v is = absurd (cc)
   no_value (Parameter s i) at e v is = absurd (cc)
   no_value (expr.Attribute s t) at e v is = absurd (cc)
@@ -82,7 +82,7 @@ pub module _ (a : Assignment) (r : Bounding) (lie : LieIn a r) where
           let zero_is = between i.0 m i.2 i.3 (ranges.lies a r lie y i.0 m i.1 right) in
           none_by_zero op t.0 n v (ap (apply op n) (sym zero_is) ∙ whole)
 
-  no_truth : (c : Cond) (at : Span) → undefined_truth r c ≡ Some at → (b : Bool) → truth a c ≡ Some b → ⊥
+  pub no_truth : (c : Cond) (at : Span) → undefined_truth r c ≡ Some at → (b : Bool) → truth a c ≡ Some b → ⊥
   no_truth (Constant s b) at e t is = absurd (cc)
   no_truth (Compare s op x y) at e b is =
       let w = both_there (λ v u. Some (compare op v u)) (val a x) (val a y) b is in
