@@ -21,12 +21,13 @@ INPUTS = {
     "why": ("item", "items", "packet", "packets", "from_context", "certificate", "pcap", "flow"),
     "show": (),
     "lint": (),
+    "draw": (),
     "check": ("certificate",),
     "prove": (),
     "line": ("events", "octets", "certificate", "pcap"),
 }
 TOLD = ("v2", "context")
-FLAGS = {"pack": TOLD, "unpack": TOLD, "fields": TOLD, "why": TOLD, "show": (), "lint": (), "check": ("v2",), "prove": ("v2",), "line": ("v2", "receive", "wide")}
+FLAGS = {"pack": TOLD, "unpack": TOLD, "fields": TOLD, "why": TOLD, "show": (), "lint": (), "draw": (), "check": ("v2",), "prove": ("v2",), "line": ("v2", "receive", "wide")}
 PACKED, READ = ("item", "items", "pcap"), ("packet", "packets")
 # One of these at least is needed.
 NEEDED = {"pack": PACKED, "unpack": READ, "fields": PACKED + READ, "why": PACKED + READ, "line": ("events", "octets", "pcap")}

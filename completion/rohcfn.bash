@@ -29,7 +29,7 @@ _rohcfn_has_profile() {
 }
 
 _rohcfn() {
-  local word=${COMP_WORDS[COMP_CWORD]} before=${COMP_WORDS[COMP_CWORD - 1]} commands='pack unpack fields why show lint check prove line help' options=''
+  local word=${COMP_WORDS[COMP_CWORD]} before=${COMP_WORDS[COMP_CWORD - 1]} commands='pack unpack fields why show lint draw check prove line help' options=''
   COMPREPLY=()
   if [[ $before == = ]]; then before=${COMP_WORDS[COMP_CWORD - 2]}; fi
   case $word in
@@ -55,6 +55,7 @@ _rohcfn() {
     why) options='--top --v2 --context --help --items --item --packet --packets --from-context --certificate --pcap --flow --diagnose' ;;
     show) options='--top --help --diagnose' ;;
     lint) options='--top --help --diagnose' ;;
+    draw) options='--top --help --diagnose' ;;
     check) options='--top --v2 --help --certificate --diagnose' ;;
     prove) options='--top --v2 --help --diagnose' ;;
     line) options='--top --v2 --help --receive --wide --certificate --events --octets --pcap --diagnose' ;;

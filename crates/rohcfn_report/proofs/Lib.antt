@@ -5,3 +5,4 @@ pub mod Listings
 pub mod Spelled
 pub mod Tables
 pub mod Linted
+pub mod Drawn

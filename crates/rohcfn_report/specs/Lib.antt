@@ -1,5 +1,6 @@
 pub mod Accepting
 pub mod BitTexts
+pub mod Drawing
 pub mod Fields
 pub mod Linting
 pub mod ProfileLines

@@ -1,8 +1,9 @@
-//! What `show`, `prove`, `check` and `lint` print, what `fields` prints of a filling, and what `why` prints of reasons.
+//! What `show`, `prove`, `check`, `lint` and `draw` print, what `fields` prints of a filling, and what `why` prints of reasons.
 #![tactic(auto)]
 
 pub mod accepting;
 pub mod checking;
+pub mod drawing;
 pub mod fields;
 pub mod linting;
 pub mod proving;

@@ -23,6 +23,8 @@ use Rattle.rohcfn_report.specs.Accepting.{origin_of}
 use Rattle.rohcfn_report.specs.declared.accepting.Origin.{Origin}
 use Rattle.rohcfn_report.specs.Provings.{ProvedBy}
 use Rattle.rohcfn_report.specs.Provings.ProvedBy.{printed as proved_by_printed, unproved as proved_by_unproved}
+use Rattle.rohcfn_report.specs.Drawing.{DrawnBy}
+use Rattle.rohcfn_report.specs.Drawing.DrawnBy.{drawn_by as drawn_by_drawn, no_drawing as drawn_by_no_drawing}
 use Rattle.rohcfn_report.specs.Linting.{LintedBy}
 use Rattle.rohcfn_report.specs.Linting.LintedBy.{linted as linted_by_linted, no_lint as linted_by_no_lint}
 use Rattle.rohcfn_report.specs.Reports.{ShownBy, CheckedOctets, ProvedOctets}
@@ -40,7 +42,7 @@ use Rattle.rohcfn_tool.specs.Printed.AnsweredIn.{answered as answered_in_answere
 use Rattle.rohcfn_tool.specs.Printed.AnsweredFor.{bad_context as answered_for_bad_context, from_context as answered_for_from_context}
 use Rattle.rohcfn_tool.specs.Printed.AnsweredBy.{by_profile as answered_by_by_profile, unaccepted as answered_by_unaccepted}
 use Rattle.rohcfn_tool.specs.Printed.AnsweredRun.{both as answered_run_both, no_input as answered_run_no_input}
-use Rattle.rohcfn_tool.specs.Printed.Answered.{checked as answers_checked, lined as answers_lined, linted as answers_linted, no_profile as answers_no_profile, proved as answers_proved, ran as answers_ran, shown as answers_shown, told as answers_told, explained as answers_explained}
+use Rattle.rohcfn_tool.specs.Printed.Answered.{checked as answers_checked, drawn as answers_drawn, lined as answers_lined, linted as answers_linted, no_profile as answers_no_profile, proved as answers_proved, ran as answers_ran, shown as answers_shown, told as answers_told, explained as answers_explained}
 use Rattle.fn_line.specs.declared.flow.LineVersion.{LineVersion}
 use Rattle.rohcfn_tool.specs.Lined.{PrintsSent, PrintsReceived, AnsweredEvents, AnsweredHex, AnsweredEnd, LinedBy, Lined, line_version}
 use Rattle.rohcfn_tool.specs.Lined.PrintsSent.{all_sent as prints_sent_all_sent, one_refused as prints_sent_one_refused}
@@ -127,6 +129,10 @@ linted_ends : (top octets : List ℕ) (s : Status) (output : List ℕ) → Linte
 linted_ends top octets _ _ (linted_by_no_lint text h) = tt
 linted_ends top octets _ _ (linted_by_linted p found reads dead) = tt
 
+drawn_ends : (top octets : List ℕ) (s : Status) (output : List ℕ) → DrawnBy top octets s output → MayPrint s
+drawn_ends top octets _ _ (drawn_by_no_drawing text h) = tt
+drawn_ends top octets _ _ (drawn_by_drawn p reads) = tt
+
 shown_ends : (top octets : List ℕ) (s : Status) (output : List ℕ) → ShownBy top octets s output → MayPrint s
 shown_ends top octets _ _ (shown_by_no_listing text h) = tt
 shown_ends top octets _ _ (shown_by_listed p reads) = tt
@@ -147,6 +153,7 @@ answer_ends : (order : Order) (parts : Parts) (s : Status) (output : List ℕ) �
 answer_ends order parts _ _ (answers_no_profile is) = tt
 answer_ends order parts s output (answers_shown profile is asks h) = shown_ends order.top.now profile.now s output h
 answer_ends order parts s output (answers_linted profile is asks h) = linted_ends order.top.now profile.now s output h
+answer_ends order parts s output (answers_drawn profile is asks h) = drawn_ends order.top.now profile.now s output h
 answer_ends order parts s output (answers_checked profile is asks h) = checked_ends order.top.now profile.now (origin_of order.version parts.certificate) s output h
 answer_ends order parts s output (answers_proved profile is asks h) = proved_ends order profile.now s output h
 answer_ends order parts s output (answers_ran profile direction is asks h) = run_ends direction Line order profile.now parts s output h

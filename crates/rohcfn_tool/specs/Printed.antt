@@ -23,7 +23,7 @@ use Rattle.rohcfn_input.specs.declared.status.Answer.{Answer}
 use Rattle.rohcfn_input.specs.declared.status.Status.{Status}
 use Rattle.rohcfn_input.specs.declared.status.Status.TheVariants as status
 use Rattle.rohcfn_words.specs.declared.words.Command.TheVariants as command
-use Rattle.rohcfn_words.specs.declared.words.Command.TheVariants.{Show, Lint, Check, Prove, Run, Fields}
+use Rattle.rohcfn_words.specs.declared.words.Command.TheVariants.{Show, Lint, Draw, Check, Prove, Run, Fields}
 use Rattle.rohcfn_words.specs.declared.words.Direction.{Direction}
 use Rattle.rohcfn_words.specs.declared.words.Direction.TheVariants.{Pack, Unpack}
 use Rattle.rohcfn_words.specs.declared.words.End.{End}
@@ -42,6 +42,7 @@ use Rattle.fn_reasons.specs.declared.line.Line as reasons
 use Rattle.rohcfn_report.specs.Fields.{fields_text, head_text}
 use Rattle.rohcfn_report.specs.Reasons.{reasons_text}
 use Rattle.rohcfn_report.specs.Verdicts.{format_name, format_words, method_name}
+use Rattle.rohcfn_report.specs.Drawing.{DrawnBy}
 use Rattle.rohcfn_report.specs.Linting.{LintedBy}
 use Rattle.rohcfn_report.specs.Reports.{ShownBy, CheckedOctets, ProvedOctets}
 use Rattle.rohcfn_input.specs.Refusals.{Holds}
@@ -264,6 +265,8 @@ pub data Answered (order : Order) (parts : Parts) : Status → List ℕ → Type
       → ShownBy order.top.now profile.now s output → Answered order parts s output
   linted : {s : Status} {output : List ℕ} (profile : Bor (List ℕ)) → parts.profile ≡ Some profile → order.command ≡ Lint
       → LintedBy order.top.now profile.now s output → Answered order parts s output
+  drawn : {s : Status} {output : List ℕ} (profile : Bor (List ℕ)) → parts.profile ≡ Some profile → order.command ≡ Draw
+      → DrawnBy order.top.now profile.now s output → Answered order parts s output
   checked : {s : Status} {output : List ℕ} (profile : Bor (List ℕ)) → parts.profile ≡ Some profile → order.command ≡ Check
       → CheckedOctets order.top.now profile.now (origin_of order.version parts.certificate) s output → Answered order parts s output
   proved : {s : Status} {output : List ℕ} (profile : Bor (List ℕ)) → parts.profile ≡ Some profile → order.command ≡ Prove

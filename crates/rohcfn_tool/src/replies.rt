@@ -14,13 +14,14 @@ use rohcfn_input::refusals::refusal;
 use rohcfn_input::status::Answer;
 use rohcfn_report::accepting::{Judged, Origin, accept};
 use rohcfn_report::checking::answer_check;
+use rohcfn_report::drawing::answer_draw;
 use rohcfn_report::linting::answer_lint;
 use rohcfn_report::proving::answer_prove;
 use rohcfn_report::showing::answer_listing;
 use rohcfn_words::words::{Command, Direction, Order};
 use std::alloc::{AllocError, Global};
 
-/// What is printed for an order: the listing of a profile, the formats by which nothing can be packed, the verdict on a certificate, a certificate, a line or the
+/// What is printed for an order: the listing of a profile, the formats by which nothing can be packed, diagrams, the verdict on a certificate, a certificate, a line or the
 /// fields for each item or packet up to the first refusal, what stands against each format where one is refused, the octets and items of a line of flows, or the one line of another fault.
 ///
 /// The order of faults: the missing part `profile`, another missing part, the profile, its certificate, a line of the context, a line of the items, packets or events
@@ -34,6 +35,7 @@ pub fn answer(alloc: Global, order: &Order<'_>, parts: &Parts<'_>) -> Result<Ans
     match order.command {
         Command::Show => answer_listing(alloc, order.top, profile),
         Command::Lint => answer_lint(alloc, order.top, profile),
+        Command::Draw => answer_draw(alloc, order.top, profile),
         Command::Check => {
             let origin = Origin::of(order.version, parts);
             answer_check(alloc, order.top, profile, origin)

@@ -9,7 +9,7 @@ use Rattle.clap.specs.declared.error.kind.ErrorKind.TheVariants.{DisplayHelp, Ou
 use Rattle.fn_cert.specs.declared.certificate.Version.{Version}
 use Rattle.fn_cert.specs.declared.certificate.Version.TheVariants.{One, Two}
 use Rattle.rohcfn_words.specs.declared.words.Command.{Command}
-use Rattle.rohcfn_words.specs.declared.words.Command.TheVariants.{Show, Lint, Check, Prove, Run, Fields, Why, Line}
+use Rattle.rohcfn_words.specs.declared.words.Command.TheVariants.{Show, Lint, Draw, Check, Prove, Run, Fields, Why, Line}
 use Rattle.rohcfn_words.specs.declared.words.Direction.{Direction}
 use Rattle.rohcfn_words.specs.declared.words.Direction.TheVariants.{Pack, Unpack}
 use Rattle.rohcfn_words.specs.declared.words.End.{End}
@@ -85,8 +85,8 @@ bare_program = on_top (λ top. record top { no_binary_name = true; subcommand_re
 
 -- with its commands
 unfoldable pub program : App
-program = with_subcommand (with_subcommand (with_subcommand (with_subcommand (with_subcommand (with_subcommand (with_subcommand (with_subcommand (with_subcommand bare_program (with_flags (codes "pack")).top)
-    (with_flags (codes "unpack")).top) (with_items (codes "fields")).top) (with_items (codes "why")).top) (with_top (codes "show")).top) (with_top (codes "lint")).top) (with_version (codes "check")).top) (with_version (codes "prove")).top) (with_wide (codes "line")).top
+program = with_subcommand (with_subcommand (with_subcommand (with_subcommand (with_subcommand (with_subcommand (with_subcommand (with_subcommand (with_subcommand (with_subcommand bare_program (with_flags (codes "pack")).top)
+    (with_flags (codes "unpack")).top) (with_items (codes "fields")).top) (with_items (codes "why")).top) (with_top (codes "show")).top) (with_top (codes "lint")).top) (with_top (codes "draw")).top) (with_version (codes "check")).top) (with_version (codes "prove")).top) (with_wide (codes "line")).top
 
 -- a command, the name of a method, whether the last context is printed, the version of a certificate that is made, and whether the line is the wide one
 pub record Asked : Type 0 where
@@ -115,9 +115,10 @@ command_named name receives packs = if bytes_eq name (codes "pack") then Some (R
     else (if bytes_eq name (codes "why") then Some (Why (direction_at packs))
     else (if bytes_eq name (codes "show") then Some Show
     else (if bytes_eq name (codes "lint") then Some Lint
+    else (if bytes_eq name (codes "draw") then Some Draw
     else (if bytes_eq name (codes "check") then Some Check
     else (if bytes_eq name (codes "prove") then Some Prove
-    else (if bytes_eq name (codes "line") then Some (Line (end_at receives)) else None))))))))
+    else (if bytes_eq name (codes "line") then Some (Line (end_at receives)) else None)))))))))
 
 -- the flag was given
 abbrev pub is_set : Option (List ℕ) → Bool
@@ -190,6 +191,7 @@ pub record ReadsWords : Type 0 where
   pub why_items : asked_of (codes "why" ∷ codes "--top" ∷ codes "plain" ∷ codes "--items" ∷ []) ≡ Some (record { command = Why Pack; top = codes "plain"; shows_context = false; version = One; is_wide = false })
   pub lint : asked_of (codes "lint" ∷ codes "--top" ∷ codes "plain" ∷ []) ≡ Some (record { command = Lint; top = codes "plain"; shows_context = false; version = One; is_wide = false })
   pub lint_second : asked_of (codes "lint" ∷ codes "--top" ∷ codes "plain" ∷ codes "--v2" ∷ []) ≡ None
+  pub draw : asked_of (codes "draw" ∷ codes "--top" ∷ codes "plain" ∷ []) ≡ Some (record { command = Draw; top = codes "plain"; shows_context = false; version = One; is_wide = false })
   pub pack_items : asked_of (codes "pack" ∷ codes "--top" ∷ codes "plain" ∷ codes "--items" ∷ []) ≡ None
   pub pack_wide : asked_of (codes "pack" ∷ codes "--top" ∷ codes "plain" ∷ codes "--wide" ∷ []) ≡ None
   pub pack_receive : asked_of (codes "pack" ∷ codes "--top" ∷ codes "plain" ∷ codes "--receive" ∷ []) ≡ None

@@ -17,6 +17,8 @@ pub enum Command {
     Show,
     /// Tells by which formats of the part `profile` nothing can be packed.
     Lint,
+    /// Draws the packed bits of each format of the part `profile`.
+    Draw,
     /// Checks the part `certificate` against the part `profile`.
     Check,
     /// Makes a certificate for the part `profile`.
@@ -81,8 +83,8 @@ impl From<AllocError> for WordsError {
     }
 }
 
-/// Reads the words that follow the program's name: a command, `pack`, `unpack`, `fields`, `why`, `show`, `lint`, `check`,
-/// `prove` or `line`, and its flags: `--top NAME`, for all commands but `show` and `lint` also `--v2`, for `pack`, `unpack`, `fields` and `why` also
+/// Reads the words that follow the program's name: a command, `pack`, `unpack`, `fields`, `why`, `show`, `lint`, `draw`,
+/// `check`, `prove` or `line`, and its flags: `--top NAME`, for all commands but `show`, `lint` and `draw` also `--v2`, for `pack`, `unpack`, `fields` and `why` also
 /// `--context`, for `fields` and `why` also `--items`, and for `line` also `--receive` and `--wide`.
 ///
 /// The clauses say it by clap's own account of a command line (`asked_of`), on which clap's parse is
@@ -116,6 +118,7 @@ A bundle is read from standard input: parts, each after a line `=== PART`. For e
 
   rohcfn show --top plain <BUNDLE            profile > the methods, bounds and constraints
   rohcfn lint --top plain <BUNDLE            profile > a line for each format by which nothing can be packed
+  rohcfn draw --top plain <BUNDLE            profile > a diagram of the packed bits of each format
   rohcfn prove --top plain <BUNDLE           profile > a certificate
   rohcfn check --top plain <BUNDLE           profile > `accepted`
   rohcfn pack --top plain <BUNDLE            profile, items > a line of bits for each item
@@ -163,12 +166,18 @@ fn program<'a>(alloc: Global) -> Result<clap::Command<'a>, AllocError>
         "Tells by which formats of the part profile nothing can be packed",
     )?;
     let five = four.subcommand(lint)?;
+    let draw = with_top(
+        alloc,
+        "draw",
+        "Draws the packed bits of each format of the part profile",
+    )?;
+    let drawn = five.subcommand(draw)?;
     let check = with_version(
         alloc,
         "check",
         "Checks the part certificate against the part profile",
     )?;
-    let six = five.subcommand(check)?;
+    let six = drawn.subcommand(check)?;
     let prove = with_version(alloc, "prove", "Makes a certificate for the part profile")?;
     let seven = six.subcommand(prove)?;
     let line = with_wide(alloc, "line", "Sends the part events on a line of flows")?;
@@ -328,6 +337,8 @@ fn command_of(name: &str, receives: bool, packs: bool) -> Option<Command>
         Some(Command::Show)
     } else if name == "lint" {
         Some(Command::Lint)
+    } else if name == "draw" {
+        Some(Command::Draw)
     } else if name == "check" {
         Some(Command::Check)
     } else if name == "prove" {

@@ -1,7 +1,8 @@
 use Rattle.std.proofs.Common.{refl, subst}
 use Rattle.rohcfn_tool.specs.Lined.{Lined}
-use Rattle.rohcfn_tool.specs.Printed.{Answered, AnsweredRun, no_profile, shown, linted, checked, proved, ran, told, explained, lined}
+use Rattle.rohcfn_tool.specs.Printed.{Answered, AnsweredRun, no_profile, shown, linted, drawn, checked, proved, ran, told, explained, lined}
 use Rattle.rohcfn_tool.specs.declared.printing.Shape.TheVariants.{Line, Tree, Why}
+use Rattle.rohcfn_report.specs.Drawing.{DrawnBy}
 use Rattle.rohcfn_report.specs.Linting.{LintedBy}
 use Rattle.rohcfn_report.specs.Reports.{CheckedOctets, ProvedOctets, ShownBy}
 use Rattle.rohcfn_input.proofs.AnswersHeld.{passed_on, refusal_is}
@@ -17,6 +18,10 @@ returns-in-Show c =
 pub returns-in-Lint : goal.returns-in-Lint
 returns-in-Lint c =
     passed_on (LintedBy c.args.order.now.top.now c.in-Some.profile.now) (Answered c.args.order.now c.args.parts.now) c.answer_lint.result (λ s out h. linted c.in-Some.profile c.in-Some.is c.in-Lint.is h) c.answer_lint.ensures
+
+pub returns-in-Draw : goal.returns-in-Draw
+returns-in-Draw c =
+    passed_on (DrawnBy c.args.order.now.top.now c.in-Some.profile.now) (Answered c.args.order.now c.args.parts.now) c.answer_draw.result (λ s out h. drawn c.in-Some.profile c.in-Some.is c.in-Draw.is h) c.answer_draw.ensures
 
 pub returns-in-Check : goal.returns-in-Check
 returns-in-Check c =

@@ -1,0 +1,5 @@
+use Rattle.fn_draw.proofs.Standing.{columns-are-offsets}
+use Rattle.fn_draw.proofs.laws.columns_are_offsets.Goals as goal
+
+pub returns : goal.returns
+returns c = columns-are-offsets

@@ -1,0 +1,5 @@
+use Rattle.fn_draw.proofs.Standing.{fields-stand-there}
+use Rattle.fn_draw.proofs.laws.fields_stand_there.Goals as goal
+
+pub returns : goal.returns
+returns c = fields-stand-there
