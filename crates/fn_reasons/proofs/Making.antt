@@ -212,7 +212,7 @@ untrue_is k h j figures is u =
 
 pub no_argument_is : (k : Sighted) → IsSighted k → (i : ℕ) (d : Field) → slice_get k.look.format.now.fields i ≡ Some d → (at : Span) → first_undefined (bounding_of k.ranges.now) (encoding_exprs d.encoding) ≡ Some at → StandsIn k (reason.Undefined at)
 no_argument_is k h i d field_at at is =
-    no_argument {i = i} k.look.format.now k.look.sizes.now k.seen.now d (view_is k h) field_at (ap (λ z. first_undefined (bounding_of z) (encoding_exprs d.encoding)) (sym h.ranges_are) ∙ is)
+    no_argument i k.look.format.now k.look.sizes.now k.seen.now d (view_is k h) field_at (ap (λ z. first_undefined (bounding_of z) (encoding_exprs d.encoding)) (sym h.ranges_are) ∙ is)
 
 pub no_truth_is : (k : Sighted) → IsSighted k → (at : Span) → undefined_condition (bounding_of k.ranges.now) k.look.format.now.constraints ≡ Some at → StandsIn k (reason.Undefined at)
 no_truth_is k h at is =

@@ -261,7 +261,7 @@ module _ (s : Setting) (sound : IsSound s.profile) (n : ℕ) (f : Filling) (h : 
   no_stand r (differs {i} {found} {due} side format sizes seen d m own v has own_is only found_is differ) = no_difference format sizes seen v i side found due own d m has own_is only found_is differ
   no_stand r (no_side {i} {side} {found} format sizes seen d m v has found_is none) = no_lack format sizes seen v i side found d m has found_is none
   no_stand r (untrue {j} format sizes seen v u) = no_untrue format sizes seen v j u
-  no_stand r (no_argument {i} {at} format sizes seen d v field_at is) = no_undefined format sizes seen v i d at field_at is
+  no_stand r (no_argument {at} i format sizes seen d v field_at is) = no_undefined format sizes seen v i d at field_at is
   no_stand r (no_truth {at} format sizes seen v is) = no_untold format sizes seen v at is
 
 -- ---- together

@@ -61,84 +61,91 @@ no_negation : (o : Option Bool) (b : Bool) → option_map not o ≡ Some b → (
 no_negation (Some c) b e = (c, refl)
 no_negation None b e = absurd (cc)
 
+pub of_four : (o p q d : Option Span) → first_of (first_of o p) (first_of q d) ≡ first_of o (first_of p (first_of q (first_of d None)))
+of_four (Some s) p q d = refl
+of_four None (Some s) q d = refl
+of_four None None (Some s) d = refl
+of_four None None None (Some s) = refl
+of_four None None None None = refl
+
+of_two : (o q : Option Span) (at : Span) → first_of o q ≡ Some at → (o ≡ Some at → ⊥) → (q ≡ Some at → ⊥) → ⊥
+of_two (Some s) q at e one two = one e
+of_two None q at e one two = two e
+
+of_three : (o q d : Option Span) (at : Span) → first_of (first_of o q) d ≡ Some at → (o ≡ Some at → ⊥) → (q ≡ Some at → ⊥) → (d ≡ Some at → ⊥) → ⊥
+of_three (Some s) q d at e one two three = one e
+of_three None (Some s) d at e one two three = two e
+of_three None None d at e one two three = three e
+
 module _ (a : Assignment) (r : Bounding) (lie : LieIn a r) where
+  by_zero : (s : Span) (op : Operator) (y : Expr) (at : Span) → divided_by_zero s op (ranged r y) ≡ Some at → (n m v : ℤ) → val a y ≡ Some m → apply op n m ≡ Some v → ⊥
+  by_zero s op y at h n m v right whole =
+      let t = and_parts (divides op) (is_zero (ranged r y)) (asked (divides op && is_zero (ranged r y)) s at h) in
+      let i = only_zero (ranged r y) t.1 in
+      let zero_is = between i.0 m i.2 i.3 (ranges.lies a r lie y i.0 m i.1 right) in
+      none_by_zero op t.0 n v (ap (apply op n) (sym zero_is) ∙ whole)
+
   pub no_value : (e : Expr) (at : Span) → undefined r e ≡ Some at → (v : ℤ) → val a e ≡ Some v → ⊥
   no_value (Number s n) at e v is = absurd (cc)
   no_value (Parameter s i) at e v is = absurd (cc)
   no_value (expr.Attribute s t) at e v is = absurd (cc)
   no_value (Binary' s op p x q y) at e v is =
       let w = both_there (apply op) (val a x) (val a y) v is in
-      by w.first w.second w.first_is w.second_is w.value_is (either (first_of (undefined r x) (undefined r y)) (divided_by_zero s op (ranged r y)) at e)
-    where
-      by : (n m : ℤ) → val a x ≡ Some n → val a y ≡ Some m → apply op n m ≡ Some v → (first_of (undefined r x) (undefined r y) ≡ Some at) ⊎ (divided_by_zero s op (ranged r y) ≡ Some at) → ⊥
-      by n m left right whole (inl h) = inner (either (undefined r x) (undefined r y) at h)
-        where
-          inner : (undefined r x ≡ Some at) ⊎ (undefined r y ≡ Some at) → ⊥
-          inner (inl g) = no_value x at g n left
-          inner (inr g) = no_value y at g m right
-      by n m left right whole (inr h) =
-          let t = and_parts (divides op) (is_zero (ranged r y)) (asked (divides op && is_zero (ranged r y)) s at h) in
-          let i = only_zero (ranged r y) t.1 in
-          let zero_is = between i.0 m i.2 i.3 (ranges.lies a r lie y i.0 m i.1 right) in
-          none_by_zero op t.0 n v (ap (apply op n) (sym zero_is) ∙ whole)
+      of_three (undefined r x) (undefined r y) (divided_by_zero s op (ranged r y)) at e (λ g. no_value x at g w.first w.first_is) (λ g. no_value y at g w.second w.second_is)
+      (λ g. by_zero s op y at g w.first w.second v w.second_is w.value_is)
 
   pub no_truth : (c : Cond) (at : Span) → undefined_truth r c ≡ Some at → (b : Bool) → truth a c ≡ Some b → ⊥
   no_truth (Constant s b) at e t is = absurd (cc)
   no_truth (Compare s op x y) at e b is =
       let w = both_there (λ v u. Some (compare op v u)) (val a x) (val a y) b is in
-      by w.first w.second w.first_is w.second_is (either (undefined r x) (undefined r y) at e)
-    where
-      by : (n m : ℤ) → val a x ≡ Some n → val a y ≡ Some m → (undefined r x ≡ Some at) ⊎ (undefined r y ≡ Some at) → ⊥
-      by n m left right (inl g) = no_value x at g n left
-      by n m left right (inr g) = no_value y at g m right
+      of_two (undefined r x) (undefined r y) at e (λ g. no_value x at g w.first w.first_is) (λ g. no_value y at g w.second w.second_is)
   no_truth (Not' s p x) at e b is = let t = no_negation (truth a x) b is in no_truth x at e t.0 t.1
   no_truth (And' s p x q y) at e b is =
       let w = both_there (λ v u. Some (v && u)) (truth a x) (truth a y) b is in
-      by w.first w.second w.first_is w.second_is (either (undefined_truth r x) (undefined_truth r y) at e)
-    where
-      by : (n m : Bool) → truth a x ≡ Some n → truth a y ≡ Some m → (undefined_truth r x ≡ Some at) ⊎ (undefined_truth r y ≡ Some at) → ⊥
-      by n m left right (inl g) = no_truth x at g n left
-      by n m left right (inr g) = no_truth y at g m right
+      of_two (undefined_truth r x) (undefined_truth r y) at e (λ g. no_truth x at g w.first w.first_is) (λ g. no_truth y at g w.second w.second_is)
   no_truth (Or' s p x q y) at e b is =
       let w = both_there (λ v u. Some (v || u)) (truth a x) (truth a y) b is in
-      by w.first w.second w.first_is w.second_is (either (undefined_truth r x) (undefined_truth r y) at e)
-    where
-      by : (n m : Bool) → truth a x ≡ Some n → truth a y ≡ Some m → (undefined_truth r x ≡ Some at) ⊎ (undefined_truth r y ≡ Some at) → ⊥
-      by n m left right (inl g) = no_truth x at g n left
-      by n m left right (inr g) = no_truth y at g m right
+      of_two (undefined_truth r x) (undefined_truth r y) at e (λ g. no_truth x at g w.first w.first_is) (λ g. no_truth y at g w.second w.second_is)
 
 -- ---- which of several
 
+abbrev OneOf : Bounding → List Expr → Span → Type 0
+OneOf r es at = (q : ℕ) × (e : Expr) × (slice_get es q ≡ Some e) × (undefined r e ≡ Some at)
+
+first_or_later : (r : Bounding) (e : Expr) (es : List Expr) (at : Span) → (undefined r e ≡ Some at) ⊎ (first_undefined r es ≡ Some at) → (first_undefined r es ≡ Some at → OneOf r es at) → OneOf r (e ∷ es) at
+first_or_later r e es at (inl h) later = (zero, e, refl, h)
+first_or_later r e es at (inr h) later = let t = later h in (suc t.0, t.1, t.2, t.3)
+
 pub one_undefined : (r : Bounding) (es : List Expr) (at : Span) → first_undefined r es ≡ Some at → (q : ℕ) × (e : Expr) × (slice_get es q ≡ Some e) × (undefined r e ≡ Some at)
 one_undefined r [] at is = absurd (cc)
-one_undefined r (e ∷ es) at is = by (either (undefined r e) (first_undefined r es) at is)
-  where
-    by : (undefined r e ≡ Some at) ⊎ (first_undefined r es ≡ Some at) → (q : ℕ) × (d : Expr) × (slice_get (e ∷ es) q ≡ Some d) × (undefined r d ≡ Some at)
-    by (inl h) = (zero, e, refl, h)
-    by (inr h) = let t = one_undefined r es at h in (suc t.0, t.1, t.2, t.3)
+one_undefined r (e ∷ es) at is = first_or_later r e es at (either (undefined r e) (first_undefined r es) at is) (λ h. one_undefined r es at h)
+
+abbrev OneCondition : Bounding → List Constraint → Span → Type 0
+OneCondition r cs at = (j : ℕ) × (condition : Cond) × (place : Span) × (slice_get cs j ≡ Some (Enforce condition place)) × (undefined_truth r condition ≡ Some at)
+
+condition_or_later : (r : Bounding) (c : Cond) (place : Span) (cs : List Constraint) (at : Span) → (undefined_truth r c ≡ Some at) ⊎ (undefined_condition r cs ≡ Some at) → (undefined_condition r cs ≡ Some at → OneCondition r cs at)
+    → OneCondition r (Enforce c place ∷ cs) at
+condition_or_later r c place cs at (inl h) later = (zero, c, place, refl, h)
+condition_or_later r c place cs at (inr h) later = let t = later h in (suc t.0, t.1, t.2, t.3, t.4)
 
 pub one_condition : (r : Bounding) (cs : List Constraint) (at : Span) → undefined_condition r cs ≡ Some at
     → (j : ℕ) × (condition : Cond) × (place : Span) × (slice_get cs j ≡ Some (Enforce condition place)) × (undefined_truth r condition ≡ Some at)
 one_condition r [] at is = absurd (cc)
 one_condition r (Bracket i side lengths place ∷ cs) at is = let t = one_condition r cs at is in (suc t.0, t.1, t.2, t.3, t.4)
-one_condition r (Enforce c place ∷ cs) at is = by (either (undefined_truth r c) (undefined_condition r cs) at is)
-  where
-    by : (undefined_truth r c ≡ Some at) ⊎ (undefined_condition r cs ≡ Some at) → (j : ℕ) × (d : Cond) × (s : Span) × (slice_get (Enforce c place ∷ cs) j ≡ Some (Enforce d s)) × (undefined_truth r d ≡ Some at)
-    by (inl h) = (zero, c, place, refl, h)
-    by (inr h) = let t = one_condition r cs at h in (suc t.0, t.1, t.2, t.3, t.4)
+one_condition r (Enforce c place ∷ cs) at is = condition_or_later r c place cs at (either (undefined_truth r c) (undefined_condition r cs) at is) (λ h. one_condition r cs at h)
 
 -- ---- the arguments of what encodes a field have values
 
 pub all_there : (a : Assignment) (es : List Expr) (vs : List ℤ) → vals a es ≡ Some vs → (q : ℕ) (e : Expr) → slice_get es q ≡ Some e → (v : ℤ) × (val a e ≡ Some v)
 all_there a [] vs is q e at = absurd (cc)
-all_there a (d ∷ es) vs is q e at =
+all_there a (d ∷ es) vs is zero e at =
+    let x = and_then_some (λ w. option_map (λ more. w ∷ more) (vals a es)) (val a d) vs is in
+    let same : d ≡ e = cc in
+    (x.0, ap (val a) (sym same) ∙ x.1)
+all_there a (d ∷ es) vs is (suc q) e at =
     let x = and_then_some (λ w. option_map (λ more. w ∷ more) (vals a es)) (val a d) vs is in
     let rest = map_some (λ more. x.0 ∷ more) (vals a es) vs x.2 in
-    by x.0 x.1 rest.0 rest.1 q at
-  where
-    by : (w : ℤ) → val a d ≡ Some w → (more : List ℤ) → vals a es ≡ Some more → (k : ℕ) → slice_get (d ∷ es) k ≡ Some e → (v : ℤ) × (val a e ≡ Some v)
-    by w first more later zero here = let same : d ≡ e = cc in (w, ap (val a) (sym same) ∙ first)
-    by w first more later (suc k) here = all_there a es more later k e here
+    all_there a es rest.0 rest.1 q e at
 
 two_there : (a : Assignment) (d f : Expr) (x y : ℤ) → val a d ≡ Some x → val a f ≡ Some y → (q : ℕ) (e : Expr) → slice_get (d ∷ f ∷ []) q ≡ Some e → (v : ℤ) × (val a e ≡ Some v)
 two_there a d f x y one other zero e at = let same : d ≡ e = cc in (x, ap (val a) (sym same) ∙ one)

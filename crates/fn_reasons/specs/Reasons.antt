@@ -84,7 +84,7 @@ pub data Stands (s : Setting) (n : ℕ) : Reason → Type 0 where
   untrue : {j : ℕ} (format : Format) (sizes : FormatSizes) (seen : Seen) → View s n format sizes seen → IsUntrue format.constraints (ranges_in s sizes seen) j
       → Stands s n (reason.Untrue j (figures_at (ranges_in s sizes seen) (slice_get format.constraints j)))
   -- an argument of a field's encoding has no value by what is seen
-  no_argument : {i : ℕ} {at : Span} (format : Format) (sizes : FormatSizes) (seen : Seen) (d : Field) → View s n format sizes seen → slice_get format.fields i ≡ Some d → first_undefined (ranges_in s sizes seen) (encoding_exprs d.encoding) ≡ Some at
+  no_argument : {at : Span} (i : ℕ) (format : Format) (sizes : FormatSizes) (seen : Seen) (d : Field) → View s n format sizes seen → slice_get format.fields i ≡ Some d → first_undefined (ranges_in s sizes seen) (encoding_exprs d.encoding) ≡ Some at
       → Stands s n (reason.Undefined at)
   -- nor has a condition
   no_truth : {at : Span} (format : Format) (sizes : FormatSizes) (seen : Seen) → View s n format sizes seen → undefined_condition (ranges_in s sizes seen) format.constraints ≡ Some at → Stands s n (reason.Undefined at)

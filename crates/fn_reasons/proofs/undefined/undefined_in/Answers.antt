@@ -1,0 +1,13 @@
+use Rattle.std.proofs.Common.{sym, ap, ◌∙◌}
+use Rattle.fn_bounds.specs.Laws.{library_exprs}
+use Rattle.fn_expr.specs.Bounds.{bounding_of}
+use Rattle.fn_reasons.specs.Undefined.{first_undefined, undefined}
+use Rattle.fn_reasons.proofs.Valueless.{of_four}
+use Rattle.fn_reasons.proofs.undefined.undefined_in.Goals as goal
+
+pub returns-in-Crc : goal.returns-in-Crc
+returns-in-Crc c =
+    let r = bounding_of c.args.ranges.now in
+    c.undefined_of_crc.ensures
+    ∙ (of_four (undefined r c.in-Crc.crc.bits) (undefined r c.in-Crc.crc.polynomial) (undefined r c.in-Crc.crc.initial) (undefined r c.in-Crc.crc.length)
+    ∙ ap (λ l. first_undefined r (library_exprs l)) (sym c.in-Crc.is))
