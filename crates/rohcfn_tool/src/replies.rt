@@ -34,7 +34,7 @@ pub fn answer(alloc: Global, order: &Order<'_>, parts: &Parts<'_>) -> Result<Ans
     };
     match order.command {
         Command::Show => answer_listing(alloc, order.top, profile),
-        Command::Lint => answer_lint(alloc, order.top, profile),
+        Command::Lint => answer_lint(alloc, order.top, profile, parts.context),
         Command::Draw => answer_draw(alloc, order.top, profile),
         Command::Check => {
             let origin = Origin::of(order.version, parts);
