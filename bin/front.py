@@ -27,12 +27,12 @@ INPUTS = {
     "line": ("events", "octets", "certificate", "pcap"),
 }
 TOLD = ("v2", "context")
-FLAGS = {"pack": TOLD, "unpack": TOLD, "fields": TOLD, "why": TOLD, "show": (), "lint": (), "draw": (), "check": ("v2",), "prove": ("v2",), "line": ("v2", "receive", "wide")}
+FLAGS = {"pack": TOLD, "unpack": TOLD, "fields": TOLD, "why": TOLD, "show": (), "lint": (), "draw": (), "check": ("v2", "explain"), "prove": ("v2", "explain"), "line": ("v2", "receive", "wide")}
 PACKED, READ = ("item", "items", "pcap"), ("packet", "packets")
 # One of these at least is needed.
 NEEDED = {"pack": PACKED, "unpack": READ, "fields": PACKED + READ, "why": PACKED + READ, "line": ("events", "octets", "pcap")}
 VALUED = ("top", "item", "items", "packet", "packets", "from_context", "certificate", "events", "octets", "pcap", "flow")
-PLAIN = ("v2", "context", "receive", "wide", "diagnose")
+PLAIN = ("v2", "context", "explain", "receive", "wide", "diagnose")
 LINES = {"item": "items", "items": "items", "packet": "packets", "packets": "packets"}
 TOP = re.compile(rb"(?:^| )--top[ =](\w+)")
 

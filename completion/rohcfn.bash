@@ -56,8 +56,8 @@ _rohcfn() {
     show) options='--top --help --diagnose' ;;
     lint) options='--top --help --diagnose' ;;
     draw) options='--top --help --diagnose' ;;
-    check) options='--top --v2 --help --certificate --diagnose' ;;
-    prove) options='--top --v2 --help --diagnose' ;;
+    check) options='--top --v2 --help --explain --certificate --diagnose' ;;
+    prove) options='--top --v2 --help --explain --diagnose' ;;
     line) options='--top --v2 --help --receive --wide --certificate --events --octets --pcap --diagnose' ;;
     help)
       if ((COMP_CWORD == 2)); then options=$commands; fi

@@ -111,12 +111,12 @@ lint_text octets p found = flat_map (lint_line octets p) found
 pub data LintedBy (top octets : List ℕ) : Status → List ℕ → Type 0 where
   -- the profile is at fault
   no_lint : (text : List ℕ) → IsFaultLine top octets text → LintedBy top octets status.Refused (text ++ 10 ∷ [])
-  -- the formats of the normal form by which nothing can be packed
-  linted : (p : Resolved) (found : List DeadFormat) → Reads octets top p → AreDead p 0 0 found → LintedBy top octets status.Done (lint_text octets p found)
+  -- the formats of the normal form by which nothing can be packed, and below them warnings, of which nothing is said here
+  linted : (p : Resolved) (found : List DeadFormat) (warnings : List ℕ) → Reads octets top p → AreDead p 0 0 found → LintedBy top octets status.Done (lint_text octets p found ++ warnings)
 
--- the formats of a profile by which nothing can be packed
+-- the formats of a profile by which nothing can be packed, and warnings
 abbrev pub LintsProfile : List ℕ → Resolved → Answer → Type 0
-LintsProfile octets p a = (found : List DeadFormat) × AreDead p 0 0 found × (a.status ≡ status.Done) × (string_bytes a.output ≡ lint_text octets p found)
+LintsProfile octets p a = (found : List DeadFormat) × AreDead p 0 0 found × (a.status ≡ status.Done) × (warnings : List ℕ) × (string_bytes a.output ≡ lint_text octets p found ++ warnings)
 
 abbrev pub Lints : List ℕ → List ℕ → Answer → Type 0
 Lints top octets = Holds (LintedBy top octets)

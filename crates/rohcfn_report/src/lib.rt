@@ -11,3 +11,4 @@ pub mod reasons;
 pub mod showing;
 pub mod table;
 pub mod verdicts;
+mod warning;

@@ -7,6 +7,7 @@ ghost use Rattle.rohcfn_report.specs.Linting as spec;
 
 use crate::showing::error_line;
 use crate::verdicts::{field_name, format_at, format_name, method_name};
+use crate::warning::warnings;
 use fn_expr::Side;
 use fn_lint::{DeadFormat, Obstacle, dead_formats};
 use fn_names::read;
@@ -19,11 +20,17 @@ use std::alloc::{AllocError, Global};
 
 /// A line for each format of the profile by which no header can ever be packed, whatever the context holds: where in the profile the reason stands, and what it is. For a
 /// profile with a fault its line.
-pub fn answer_lint(alloc: Global, top: &str, octets: &[u8]) -> Result<Answer, AllocError>
+/// Below them stand warnings by the rules of fn_lint, which no clause speaks of. The octets of a context may be given, with which a flow begins.
+pub fn answer_lint(
+    alloc: Global,
+    top: &str,
+    octets: &[u8],
+    context: Option<&[u8]>,
+) -> Result<Answer, AllocError>
     ensures { IfOk result (spec.Lints top.now octets.now) }
 {
     match read(alloc, octets, top.as_bytes()) {
-        Ok(profile) => answer_profile(alloc, octets, &profile),
+        Ok(profile) => answer_profile(alloc, octets, &profile, context),
         Err(error) => {
             let line = error_line(alloc, octets, error)?;
             refusal(alloc, line.as_str())
@@ -32,7 +39,12 @@ pub fn answer_lint(alloc: Global, top: &str, octets: &[u8]) -> Result<Answer, Al
 }
 
 /// The answer by a profile.
-fn answer_profile(alloc: Global, octets: &[u8], profile: &Profile) -> Result<Answer, AllocError>
+fn answer_profile(
+    alloc: Global,
+    octets: &[u8],
+    profile: &Profile,
+    context: Option<&[u8]>,
+) -> Result<Answer, AllocError>
     ensures { IfOk result (spec.LintsProfile octets.now profile.now) }
 {
     let found = dead_formats(alloc, profile)?;
@@ -40,6 +52,8 @@ fn answer_profile(alloc: Global, octets: &[u8], profile: &Profile) -> Result<Ans
     for dead in found.as_slice() {
         push_line(alloc, &mut output, octets, profile, *dead)?;
     }
+    let warnings = warnings(alloc, octets, profile, context)?;
+    output.push_str(warnings.as_str())?;
     Ok(Answer {
         status: Status::Done,
         output,

@@ -281,7 +281,7 @@ pub fn format_name(methods: &[Method], method: usize, format: usize) -> &str
     }
 }
 
-pub(crate) fn field_name(methods: &[Method], method: usize, format: usize, field: usize) -> &str
+pub fn field_name(methods: &[Method], method: usize, format: usize, field: usize) -> &str
     ensures { result.now ≡ spec.field_name methods.now method format field }
 {
     match field_at(methods, method, format, field) {

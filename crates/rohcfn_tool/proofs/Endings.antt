@@ -23,6 +23,8 @@ use Rattle.rohcfn_report.specs.Accepting.{origin_of}
 use Rattle.rohcfn_report.specs.declared.accepting.Origin.{Origin}
 use Rattle.rohcfn_report.specs.Provings.{ProvedBy}
 use Rattle.rohcfn_report.specs.Provings.ProvedBy.{printed as proved_by_printed, unproved as proved_by_unproved}
+use Rattle.rohcfn_explain.specs.Explained.{Explained}
+use Rattle.rohcfn_explain.specs.Explained.Explained.{explained as explained_plain}
 use Rattle.rohcfn_report.specs.Drawing.{DrawnBy}
 use Rattle.rohcfn_report.specs.Drawing.DrawnBy.{drawn_by as drawn_by_drawn, no_drawing as drawn_by_no_drawing}
 use Rattle.rohcfn_report.specs.Linting.{LintedBy}
@@ -42,7 +44,7 @@ use Rattle.rohcfn_tool.specs.Printed.AnsweredIn.{answered as answered_in_answere
 use Rattle.rohcfn_tool.specs.Printed.AnsweredFor.{bad_context as answered_for_bad_context, from_context as answered_for_from_context}
 use Rattle.rohcfn_tool.specs.Printed.AnsweredBy.{by_profile as answered_by_by_profile, unaccepted as answered_by_unaccepted}
 use Rattle.rohcfn_tool.specs.Printed.AnsweredRun.{both as answered_run_both, no_input as answered_run_no_input}
-use Rattle.rohcfn_tool.specs.Printed.Answered.{checked as answers_checked, drawn as answers_drawn, lined as answers_lined, linted as answers_linted, no_profile as answers_no_profile, proved as answers_proved, ran as answers_ran, shown as answers_shown, told as answers_told, explained as answers_explained}
+use Rattle.rohcfn_tool.specs.Printed.Answered.{check_explained as answers_check_explained, checked as answers_checked, drawn as answers_drawn, lined as answers_lined, linted as answers_linted, no_profile as answers_no_profile, prove_explained as answers_prove_explained, proved as answers_proved, ran as answers_ran, shown as answers_shown, told as answers_told, explained as answers_explained}
 use Rattle.fn_line.specs.declared.flow.LineVersion.{LineVersion}
 use Rattle.rohcfn_tool.specs.Lined.{PrintsSent, PrintsReceived, AnsweredEvents, AnsweredHex, AnsweredEnd, LinedBy, Lined, line_version}
 use Rattle.rohcfn_tool.specs.Lined.PrintsSent.{all_sent as prints_sent_all_sent, one_refused as prints_sent_one_refused}
@@ -127,7 +129,7 @@ lined_ends end order profile parts s output (lined_by_part given is h) = lined_b
 
 linted_ends : (top octets : List ℕ) (s : Status) (output : List ℕ) → LintedBy top octets s output → MayPrint s
 linted_ends top octets _ _ (linted_by_no_lint text h) = tt
-linted_ends top octets _ _ (linted_by_linted p found reads dead) = tt
+linted_ends top octets _ _ (linted_by_linted p found warnings reads dead) = tt
 
 drawn_ends : (top octets : List ℕ) (s : Status) (output : List ℕ) → DrawnBy top octets s output → MayPrint s
 drawn_ends top octets _ _ (drawn_by_no_drawing text h) = tt
@@ -149,6 +151,9 @@ proved_ends : (order : Order) (octets : List ℕ) (s : Status) (output : List �
 proved_ends order octets _ _ (proved_octets_none_proved text h) = tt
 proved_ends order octets s output (proved_octets_proved_by p reads h) = proved_by_ends order p s output h
 
+explained_ends : (Plain : Status → List ℕ → Type 0) → ((s : Status) (output : List ℕ) → Plain s output → MayPrint s) → (s : Status) (output : List ℕ) → Explained Plain s output → MayPrint s
+explained_ends Plain ends s _ (explained_plain {output = plain} notes h) = ends s plain h
+
 answer_ends : (order : Order) (parts : Parts) (s : Status) (output : List ℕ) → Answered order parts s output → MayPrint s
 answer_ends order parts _ _ (answers_no_profile is) = tt
 answer_ends order parts s output (answers_shown profile is asks h) = shown_ends order.top.now profile.now s output h
@@ -156,6 +161,9 @@ answer_ends order parts s output (answers_linted profile is asks h) = linted_end
 answer_ends order parts s output (answers_drawn profile is asks h) = drawn_ends order.top.now profile.now s output h
 answer_ends order parts s output (answers_checked profile is asks h) = checked_ends order.top.now profile.now (origin_of order.version parts.certificate) s output h
 answer_ends order parts s output (answers_proved profile is asks h) = proved_ends order profile.now s output h
+answer_ends order parts s output (answers_check_explained profile is asks h) =
+    explained_ends (CheckedOctets order.top.now profile.now (origin_of order.version parts.certificate)) (λ t out g. checked_ends order.top.now profile.now (origin_of order.version parts.certificate) t out g) s output h
+answer_ends order parts s output (answers_prove_explained profile is asks h) = explained_ends (ProvedOctets order.version order.top.now profile.now) (λ t out g. proved_ends order profile.now t out g) s output h
 answer_ends order parts s output (answers_ran profile direction is asks h) = run_ends direction Line order profile.now parts s output h
 answer_ends order parts s output (answers_told profile direction is asks h) = run_ends direction Tree order profile.now parts s output h
 answer_ends order parts s output (answers_explained profile direction is asks h) = run_ends direction (Why profile) order profile.now parts s output h

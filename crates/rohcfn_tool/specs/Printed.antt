@@ -23,7 +23,7 @@ use Rattle.rohcfn_input.specs.declared.status.Answer.{Answer}
 use Rattle.rohcfn_input.specs.declared.status.Status.{Status}
 use Rattle.rohcfn_input.specs.declared.status.Status.TheVariants as status
 use Rattle.rohcfn_words.specs.declared.words.Command.TheVariants as command
-use Rattle.rohcfn_words.specs.declared.words.Command.TheVariants.{Show, Lint, Draw, Check, Prove, Run, Fields}
+use Rattle.rohcfn_words.specs.declared.words.Command.TheVariants.{Show, Lint, Draw, Check, Prove, ExplainCheck, ExplainProve, Run, Fields}
 use Rattle.rohcfn_words.specs.declared.words.Direction.{Direction}
 use Rattle.rohcfn_words.specs.declared.words.Direction.TheVariants.{Pack, Unpack}
 use Rattle.rohcfn_words.specs.declared.words.End.{End}
@@ -42,6 +42,7 @@ use Rattle.fn_reasons.specs.declared.line.Line as reasons
 use Rattle.rohcfn_report.specs.Fields.{fields_text, head_text}
 use Rattle.rohcfn_report.specs.Reasons.{reasons_text}
 use Rattle.rohcfn_report.specs.Verdicts.{format_name, format_words, method_name}
+use Rattle.rohcfn_explain.specs.Explained.{Explained}
 use Rattle.rohcfn_report.specs.Drawing.{DrawnBy}
 use Rattle.rohcfn_report.specs.Linting.{LintedBy}
 use Rattle.rohcfn_report.specs.Reports.{ShownBy, CheckedOctets, ProvedOctets}
@@ -271,6 +272,10 @@ pub data Answered (order : Order) (parts : Parts) : Status → List ℕ → Type
       → CheckedOctets order.top.now profile.now (origin_of order.version parts.certificate) s output → Answered order parts s output
   proved : {s : Status} {output : List ℕ} (profile : Bor (List ℕ)) → parts.profile ≡ Some profile → order.command ≡ Prove
       → ProvedOctets order.version order.top.now profile.now s output → Answered order parts s output
+  check_explained : {s : Status} {output : List ℕ} (profile : Bor (List ℕ)) → parts.profile ≡ Some profile → order.command ≡ ExplainCheck
+      → Explained (CheckedOctets order.top.now profile.now (origin_of order.version parts.certificate)) s output → Answered order parts s output
+  prove_explained : {s : Status} {output : List ℕ} (profile : Bor (List ℕ)) → parts.profile ≡ Some profile → order.command ≡ ExplainProve
+      → Explained (ProvedOctets order.version order.top.now profile.now) s output → Answered order parts s output
   ran : {s : Status} {output : List ℕ} (profile : Bor (List ℕ)) (direction : Direction) → parts.profile ≡ Some profile → order.command ≡ Run direction
       → AnsweredRun direction Line order profile.now parts s output → Answered order parts s output
   told : {s : Status} {output : List ℕ} (profile : Bor (List ℕ)) (direction : Direction) → parts.profile ≡ Some profile → order.command ≡ Fields direction

@@ -8,6 +8,7 @@ use crate::lined::answer_line;
 use crate::printing::{Shape, pack_all, unpack_all};
 use fn_checker::Accepted;
 use fn_context::Context;
+use rohcfn_explain::explaining::{explain_check, explain_prove};
 use rohcfn_input::bundle::Parts;
 use rohcfn_input::inputs::{BadLine, read_context, read_items, read_packets};
 use rohcfn_input::refusals::refusal;
@@ -34,13 +35,18 @@ pub fn answer(alloc: Global, order: &Order<'_>, parts: &Parts<'_>) -> Result<Ans
     };
     match order.command {
         Command::Show => answer_listing(alloc, order.top, profile),
-        Command::Lint => answer_lint(alloc, order.top, profile),
+        Command::Lint => answer_lint(alloc, order.top, profile, parts.context),
         Command::Draw => answer_draw(alloc, order.top, profile),
         Command::Check => {
             let origin = Origin::of(order.version, parts);
             answer_check(alloc, order.top, profile, origin)
         }
         Command::Prove => answer_prove(alloc, order.version, order.top, profile),
+        Command::ExplainCheck => {
+            let origin = Origin::of(order.version, parts);
+            explain_check(alloc, order.top, profile, origin)
+        }
+        Command::ExplainProve => explain_prove(alloc, order.version, order.top, profile),
         Command::Run(direction) => {
             answer_run(alloc, direction, Shape::Line, order, profile, parts)
         }

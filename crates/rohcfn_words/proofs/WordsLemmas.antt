@@ -32,19 +32,19 @@ subcommand_read (Some b) (Some p) name rows =
     ap Some (λ i. (sym n i, sym r i))
 
 -- what a command's name and the values of its flags ask for
-pub asked_by_parts : (met : Option (List ℕ × List Row)) (name : List ℕ) (rows : List Row) (command : Option Command) (receives packs : Bool) (top : Option (List ℕ)) (context second wide : Bool) → met ≡ Some (name, rows)
-    → command ≡ command_named name receives packs
-    → receives ≡ is_set (first_of (codes "receive") rows) → packs ≡ is_set (first_of (codes "items") rows) → top ≡ first_of (codes "top") rows → context ≡ is_set (first_of (codes "context") rows) → second ≡ is_set (first_of (codes "v2") rows) → wide ≡ is_set (first_of (codes "wide") rows) → asked_by command top context second wide ≡ asked_in met
-asked_by_parts met name rows command receives packs top context second wide m c r p t s v w = (λ i. asked_by ((c ∙ (λ j. command_named name (r j) (p j))) i) (t i) (s i) (v i) (w i)) ∙ sym (ap asked_in m)
+pub asked_by_parts : (met : Option (List ℕ × List Row)) (name : List ℕ) (rows : List Row) (command : Option Command) (receives packs explains : Bool) (top : Option (List ℕ)) (context second wide : Bool) → met ≡ Some (name, rows)
+    → command ≡ command_named name receives packs explains
+    → receives ≡ is_set (first_of (codes "receive") rows) → packs ≡ is_set (first_of (codes "items") rows) → explains ≡ is_set (first_of (codes "explain") rows) → top ≡ first_of (codes "top") rows → context ≡ is_set (first_of (codes "context") rows) → second ≡ is_set (first_of (codes "v2") rows) → wide ≡ is_set (first_of (codes "wide") rows) → asked_by command top context second wide ≡ asked_in met
+asked_by_parts met name rows command receives packs explains top context second wide m c r p x t s v w = (λ i. asked_by ((c ∙ (λ j. command_named name (r j) (p j) (x j))) i) (t i) (s i) (v i) (w i)) ∙ sym (ap asked_in m)
 
 -- without the name of a method nothing is asked for
-pub asked_without_top : (met : Option (List ℕ × List Row)) (name : List ℕ) (rows : List Row) (command : Option Command) (receives packs : Bool) (top : Option (List ℕ)) → met ≡ Some (name, rows) → command ≡ command_named name receives packs
-    → receives ≡ is_set (first_of (codes "receive") rows) → packs ≡ is_set (first_of (codes "items") rows) → top ≡ first_of (codes "top") rows → top ≡ None → None ≡ asked_in met
-asked_without_top met name rows command receives packs top m c r p t none =
+pub asked_without_top : (met : Option (List ℕ × List Row)) (name : List ℕ) (rows : List Row) (command : Option Command) (receives packs explains : Bool) (top : Option (List ℕ)) → met ≡ Some (name, rows) → command ≡ command_named name receives packs explains
+    → receives ≡ is_set (first_of (codes "receive") rows) → packs ≡ is_set (first_of (codes "items") rows) → explains ≡ is_set (first_of (codes "explain") rows) → top ≡ first_of (codes "top") rows → top ≡ None → None ≡ asked_in met
+asked_without_top met name rows command receives packs explains top m c r p x t none =
     let context : Bool = is_set (first_of (codes "context") rows) in
     let second : Bool = is_set (first_of (codes "v2") rows) in
     let wide : Bool = is_set (first_of (codes "wide") rows) in
-    no_top command context second wide ∙ (λ i. asked_by command (sym none i) context second wide) ∙ asked_by_parts met name rows command receives packs top context second wide m c r p t refl refl refl
+    no_top command context second wide ∙ (λ i. asked_by command (sym none i) context second wide) ∙ asked_by_parts met name rows command receives packs explains top context second wide m c r p x t refl refl refl
   where
     no_top : (command : Option Command) (context second wide : Bool) → None ≡ asked_by command None context second wide
     no_top None context second wide = refl

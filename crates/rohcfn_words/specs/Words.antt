@@ -9,7 +9,7 @@ use Rattle.clap.specs.declared.error.kind.ErrorKind.TheVariants.{DisplayHelp, Ou
 use Rattle.fn_cert.specs.declared.certificate.Version.{Version}
 use Rattle.fn_cert.specs.declared.certificate.Version.TheVariants.{One, Two}
 use Rattle.rohcfn_words.specs.declared.words.Command.{Command}
-use Rattle.rohcfn_words.specs.declared.words.Command.TheVariants.{Show, Lint, Draw, Check, Prove, Run, Fields, Why, Line}
+use Rattle.rohcfn_words.specs.declared.words.Command.TheVariants.{Show, Lint, Draw, Check, Prove, ExplainCheck, ExplainProve, Run, Fields, Why, Line}
 use Rattle.rohcfn_words.specs.declared.words.Direction.{Direction}
 use Rattle.rohcfn_words.specs.declared.words.Direction.TheVariants.{Pack, Unpack}
 use Rattle.rohcfn_words.specs.declared.words.End.{End}
@@ -33,7 +33,7 @@ context_flag = record (new_rule (codes "context")) {
   action = Some SetTrue;
 }
 
--- `--items`, `--v2`, `--receive` and `--wide`, likewise
+-- `--items`, `--v2`, `--explain`, `--receive` and `--wide`, likewise
 abbrev pub items_flag : Rule
 items_flag = record (new_rule (codes "items")) {
   long = Some (codes "items");
@@ -43,6 +43,12 @@ items_flag = record (new_rule (codes "items")) {
 abbrev pub version_flag : Rule
 version_flag = record (new_rule (codes "v2")) {
   long = Some (codes "v2");
+  action = Some SetTrue;
+}
+
+abbrev pub explain_flag : Rule
+explain_flag = record (new_rule (codes "explain")) {
+  long = Some (codes "explain");
   action = Some SetTrue;
 }
 
@@ -66,6 +72,9 @@ with_top name = with_rule (new_app name) top_flag
 abbrev pub with_version : List ℕ → App
 with_version name = with_rule (with_top name) version_flag
 
+abbrev pub with_explain : List ℕ → App
+with_explain name = with_rule (with_version name) explain_flag
+
 abbrev pub with_flags : List ℕ → App
 with_flags name = with_rule (with_version name) context_flag
 
@@ -86,7 +95,7 @@ bare_program = on_top (λ top. record top { no_binary_name = true; subcommand_re
 -- with its commands
 unfoldable pub program : App
 program = with_subcommand (with_subcommand (with_subcommand (with_subcommand (with_subcommand (with_subcommand (with_subcommand (with_subcommand (with_subcommand (with_subcommand bare_program (with_flags (codes "pack")).top)
-    (with_flags (codes "unpack")).top) (with_items (codes "fields")).top) (with_items (codes "why")).top) (with_top (codes "show")).top) (with_top (codes "lint")).top) (with_top (codes "draw")).top) (with_version (codes "check")).top) (with_version (codes "prove")).top) (with_wide (codes "line")).top
+    (with_flags (codes "unpack")).top) (with_items (codes "fields")).top) (with_items (codes "why")).top) (with_top (codes "show")).top) (with_top (codes "lint")).top) (with_top (codes "draw")).top) (with_explain (codes "check")).top) (with_explain (codes "prove")).top) (with_wide (codes "line")).top
 
 -- a command, the name of a method, whether the last context is printed, the version of a certificate that is made, and whether the line is the wide one
 pub record Asked : Type 0 where
@@ -107,17 +116,24 @@ end_at receives = if receives then Receiving else Sending
 abbrev pub direction_at : Bool → Direction
 direction_at packs = if packs then Pack else Unpack
 
--- a command by its name, and by whether the receiving end and items are asked for
-abbrev pub command_named : List ℕ → Bool → Bool → Option Command
-command_named name receives packs = if bytes_eq name (codes "pack") then Some (Run Pack)
+-- `check` and `prove`, where explanations are asked for or not
+abbrev pub check_at : Bool → Command
+check_at explains = if explains then ExplainCheck else Check
+
+abbrev pub prove_at : Bool → Command
+prove_at explains = if explains then ExplainProve else Prove
+
+-- a command by its name, and by whether the receiving end, items and explanations are asked for
+abbrev pub command_named : List ℕ → Bool → Bool → Bool → Option Command
+command_named name receives packs explains = if bytes_eq name (codes "pack") then Some (Run Pack)
     else (if bytes_eq name (codes "unpack") then Some (Run Unpack)
     else (if bytes_eq name (codes "fields") then Some (Fields (direction_at packs))
     else (if bytes_eq name (codes "why") then Some (Why (direction_at packs))
     else (if bytes_eq name (codes "show") then Some Show
     else (if bytes_eq name (codes "lint") then Some Lint
     else (if bytes_eq name (codes "draw") then Some Draw
-    else (if bytes_eq name (codes "check") then Some Check
-    else (if bytes_eq name (codes "prove") then Some Prove
+    else (if bytes_eq name (codes "check") then Some (check_at explains)
+    else (if bytes_eq name (codes "prove") then Some (prove_at explains)
     else (if bytes_eq name (codes "line") then Some (Line (end_at receives)) else None)))))))))
 
 -- the flag was given
@@ -137,7 +153,7 @@ asked_by (Some command) (Some top) context second wide = Some (record { command 
 -- a command's name, and the values of its flags
 abbrev pub asked_in : Option (List ℕ × List Row) → Option Asked
 asked_in None = None
-asked_in (Some met) = asked_by (command_named met.0 (is_set (first_of (codes "receive") met.1)) (is_set (first_of (codes "items") met.1))) (first_of (codes "top") met.1) (is_set (first_of (codes "context") met.1)) (is_set (first_of (codes "v2") met.1)) (is_set (first_of (codes "wide") met.1))
+asked_in (Some met) = asked_by (command_named met.0 (is_set (first_of (codes "receive") met.1)) (is_set (first_of (codes "items") met.1)) (is_set (first_of (codes "explain") met.1))) (first_of (codes "top") met.1) (is_set (first_of (codes "context") met.1)) (is_set (first_of (codes "v2") met.1)) (is_set (first_of (codes "wide") met.1))
 
 -- words with a fault ask for nothing
 abbrev pub asked_unless : Kinds → Option (List ℕ × List Row) → Option Asked
@@ -192,6 +208,9 @@ pub record ReadsWords : Type 0 where
   pub lint : asked_of (codes "lint" ∷ codes "--top" ∷ codes "plain" ∷ []) ≡ Some (record { command = Lint; top = codes "plain"; shows_context = false; version = One; is_wide = false })
   pub lint_second : asked_of (codes "lint" ∷ codes "--top" ∷ codes "plain" ∷ codes "--v2" ∷ []) ≡ None
   pub draw : asked_of (codes "draw" ∷ codes "--top" ∷ codes "plain" ∷ []) ≡ Some (record { command = Draw; top = codes "plain"; shows_context = false; version = One; is_wide = false })
+  pub check_explain : asked_of (codes "check" ∷ codes "--top" ∷ codes "plain" ∷ codes "--explain" ∷ []) ≡ Some (record { command = ExplainCheck; top = codes "plain"; shows_context = false; version = One; is_wide = false })
+  pub prove_explain : asked_of (codes "prove" ∷ codes "--explain" ∷ codes "--top" ∷ codes "plain" ∷ []) ≡ Some (record { command = ExplainProve; top = codes "plain"; shows_context = false; version = One; is_wide = false })
+  pub pack_explain : asked_of (codes "pack" ∷ codes "--top" ∷ codes "plain" ∷ codes "--explain" ∷ []) ≡ None
   pub pack_items : asked_of (codes "pack" ∷ codes "--top" ∷ codes "plain" ∷ codes "--items" ∷ []) ≡ None
   pub pack_wide : asked_of (codes "pack" ∷ codes "--top" ∷ codes "plain" ∷ codes "--wide" ∷ []) ≡ None
   pub pack_receive : asked_of (codes "pack" ∷ codes "--top" ∷ codes "plain" ∷ codes "--receive" ∷ []) ≡ None

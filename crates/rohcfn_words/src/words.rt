@@ -2,7 +2,7 @@
 ghost use Rattle.std.specs.Prelude.{◌≡◌, ◌↔◌, None, Some, false, map, IfOk, IfErr, option_map};
 ghost use Rattle.clap.specs.Words.{app_of, kind_of, subcommand_rows_of};
 ghost use Rattle.clap.specs.declared.builder.command.Command.TheViews.{out-Command as fields_of};
-ghost use Rattle.rohcfn_words.specs.Words.{ReadsWords, RefusesError, RefusesWords, asked, asked_in, asked_of, command_named, direction_at, end_at, is_set, program, version_asked, with_flags, with_items, with_receive, with_top, with_version, with_wide};
+ghost use Rattle.rohcfn_words.specs.Words.{ReadsWords, RefusesError, RefusesWords, asked, asked_in, asked_of, check_at, command_named, direction_at, end_at, prove_at, is_set, program, version_asked, with_explain, with_flags, with_items, with_receive, with_top, with_version, with_wide};
 
 use clap::error::ErrorKind;
 use clap::{Arg, ArgAction, ArgMatches};
@@ -23,6 +23,10 @@ pub enum Command {
     Check,
     /// Makes a certificate for the part `profile`.
     Prove,
+    /// Checks likewise, and explains a refusal below its line.
+    ExplainCheck,
+    /// Makes one likewise, and explains a refusal below its line.
+    ExplainProve,
     /// Turns lines into lines by the part `profile`.
     Run(Direction),
     /// Lists for each line the fields of the filling that it belongs to.
@@ -85,7 +89,7 @@ impl From<AllocError> for WordsError {
 
 /// Reads the words that follow the program's name: a command, `pack`, `unpack`, `fields`, `why`, `show`, `lint`, `draw`,
 /// `check`, `prove` or `line`, and its flags: `--top NAME`, for all commands but `show`, `lint` and `draw` also `--v2`, for `pack`, `unpack`, `fields` and `why` also
-/// `--context`, for `fields` and `why` also `--items`, and for `line` also `--receive` and `--wide`.
+/// `--context`, for `fields` and `why` also `--items`, for `check` and `prove` also `--explain`, and for `line` also `--receive` and `--wide`.
 ///
 /// The clauses say it by clap's own account of a command line (`asked_of`), on which clap's parse is
 /// proved exact. Words that ask for help alone are no usage fault. The clauses say nothing of the text, and not
@@ -121,6 +125,7 @@ A bundle is read from standard input: parts, each after a line `=== PART`. For e
   rohcfn draw --top plain <BUNDLE            profile > a diagram of the packed bits of each format
   rohcfn prove --top plain <BUNDLE           profile > a certificate
   rohcfn check --top plain <BUNDLE           profile > `accepted`
+  rohcfn check --top plain --explain <BUNDLE the same, and below a refusal what explains it
   rohcfn pack --top plain <BUNDLE            profile, items > a line of bits for each item
   rohcfn unpack --top plain <BUNDLE          profile, packets > the item of each packet
   rohcfn fields --top plain <BUNDLE          profile, packets > the fields of each packet
@@ -172,13 +177,13 @@ fn program<'a>(alloc: Global) -> Result<clap::Command<'a>, AllocError>
         "Draws the packed bits of each format of the part profile",
     )?;
     let drawn = five.subcommand(draw)?;
-    let check = with_version(
+    let check = with_explain(
         alloc,
         "check",
         "Checks the part certificate against the part profile",
     )?;
     let six = drawn.subcommand(check)?;
-    let prove = with_version(alloc, "prove", "Makes a certificate for the part profile")?;
+    let prove = with_explain(alloc, "prove", "Makes a certificate for the part profile")?;
     let seven = six.subcommand(prove)?;
     let line = with_wide(alloc, "line", "Sends the part events on a line of flows")?;
     seven.subcommand(line)
@@ -218,6 +223,22 @@ fn with_version<'a>(
         .help("Makes a certificate of version 2, where none is given")
         .action(ArgAction::SetTrue);
     with_top(alloc, name, about)?.arg(second)
+}
+
+// A command that makes or checks a certificate, with the flags `--top`, `--v2` and `--explain`.
+fn with_explain<'a>(
+    alloc: Global,
+    name: &'a str,
+    about: &'a str,
+) -> Result<clap::Command<'a>, AllocError>
+    ensures app { IfOk result (λ command. app_of command ≡ with_explain name.entry.now) }
+    ensures local { IfOk result (λ command. (fields_of command).has_globals ≡ false) }
+{
+    let explain = Arg::new(alloc, "explain")
+        .long("explain")
+        .help("Explains a refusal below its line")
+        .action(ArgAction::SetTrue);
+    with_version(alloc, name, about)?.arg(explain)
 }
 
 // A command with the flags `--top`, `--v2` and `--context`.
@@ -291,7 +312,8 @@ fn order_in<'a>(matches: &ArgMatches<'a>) -> Option<Order<'a>>
     let (name, flags) = matches.subcommand()?;
     let receives = is_set(flags.get_str("receive"));
     let packs = is_set(flags.get_str("items"));
-    let command = command_of(name, receives, packs)?;
+    let explains = is_set(flags.get_str("explain"));
+    let command = command_of(name, receives, packs, explains)?;
     let top = flags.get_str("top")?;
     let shows_context = is_set(flags.get_str("context"));
     let version = version_asked(is_set(flags.get_str("v2")));
@@ -322,8 +344,8 @@ fn is_set(text: Option<&str>) -> bool
     }
 }
 
-fn command_of(name: &str, receives: bool, packs: bool) -> Option<Command>
-    ensures { result ≡ command_named name.now receives packs }
+fn command_of(name: &str, receives: bool, packs: bool, explains: bool) -> Option<Command>
+    ensures { result ≡ command_named name.now receives packs explains }
 {
     if name == "pack" {
         Some(Command::Run(Direction::Pack))
@@ -340,9 +362,9 @@ fn command_of(name: &str, receives: bool, packs: bool) -> Option<Command>
     } else if name == "draw" {
         Some(Command::Draw)
     } else if name == "check" {
-        Some(Command::Check)
+        Some(check_of(explains))
     } else if name == "prove" {
-        Some(Command::Prove)
+        Some(prove_of(explains))
     } else if name == "line" {
         Some(Command::Line(end_of(receives)))
     } else {
@@ -357,6 +379,26 @@ fn direction_of(packs: bool) -> Direction
         Direction::Pack
     } else {
         Direction::Unpack
+    }
+}
+
+fn check_of(explains: bool) -> Command
+    ensures { result ≡ check_at explains }
+{
+    if explains {
+        Command::ExplainCheck
+    } else {
+        Command::Check
+    }
+}
+
+fn prove_of(explains: bool) -> Command
+    ensures { result ≡ prove_at explains }
+{
+    if explains {
+        Command::ExplainProve
+    } else {
+        Command::Prove
     }
 }
 

@@ -1,7 +1,8 @@
 use Rattle.std.proofs.Common.{refl, subst}
 use Rattle.rohcfn_tool.specs.Lined.{Lined}
-use Rattle.rohcfn_tool.specs.Printed.{Answered, AnsweredRun, no_profile, shown, linted, drawn, checked, proved, ran, told, explained, lined}
+use Rattle.rohcfn_tool.specs.Printed.{Answered, AnsweredRun, no_profile, shown, linted, drawn, checked, proved, check_explained, prove_explained, ran, told, explained, lined}
 use Rattle.rohcfn_tool.specs.declared.printing.Shape.TheVariants.{Line, Tree, Why}
+use Rattle.rohcfn_explain.specs.Explained.{Explained}
 use Rattle.rohcfn_report.specs.Drawing.{DrawnBy}
 use Rattle.rohcfn_report.specs.Linting.{LintedBy}
 use Rattle.rohcfn_report.specs.Reports.{CheckedOctets, ProvedOctets, ShownBy}
@@ -31,6 +32,15 @@ returns-in-Check c =
 pub returns-in-Prove : goal.returns-in-Prove
 returns-in-Prove c =
     passed_on (ProvedOctets c.args.order.now.version c.args.order.now.top.now c.in-Some.profile.now) (Answered c.args.order.now c.args.parts.now) c.answer_prove.result (λ s out h. proved c.in-Some.profile c.in-Some.is c.in-Prove.is h) c.answer_prove.ensures
+
+pub returns-in-ExplainCheck : goal.returns-in-ExplainCheck
+returns-in-ExplainCheck c =
+    passed_on (Explained (CheckedOctets c.args.order.now.top.now c.in-Some.profile.now c.of-origin-in-ExplainCheck.result)) (Answered c.args.order.now c.args.parts.now) c.explain_check.result
+    (λ s out h. check_explained c.in-Some.profile c.in-Some.is c.in-ExplainCheck.is (subst (λ o. Explained (CheckedOctets c.args.order.now.top.now c.in-Some.profile.now o) s out) c.of-origin-in-ExplainCheck.ensures h)) c.explain_check.ensures
+
+pub returns-in-ExplainProve : goal.returns-in-ExplainProve
+returns-in-ExplainProve c =
+    passed_on (Explained (ProvedOctets c.args.order.now.version c.args.order.now.top.now c.in-Some.profile.now)) (Answered c.args.order.now c.args.parts.now) c.explain_prove.result (λ s out h. prove_explained c.in-Some.profile c.in-Some.is c.in-ExplainProve.is h) c.explain_prove.ensures
 
 pub returns-in-Run : goal.returns-in-Run
 returns-in-Run c =

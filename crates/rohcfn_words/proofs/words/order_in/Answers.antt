@@ -14,7 +14,8 @@ returns-in_err-top c =
     let top = c.in_err-top.ensures ∙ first_value-rows (found_of c.in_ok-name.flags.now) (codes "top") in
     let receives = c.is_set-receives.ensures ∙ ap is_set (c.get_str.ensures ∙ first_value-rows (found_of c.in_ok-name.flags.now) (codes "receive")) in
     let packs = c.is_set-packs.ensures ∙ ap is_set (c.get_str-2.ensures ∙ first_value-rows (found_of c.in_ok-name.flags.now) (codes "items")) in
-    ap (option_map asked) none ∙ asked_without_top _ _ _ (Some c.in_ok-command.command) c.is_set-receives.result c.is_set-packs.result None met c.in_ok-command.ensures receives packs top refl
+    let explains = c.is_set-explains.ensures ∙ ap is_set (c.get_str-3.ensures ∙ first_value-rows (found_of c.in_ok-name.flags.now) (codes "explain")) in
+    ap (option_map asked) none ∙ asked_without_top _ _ _ (Some c.in_ok-command.command) c.is_set-receives.result c.is_set-packs.result c.is_set-explains.result None met c.in_ok-command.ensures receives packs explains top refl
 
 pub returns : goal.returns
 returns c =
@@ -22,9 +23,10 @@ returns c =
     subcommand_read (out-ArgMatches c.args.matches.now).subcommand (Some (c.in_ok-name.name, c.in_ok-name.flags)) c.in_ok-name.ensures.name c.in_ok-name.ensures.rows in
     let receives = c.is_set-receives.ensures ∙ ap is_set (c.get_str.ensures ∙ first_value-rows (found_of c.in_ok-name.flags.now) (codes "receive")) in
     let packs = c.is_set-packs.ensures ∙ ap is_set (c.get_str-2.ensures ∙ first_value-rows (found_of c.in_ok-name.flags.now) (codes "items")) in
-    let second : c.is_set.result ≡ is_set (first_of (codes "v2") (rows_of (found_of c.in_ok-name.flags.now))) = c.is_set.ensures ∙ ap is_set (c.get_str-5.ensures ∙ first_value-rows (found_of c.in_ok-name.flags.now) (codes "v2")) in
-    let set = c.is_set-shows_context.ensures ∙ ap is_set (c.get_str-4.ensures ∙ first_value-rows (found_of c.in_ok-name.flags.now) (codes "context")) in
-    let wide = c.is_set-is_wide.ensures ∙ ap is_set (c.get_str-6.ensures ∙ first_value-rows (found_of c.in_ok-name.flags.now) (codes "wide")) in
-    let parts = asked_by_parts _ _ _ (Some c.in_ok-command.command) c.is_set-receives.result c.is_set-packs.result (Some c.in_ok-top.top.now) c.is_set-shows_context.result c.is_set.result c.is_set-is_wide.result met c.in_ok-command.ensures receives packs
+    let explains = c.is_set-explains.ensures ∙ ap is_set (c.get_str-3.ensures ∙ first_value-rows (found_of c.in_ok-name.flags.now) (codes "explain")) in
+    let second : c.is_set.result ≡ is_set (first_of (codes "v2") (rows_of (found_of c.in_ok-name.flags.now))) = c.is_set.ensures ∙ ap is_set (c.get_str-6.ensures ∙ first_value-rows (found_of c.in_ok-name.flags.now) (codes "v2")) in
+    let set = c.is_set-shows_context.ensures ∙ ap is_set (c.get_str-5.ensures ∙ first_value-rows (found_of c.in_ok-name.flags.now) (codes "context")) in
+    let wide = c.is_set-is_wide.ensures ∙ ap is_set (c.get_str-7.ensures ∙ first_value-rows (found_of c.in_ok-name.flags.now) (codes "wide")) in
+    let parts = asked_by_parts _ _ _ (Some c.in_ok-command.command) c.is_set-receives.result c.is_set-packs.result c.is_set-explains.result (Some c.in_ok-top.top.now) c.is_set-shows_context.result c.is_set.result c.is_set-is_wide.result met c.in_ok-command.ensures receives packs explains
     (c.in_ok-top.ensures ∙ first_value-rows (found_of c.in_ok-name.flags.now) (codes "top")) set second wide in
     ap (λ version. Some (record { command = c.in_ok-command.command; top = c.in_ok-top.top.now; shows_context = c.is_set-shows_context.result; version = version; is_wide = c.is_set-is_wide.result })) c.version_asked-version.ensures ∙ parts

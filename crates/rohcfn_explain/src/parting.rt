@@ -1,0 +1,74 @@
+//! What two formats are known to begin with, which no tree parts.
+
+use crate::places::{method_place, place_text};
+use fn_profile::Profile;
+use fn_trees::{Told, all_told};
+use rohcfn_report::verdicts::format_name;
+use std::alloc::{AllocError, Global};
+
+/// So many bits are shown at most.
+const SHOWN: u128 = 64;
+
+/// The first bits of two formats of a method, as far as they are known of all packets, and that this is no proof of two readings.
+pub(crate) fn tree_notes(
+    alloc: Global,
+    octets: &[u8],
+    profile: &Profile,
+    method: usize,
+    first: usize,
+    second: usize,
+) -> Result<String, AllocError> {
+    let methods = profile.methods();
+    let Some(found) = methods.get(method) else {
+        return Ok(String::new(alloc));
+    };
+    let Some(sizes) = profile.sizes().get(method) else {
+        return Ok(String::new(alloc));
+    };
+    let tolds = all_told(alloc, found.formats.as_slice(), sizes.formats.as_slice())?;
+    let Some(one) = tolds.get(first) else {
+        return Ok(String::new(alloc));
+    };
+    let Some(other) = tolds.get(second) else {
+        return Ok(String::new(alloc));
+    };
+    let count = shown(one, SHOWN).max(shown(other, SHOWN));
+    let place = place_text(alloc, octets, method_place(methods, method))?;
+    let bits = bits_text(alloc, one, count)?;
+    let others = bits_text(alloc, other, count)?;
+    format!(in alloc;
+        "{}{} begins with {}, {} with {}; a point is a bit that is not known\n{}this is no proof that a packet has two readings: only that no bit and no parameter parts the two\n",
+        place.as_str(),
+        format_name(methods, method, first),
+        bits.as_str(),
+        format_name(methods, method, second),
+        others.as_str(),
+        place.as_str()
+    )
+}
+
+/// How many bits are shown for a format: up to its last known one below the limit, and eight at least.
+fn shown(told: &Told, limit: u128) -> u128 {
+    let mut count: u128 = 8;
+    for offset in 0..limit {
+        if is_known(told, offset) {
+            count = count.max(offset.saturating_add(1));
+        }
+    }
+    count
+}
+
+fn is_known(told: &Told, offset: u128) -> bool {
+    told.bits.get(&offset).is_some()
+}
+
+fn bits_text(alloc: Global, told: &Told, count: u128) -> Result<String, AllocError> {
+    let mut text = String::new(alloc);
+    for offset in 0..count {
+        text.push(match told.bits.get(&offset) {
+            Some(bit) => { if *bit { '1' } else { '0' } }
+            None => '.',
+        })?;
+    }
+    Ok(text)
+}

@@ -1,0 +1,318 @@
+//! Which step of a plan waits first, and for what. All steps are taken that can be, as the prover takes them. Of the first side that is missing then, the first step
+//! is told that would give it, with the first fact that it lacks. A fact that a field was taken or called is followed to the step that takes or calls it.
+
+use crate::places::{constraint_place, format_at, method_place, naming_place, place_text};
+use fn_cert::{Direction, Fact, Rule, Step, Version};
+use fn_expr::Side;
+use fn_normal::{Format, FormatSizes, MethodSizes};
+use fn_order::FieldSide;
+use fn_plans::{Knowledge, rule_of};
+use fn_profile::Profile;
+use fn_source::Span;
+use rohcfn_report::verdicts::field_name;
+use sqlite_items::Items;
+use std::alloc::{AllocError, Global};
+
+/// A step with its rule.
+#[derive(Drop)]
+struct Possible {
+    step: Step,
+    rule: Rule,
+}
+
+/// What waits: a step for a fact, or nothing that would give the fact.
+#[derive(Clone, Copy)]
+struct Waiting {
+    step: Option<Step>,
+    fact: Fact,
+}
+
+/// The line of the first step that waits, of a format that has no plan in a direction, where these sides are missing.
+pub(crate) fn plan_notes(
+    alloc: Global,
+    octets: &[u8],
+    profile: &Profile,
+    version: Version,
+    method: usize,
+    format: usize,
+    direction: Direction,
+    sides: &[FieldSide],
+) -> Result<String, AllocError> {
+    let methods = profile.methods();
+    let Some(found) = format_at(methods, method, format) else {
+        return Ok(String::new(alloc));
+    };
+    let Some(sizes) = sizes_at(profile.sizes(), method, format) else {
+        return Ok(String::new(alloc));
+    };
+    let Some(first) = sides.get(0) else {
+        return Ok(String::new(alloc));
+    };
+    let steps = possible_steps(alloc, version, direction, profile.sizes(), sizes, found)?;
+    let known = closure(alloc, found, steps.as_slice())?;
+    let missing = Fact::BitsOf(first.side, first.field);
+    let waiting = first_waiting(&known, steps.as_slice(), missing, found.fields.len());
+    let place = place_of(found, waiting, method_place(methods, method));
+    let mut text = place_text(alloc, octets, place)?;
+    push_waiting(alloc, &mut text, profile, method, format, waiting)?;
+    Ok(text)
+}
+
+fn sizes_at(table: &[MethodSizes], method: usize, format: usize) -> Option<&FormatSizes> {
+    table.get(method)?.formats.get(format)
+}
+
+/// All steps that have a rule, field by field.
+fn possible_steps(
+    alloc: Global,
+    version: Version,
+    direction: Direction,
+    table: &[MethodSizes],
+    sizes: &FormatSizes,
+    format: &Format,
+) -> Result<Items<Possible>, AllocError> {
+    let mut found = Items::new(alloc);
+    for step in all_steps(alloc, format)?.as_slice() {
+        if let Some(rule) = rule_of(alloc, version, direction, table, sizes, format, *step)? {
+            found.push(Possible { step: *step, rule })?;
+        }
+    }
+    Ok(found)
+}
+
+fn all_steps(alloc: Global, format: &Format) -> Result<Items<Step>, AllocError> {
+    let mut steps = Items::new(alloc);
+    for field in 0..format.fields.len() {
+        steps.push(Step::Take(field))?;
+        steps.push(Step::Call(field))?;
+        steps.push(Step::Ask(field))?;
+        steps.push(Step::LibraryUp(field))?;
+        steps.push(Step::LibraryDown(field))?;
+        for number in 0..format.constraints.len() {
+            steps.push(Step::Solve(field, number))?;
+        }
+        push_lengths(
+            &mut steps,
+            field,
+            Side::Uncompressed,
+            format.constraints.len(),
+        )?;
+        push_lengths(
+            &mut steps,
+            field,
+            Side::Compressed,
+            format.constraints.len(),
+        )?;
+        steps.push(Step::Choose(field))?;
+    }
+    Ok(steps)
+}
+
+fn push_lengths(
+    steps: &mut Items<Step>,
+    field: usize,
+    side: Side,
+    constraints: usize,
+) -> Result<(), AllocError> {
+    steps.push(Step::MethodLength(field, side))?;
+    for number in 0..constraints {
+        steps.push(Step::ConstraintLength(field, side, number))?;
+    }
+    Ok(())
+}
+
+/// What is known where each step is taken that can be. Each round but the last learns one of five facts of a field.
+fn closure(alloc: Global, format: &Format, steps: &[Possible]) -> Result<Knowledge, AllocError> {
+    let mut known = Knowledge::at_start(alloc, format)?;
+    for _ in 0..format.fields.len().saturating_mul(5) {
+        if !learn_round(&mut known, steps) {
+            return Ok(known);
+        }
+    }
+    Ok(known)
+}
+
+/// Takes each step that can be taken and gives something new. Whether one was.
+fn learn_round(known: &mut Knowledge, steps: &[Possible]) -> bool {
+    let mut learns = false;
+    for possible in steps {
+        let gives = possible.rule.gives.as_slice();
+        if !known.has_all(gives) && known.enables(&possible.rule) {
+            known.learn_all(gives);
+            learns = true;
+        }
+    }
+    learns
+}
+
+/// The step that would give the fact, with what it lacks. From a field that wasn't taken or called it goes on, at most so many times.
+fn first_waiting(known: &Knowledge, steps: &[Possible], missing: Fact, turns: usize) -> Waiting {
+    let mut waiting = waiting_for(known, steps, missing);
+    for _ in 0..turns {
+        match waiting.fact {
+            Fact::Done(_) => waiting = waiting_for(known, steps, waiting.fact),
+            _ => return waiting,
+        }
+    }
+    waiting
+}
+
+/// The first step that would give the fact, with the first fact that it lacks.
+fn waiting_for(known: &Knowledge, steps: &[Possible], missing: Fact) -> Waiting {
+    for possible in steps {
+        if gives(&possible.rule, missing) {
+            for need in possible.rule.needs.as_slice() {
+                if !known.has(*need) {
+                    return Waiting {
+                        step: Some(possible.step),
+                        fact: *need,
+                    };
+                }
+            }
+        }
+    }
+    Waiting {
+        step: None,
+        fact: missing,
+    }
+}
+
+fn gives(rule: &Rule, fact: Fact) -> bool {
+    for given in rule.gives.as_slice() {
+        if is_same(*given, fact) {
+            return true;
+        }
+    }
+    false
+}
+
+fn is_same(one: Fact, other: Fact) -> bool {
+    match one {
+        Fact::LengthOf(side, field) => match other {
+            Fact::LengthOf(also, same) => side == also && field == same,
+            _ => false,
+        },
+        Fact::BitsOf(side, field) => match other {
+            Fact::BitsOf(also, same) => side == also && field == same,
+            _ => false,
+        },
+        Fact::Done(field) => match other {
+            Fact::Done(same) => field == same,
+            _ => false,
+        },
+    }
+}
+
+// ---- its place
+
+/// Where the step asks for the fact: the constraint, or the argument that names the field; else another place.
+fn place_of(format: &Format, waiting: Waiting, other: Span) -> Span {
+    match waiting_place(format, waiting) {
+        Some(place) => place,
+        None => other,
+    }
+}
+
+fn waiting_place(format: &Format, waiting: Waiting) -> Option<Span> {
+    match waiting.step? {
+        Step::ConstraintLength(_, _, number) => constraint_place(format, number),
+        Step::Solve(_, number) => constraint_place(format, number),
+        Step::Take(field) => argument_place(format, field, waiting.fact),
+        Step::Call(field) => argument_place(format, field, waiting.fact),
+        Step::LibraryUp(field) => argument_place(format, field, waiting.fact),
+        Step::LibraryDown(field) => argument_place(format, field, waiting.fact),
+        Step::MethodLength(field, _) => argument_place(format, field, waiting.fact),
+        Step::Choose(_) => None,
+        Step::Ask(_) => None,
+    }
+}
+
+fn argument_place(format: &Format, field: usize, fact: Fact) -> Option<Span> {
+    naming_place(format.fields.get(field)?, field_of(fact))
+}
+
+fn field_of(fact: Fact) -> usize {
+    match fact {
+        Fact::LengthOf(_, field) => field,
+        Fact::BitsOf(_, field) => field,
+        Fact::Done(field) => field,
+    }
+}
+
+// ---- its words
+
+fn push_waiting(
+    alloc: Global,
+    text: &mut String,
+    profile: &Profile,
+    method: usize,
+    format: usize,
+    waiting: Waiting,
+) -> Result<(), AllocError> {
+    let name = field_name(profile.methods(), method, format, field_of(waiting.fact));
+    let fact = fact_text(alloc, waiting.fact, name)?;
+    let words = match waiting.step {
+        Some(step) => {
+            let name = field_name(profile.methods(), method, format, field_in(step));
+            let step = step_text(alloc, step, name)?;
+            format!(in alloc; "{} waits for {}\n", step.as_str(), fact.as_str())?
+        }
+        None => format!(in alloc; "no step gives {}\n", fact.as_str())?,
+    };
+    text.push_str(words.as_str())
+}
+
+fn field_in(step: Step) -> usize {
+    match step {
+        Step::Take(field) => field,
+        Step::Call(field) => field,
+        Step::LibraryUp(field) => field,
+        Step::LibraryDown(field) => field,
+        Step::MethodLength(field, _) => field,
+        Step::ConstraintLength(field, _, _) => field,
+        Step::Solve(field, _) => field,
+        Step::Choose(field) => field,
+        Step::Ask(field) => field,
+    }
+}
+
+fn side_name(side: Side) -> &'static str {
+    match side {
+        Side::Uncompressed => "uncompressed",
+        Side::Compressed => "compressed",
+    }
+}
+
+fn fact_text(alloc: Global, fact: Fact, name: &str) -> Result<String, AllocError> {
+    match fact {
+        Fact::LengthOf(side, _) => {
+            format!(in alloc; "the length of the {} bits of {name}", side_name(side))
+        }
+        Fact::BitsOf(side, _) => format!(in alloc; "the {} bits of {name}", side_name(side)),
+        Fact::Done(_) => format!(in alloc; "the end of {name}, whose bits come before"),
+    }
+}
+
+fn step_text(alloc: Global, step: Step, name: &str) -> Result<String, AllocError> {
+    match step {
+        Step::Take(_) => format!(in alloc; "taking {name}"),
+        Step::Call(_) => format!(in alloc; "the call of {name}"),
+        Step::LibraryUp(_) => format!(in alloc; "the library method of {name}, up,"),
+        Step::LibraryDown(_) => format!(in alloc; "the library method of {name}, down,"),
+        Step::MethodLength(_, side) => {
+            format!(in alloc;
+                "the length of the {} bits of {name}, by its method,",
+                side_name(side)
+            )
+        }
+        Step::ConstraintLength(_, side, number) => {
+            format!(in alloc;
+                "the length of the {} bits of {name}, by constraint {number},",
+                side_name(side)
+            )
+        }
+        Step::Solve(_, number) => format!(in alloc; "the value of {name}, by constraint {number},"),
+        Step::Choose(_) => format!(in alloc; "choosing {name}"),
+        Step::Ask(_) => format!(in alloc; "asking for {name}"),
+    }
+}
