@@ -25,7 +25,8 @@ pub(crate) fn no_waits(alloc: Global, count: usize) -> Result<Items<Option<Fact>
     Ok(waits)
 }
 
-/// The first of the steps that is enabled and gives something new. A fact that a step needs and that isn't known is noted: until it is, the step isn't looked at.
+/// The first of the steps that is enabled and gives something new. A fact that a step needs and that isn't known is noted:
+/// until it is known, the step isn't looked at.
 pub(crate) fn next_step<'a, 's>(
     known: &Knowledge,
     format: &Format,
