@@ -1,0 +1,139 @@
+#!/usr/bin/env python3
+"""Processor time and memory of the worst texts that are known for `prove`, `check` and `show`, on the built program or on another that is given as an argument.
+
+Each text is within the limits. It is run once and has to end with status 0, within its bounds of time and memory. With a folder as the second argument what is
+printed is kept there, so that two programs can be compared."""
+import os
+import subprocess
+import sys
+import tempfile
+
+import measure
+
+TEXT = 1 << 20  # octets of a profile, or of a certificate
+
+
+def whole(words, profile, certificate=None):
+    parts = [("words", words + "\n"), ("profile", profile)] + ([("certificate", certificate)] if certificate else [])
+    return "".join("=== %s\n%s" % part for part in parts).encode()
+
+
+def repeated(operand, operators):
+    return "+".join([operand] * (operators + 1))
+
+
+def formats(count, listed):
+    """So many formats, each with a mark of its own before the fields that all of them list."""
+    return "".join("  COMPRESSED f%d { mark =:= '%s' [6]; %s }\n" % (it, format(it, "06b"), listed) for it in range(count))
+
+
+def constants(count):
+    return " ".join("h%d =:= uncompressed_value(8, 0) [8];" % it for it in range(count))
+
+
+def run(data, program):
+    """The status of one run, its processor time, its peak memory, and what it printed."""
+    with tempfile.TemporaryFile() as source, tempfile.TemporaryFile() as sink:
+        source.write(data)
+        source.seek(0)
+        child = subprocess.Popen([program], stdin=source, stdout=sink)
+        _, status, usage = os.wait4(child.pid, 0)
+        child.returncode = os.waitstatus_to_exitcode(status)
+        sink.seek(0)
+        return child.returncode, usage.ru_utime + usage.ru_stime, usage.ru_maxrss * 1024, sink.read()
+
+
+def stuffed(program, profile, line):
+    """The certificate that `prove` makes of the profile, with the line at the end of each plan as often as there is room."""
+    status, _, _, printed = run(whole("prove --top t", profile), program)
+    if status != 0:
+        sys.exit("no certificate: %s" % printed[:80].decode())
+    lines = printed.decode().splitlines()
+    starts = [it for it, text in enumerate(lines) if text == "read"]
+    times = (TEXT - len(printed)) // len(line) // (2 * len(starts))
+    out = []
+    for it, text in enumerate(lines):
+        # a plan ends before the writing one, and before the next format
+        if text == "write" or (starts and it > starts[0] and (text.startswith("format ") or text == "end")):
+            out += [line[:-1]] * times
+        out.append(text)
+    return "".join(it + "\n" for it in out)
+
+
+def waiting(program):
+    """120 conditions wait for the end of a chain of 60 fields: all that stands before their last operand is known sooner."""
+    tests = ["ENFORCE(s.UVALUE == %s+c59.CVALUE);" % repeated("THIS.ULENGTH", 248)] * 120
+    chain = "c0 =:= compressed_value(8, 0);" + "".join(" c%d =:= compressed_value(8, c%d.CVALUE);" % (it, it - 1) for it in range(1, 60))
+    last = "last =:= compressed_value(c59.CVALUE, 0);"
+    shared = "  UNCOMPRESSED { %s s [8]; %s }\n  CONTROL { %s %s %s }\n" % (constants(64), " ".join(tests[:60]), chain, last, " ".join(tests[60:]))
+    return whole("prove --top t", "t {\n%s%s}\n" % (shared, formats(64, "last;" + "".join(" c%d;" % it for it in range(60)))))
+
+
+def operands(program):
+    """Steps by a crc whose four arguments have 255 operators on THIS."""
+    size = repeated("THIS.ULENGTH", 255)
+    shared = "  UNCOMPRESSED { %s }\n  DEFAULT { c =:= crc(%s, %s, %s, THIS.UVALUE, %s); }\n" % (constants(126), size, size, size, size)
+    profile = "t {\n%s%s}\n" % (shared, formats(32, "c;"))
+    return whole("check --top t", profile, stuffed(program, profile, "library c down\n"))
+
+
+def steps(program):
+    """Steps by a condition of 250 operands on THIS."""
+    shared = "  UNCOMPRESSED { %s h [8]; ENFORCE(h.UVALUE == %s); }\n" % (constants(120), repeated("THIS.ULENGTH", 249))
+    profile = "t {\n%s%s}\n" % (shared, formats(40, "c =:= irregular(8);"))
+    return whole("check --top t", profile, stuffed(program, profile, "solve h 121\n"))
+
+
+def encodings(program):
+    """Encodings of DEFAULT of 255 operators, which each format of each method uses."""
+    default = " ".join("x%d =:= irregular(%s);" % (it, repeated("0", 255)) for it in range(126))
+    header = " ".join("x%d;" % it for it in range(126))
+    names = "".join("  COMPRESSED f%d { }\n" % it for it in range(64))
+    methods = "".join("m%d {\n  UNCOMPRESSED { %s }\n  DEFAULT { %s }\n%s}\n" % (it, header, default, names) for it in range(14))
+    calls = " ".join("c%d =:= m%d;" % (it, it) for it in range(14))
+    return whole("show --top t", methods + "t { UNCOMPRESSED { } COMPRESSED { %s } }\n" % calls)
+
+
+def brackets(program):
+    """Brackets of DEFAULT of 250 operands on THIS, in 64 formats."""
+    default = " ".join("h%d =:= irregular(8) [%s];" % (it, repeated("THIS.ULENGTH", 249)) for it in range(120))
+    header = " ".join("h%d [8];" % it for it in range(120))
+    profile = "t {\n  UNCOMPRESSED { %s }\n  DEFAULT { %s }\n%s}\n" % (header, default, formats(64, " ".join("h%d;" % it for it in range(120))))
+    return whole("prove --top t", profile)
+
+
+def conditions(program):
+    """1,270 calls of a method of 381 conditions of 254 operators. It stays heavy: each condition is judged in each call."""
+    test = "ENFORCE(%s==1);" % "*".join(["1"] * 254)
+    method = "m {\n  UNCOMPRESSED { %s }\n  CONTROL { %s }\n  COMPRESSED { %s }\n}\n" % ((" ".join([test] * 127),) * 3)
+    inner = "n {\n  UNCOMPRESSED { }\n  COMPRESSED { %s }\n}\n" % " ".join("x%d =:= m;" % it for it in range(127))
+    profile = method + inner + "t { UNCOMPRESSED { } COMPRESSED { mark =:= '1' [1]; %s } }\n" % " ".join("y%d =:= n;" % it for it in range(10))
+    return whole("unpack --top t", profile) + b"=== packets\n1:80\n"
+
+
+# seconds and MiB at most: three times what was measured
+BOUNDS = {waiting: (1, 36), operands: (6, 45), steps: (2, 45), encodings: (40, 10800), brackets: (4, 730), conditions: (30, 60)}
+
+
+def main(words):
+    program = words[0] if words else measure.PROGRAM
+    if not os.access(program, os.X_OK):
+        sys.exit("build the program first: (cd crates/rohcfn && rt run)")
+    good = True
+    print("| text | command | input octets | s | peak MiB | bounds |")
+    print("|---|---|---|---|---|---|")
+    for make, (seconds, room) in BOUNDS.items():
+        data = make(program)
+        status, took, peak, printed = run(data, program)
+        command = data.split(b"\n")[1].split()[0].decode()
+        print("| %s | %s | %d | %.2f | %d | %d s, %d MiB |" % (make.__name__, command, len(data), took, peak / measure.MIB, seconds, room), flush=True)
+        good = good and status == 0 and took <= seconds and peak <= room * measure.MIB
+        if words[1:]:
+            os.makedirs(words[1], exist_ok=True)
+            with open(os.path.join(words[1], make.__name__), "wb") as out:
+                out.write(printed)
+    measure.report("worst", good)
+
+
+if __name__ == "__main__":
+    main(sys.argv[1:])

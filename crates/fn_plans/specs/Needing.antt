@@ -1,0 +1,50 @@
+-- What a rule needs, by its parts, and what of it isn't known.
+use Rattle.std.specs.Prelude.{◌≡◌, ℕ, true, List, [], ◌∷◌, Option, None, not}
+use Rattle.std.specs.List.{flat_map, find}
+use Rattle.fn_expr.specs.declared.expr.Side.{Side}
+use Rattle.fn_expr.specs.declared.expr.Measure.{Measure}
+use Rattle.fn_expr.specs.declared.expr.Subject.TheVariants.{This}
+use Rattle.fn_normal.specs.declared.profile.Format.{Format}
+use Rattle.fn_cert.specs.declared.rule.Fact.{Fact}
+use Rattle.fn_cert.specs.declared.rule.Fact.TheVariants.{Done}
+use Rattle.fn_cert.specs.declared.rule.Rule.{Rule}
+use Rattle.fn_rules.specs.Facts.{fact_of, side_facts, inputs}
+use Rattle.fn_rules.specs.Rules.{listed_before, headers_before}
+use Rattle.fn_plans.specs.declared.needs.Need.{Need}
+use Rattle.fn_plans.specs.declared.needs.Need.TheVariants as need
+use Rattle.fn_plans.specs.declared.needs.NeedRule.{NeedRule}
+use Rattle.fn_plans.specs.declared.knowledge.FieldKnowledge.{FieldKnowledge}
+use Rattle.fn_plans.specs.declared.knowledge.Knowledge.{Knowledge}
+use Rattle.fn_plans.specs.Knowing.{shows_of, shows}
+
+-- the facts of a part
+abbrev pub facts_of : Format → Need → List Fact
+facts_of format (need.One x) = x ∷ []
+facts_of format (need.Told subject side measure) = side_facts format subject side measure
+facts_of format (need.Inputs e) = inputs format e.now
+facts_of format (need.ListedBefore i) = listed_before format i
+facts_of format (need.HeadersBefore i) = headers_before format i
+
+-- those of several parts
+abbrev pub facts_of_all : Format → List Need → List Fact
+facts_of_all format needs = flat_map (facts_of format) needs
+
+-- the rule with its facts
+abbrev pub told : Format → NeedRule → Rule
+told format r = record { needs = facts_of_all format r.needs; absent = r.absent; gives = r.gives }
+
+-- a rule that nothing hinders but what it needs
+abbrev pub free : List Need → List Fact → NeedRule
+free needs gives = record { needs = needs; absent = []; gives = gives }
+
+-- one that is followed once for a field
+abbrev pub once : ℕ → List Need → List Fact → NeedRule
+once i needs gives = record { needs = needs; absent = Done i ∷ []; gives = gives }
+
+-- the first of the facts that isn't known
+abbrev pub first_unknown : Knowledge → List Fact → Option Fact
+first_unknown known facts = find (λ x. not (shows known x)) facts
+
+-- what is marked is known of each field for which THIS stands
+abbrev pub IsSure : Knowledge → Format → FieldKnowledge → Type 0
+IsSure known format sure = (side : Side) (measure : Measure) → shows_of sure (fact_of side measure 0) ≡ true → first_unknown known (side_facts format This side measure) ≡ None
