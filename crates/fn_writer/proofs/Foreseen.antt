@@ -1,6 +1,6 @@
--- Why candidates fail where the filling inside the first call of their plan can't have its digit.
+-- Why candidates fail where the filling inside a call of their plan can't have its digit.
 use Rattle.std.proofs.Common.{◌≡◌, refl, sym, ◌∙◌, ap, subst, ℕ, ◌+◌, ◌*◌, ◌^◌, ◌<◌, ◌≤◌, Bool, true, List, [], ◌∷◌, ◌++◌, length, drop, arith}
-use Rattle.std.specs.Prelude.{ℤ, Some, None, slice_get, option_map, option_and_then}
+use Rattle.std.specs.Prelude.{ℤ, Option, Some, None, IfNone, slice_get, option_map, option_and_then}
 use Rattle.std.specs.Option.{unwrap_or}
 use Rattle.std.proofs.lemmas.Option.{same_Some}
 use Rattle.std.proofs.Math.Nat.{mul-le-mul_right}
@@ -30,6 +30,7 @@ use Rattle.fn_rules.specs.Counts.{callee, ways}
 use Rattle.fn_rules.specs.Rules.{choice}
 use Rattle.fn_rules.specs.Views.{view, side_at}
 use Rattle.fn_rules.proofs.Agree.{side_is, inner_is}
+use Rattle.fn_rules.proofs.Inputs.{declared_of, declared_in}
 use Rattle.fn_best.specs.declared.digits.Digits.{Digits}
 use Rattle.fn_best.specs.declared.digits.Start.{Start}
 use Rattle.fn_best.specs.Codes.{number, called_at, write_plan, IsCandidate}
@@ -39,9 +40,10 @@ use Rattle.fn_best.proofs.Kept.{reading_passes, reading_parts, ways_of_choice, w
 use Rattle.fn_best.proofs.Reading as digits
 use Rattle.fn_checker.specs.Accepted.{Accepting}
 use Rattle.fn_walk.specs.declared.place.Place.{Place}
-use Rattle.fn_writing.specs.Writing.{Begins as StandsIn}
+use Rattle.fn_writing.specs.Writing.{Begins as StandsIn, asked_before}
+use Rattle.fn_writing.proofs.Steps.{asked_at}
 use Rattle.fn_writer.specs.declared.told.Chosen.{Chosen}
-use Rattle.fn_writer.specs.Foreseeing.{HasSeen, StandsBefore, SeesOn, IsRefutedInside, by_values, by_start, AreRefutedInside}
+use Rattle.fn_writer.specs.Foreseeing.{IsAsked, IsAskedFor, HasSeen, StandsBefore, SeesOn, IsRefutedInside, by_values, by_start, AreRefutedInside}
 use Rattle.fn_writer.specs.Going.{Begins}
 use Rattle.fn_writer.specs.Refuting.{HasFalse, HaveBefore, Differs, operand}
 use Rattle.fn_writer.specs.Told.{HasChosen, told_numbers}
@@ -60,6 +62,10 @@ more_chosen : (f : Filling) (xs : List Chosen) (x : Chosen) → HasChosen f xs �
 more_chosen f [] x h e = (e, tt)
 more_chosen f (y ∷ ys) x h e = (h.0, more_chosen f ys x h.1 e)
 
+pub if_none : {A P : Type 0} (o : Option A) → P → IfNone o P
+if_none None h = h
+if_none (Some x) h = tt
+
 -- ---- steps before a call
 
 one_way : (counts : List ℕ) (format : Format) (one : Step) → ((i : ℕ) → one ≡ Call i → ⊥) → ((i : ℕ) → one ≡ Choose i → ⊥) → ways counts format one ≡ 1
@@ -73,7 +79,7 @@ one_way counts format (ConstraintLength i side k) no_call no_choice = refl
 one_way counts format (Solve i k) no_call no_choice = refl
 one_way counts format (Ask i) no_call no_choice = refl
 
-module _ (place : Place) (n : ℕ) (format : Format) (c : ℕ) where
+module _ (place : Place) (n : ℕ) (format : Format) (asked : List AskedValue) (c : ℕ) where
   abbrev methods : List Method
   methods = place.accepted.now.profile.methods
 
@@ -83,28 +89,28 @@ module _ (place : Place) (n : ℕ) (format : Format) (c : ℕ) where
   abbrev counts : List ℕ
   counts = place.accepted.now.counts
 
-  goes_by : (one : Step) → ways counts format one ≡ 1 → (old : Digits) (choices : List Chosen) → SeesOn place n format one c old choices old choices
+  goes_by : (one : Step) → ways counts format one ≡ 1 → (old : Digits) (choices : List Chosen) → SeesOn place n format asked one c old choices old choices
   goes_by one alone old choices later h =
       let reads = reading_passes methods cert counts h.checked.are_counts place.method n format one later c old alone h.reading in
-      record { sound = h.sound; checked = h.checked; format_is = h.format_is; reading = reads.after; told = λ f tried within. h.told f tried (reads.inside f within); room = h.room }
+      record { sound = h.sound; checked = h.checked; format_is = h.format_is; reading = reads.after; told = λ f is tried within. h.told f is tried (reads.inside f within); room = h.room }
 
   -- a step that is neither a call nor a choice
-  pub passes : (one : Step) → ((i : ℕ) → one ≡ Call i → ⊥) → ((i : ℕ) → one ≡ Choose i → ⊥) → (old : Digits) (choices : List Chosen) → SeesOn place n format one c old choices old choices
+  pub passes : (one : Step) → ((i : ℕ) → one ≡ Call i → ⊥) → ((i : ℕ) → one ≡ Choose i → ⊥) → (old : Digits) (choices : List Chosen) → SeesOn place n format asked one c old choices old choices
   passes one no_call no_choice = goes_by one (one_way counts format one no_call no_choice)
 
   -- a choice that has no width
-  pub passes_choice : (i : ℕ) → option_and_then (choice format i) (slice_get format.fields i) ≡ None → (old : Digits) (choices : List Chosen) → SeesOn place n format (Choose i) c old choices old choices
+  pub passes_choice : (i : ℕ) → option_and_then (choice format i) (slice_get format.fields i) ≡ None → (old : Digits) (choices : List Chosen) → SeesOn place n format asked (Choose i) c old choices old choices
   passes_choice i none = goes_by (Choose i) (ap (λ o. unwrap_or (option_map (λ (m : ℕ). 2 ^ m) o) 1) none)
 
   module _ (i width : ℕ) (is : option_and_then (choice format i) (slice_get format.fields i) ≡ Some width) where
     ways_is : 2 ^ width ≡ ways counts format (Choose i)
     ways_is = sym (ways_of_choice counts format i width is)
 
-    pub choice_parts : (old : Digits) (choices : List Chosen) → StandsBefore place n format (Choose i) c old choices → Divides (2 ^ width) old.span
+    pub choice_parts : (old : Digits) (choices : List Chosen) → StandsBefore place n format asked (Choose i) c old choices → Divides (2 ^ width) old.span
     choice_parts old choices w = reading_parts methods cert counts place.method n format (Choose i) w.later c old w.seen.reading (2 ^ width) ways_is
 
     pub chooses : (old new : Digits) (digit : ℕ) → IsNext (2 ^ width) old digit new → CarriesOn (2 ^ width) old digit new → (choices : List Chosen) →
-        SeesOn place n format (Choose i) c old choices new (choices ++ record { field = i; digit = digit } ∷ [])
+        SeesOn place n format asked (Choose i) c old choices new (choices ++ record { field = i; digit = digit } ∷ [])
     chooses old new digit split carries choices later h =
         let reads = carries methods cert counts h.checked.are_counts place.method n format (Choose i) later c ways_is h.reading in
         record {
@@ -112,19 +118,57 @@ module _ (place : Place) (n : ℕ) (format : Format) (c : ℕ) where
           checked = h.checked;
           format_is = h.format_is;
           reading = reads.after;
-          told = λ f tried within.
-              more_chosen f choices (record { field = i; digit = digit }) (h.told f tried (reads.inside f within)) (sym (digits.choice methods cert counts format f i) ∙ reads.theirs f tried within);
+          told = λ f is tried within.
+              more_chosen f choices (record { field = i; digit = digit }) (h.told f is tried (reads.inside f within)) (sym (digits.choice methods cert counts format f i) ∙ reads.theirs f tried within);
           room = λ m at. room_next (2 ^ width) c m digit old new split (h.room m at);
         }
 
+  -- an asked field has the value that is asked for
+  pub asks : (i digit : ℕ) → IsAskedFor format asked i digit → (old : Digits) (choices : List Chosen) → SeesOn place n format asked (Ask i) c old choices old (choices ++ record { field = i; digit = digit } ∷ [])
+  asks i digit it old choices later h =
+      let reads = reading_passes methods cert counts h.checked.are_counts place.method n format (Ask i) later c old refl h.reading in
+      record {
+        sound = h.sound;
+        checked = h.checked;
+        format_is = h.format_is;
+        reading = reads.after;
+        told = λ f theirs tried within. more_chosen f choices (record { field = i; digit = digit }) (h.told f theirs tried (reads.inside f within)) (ap num (own f theirs) ∙ it.digit_is);
+        room = h.room;
+      }
+    where
+      own : (f : Filling) → IsAsked place n asked f → side_at (view f) i Uncompressed ≡ it.value.bits
+      own f theirs =
+          let p = parts theirs.fits in
+          let one : p.format ≡ format = one_value (format_at methods place.method n) p.format format (ap (format_at methods place.method) (sym theirs.of_format) ∙ p.is_format) h.format_is in
+          let found = asked_at format.fields (level f) (subst (λ (z : Format). declared_of (level f) ≡ declared_in z.fields) one p.level_fits.shaped.declared_is) i it.field it.field_is it.is_asked in
+          let there : slice_get asked (asked_before format i) ≡ Some (record { name = it.field.declared.name; bits = side_at (view f) i Uncompressed }) = ap (λ z. slice_get z (asked_before format i)) (sym theirs.asked_are) ∙ found in
+          ap (λ (z : AskedValue). z.bits) (same_Some (record { name = it.field.declared.name; bits = side_at (view f) i Uncompressed }) it.value (sym there ∙ it.value_is))
+
+  pub way_parts : (i radix : ℕ) → radix ≡ ways counts format (Call i) → (old : Digits) (choices : List Chosen) → StandsBefore place n format asked (Call i) c old choices → Divides radix old.span
+  way_parts i radix ways_are old choices w = reading_parts methods cert counts place.method n format (Call i) w.later c old w.seen.reading radix ways_are
+
+  -- a call, whose digit is read
+  pub calls : (i radix : ℕ) → radix ≡ ways counts format (Call i) → (old new : Digits) (digit : ℕ) → IsNext radix old digit new → CarriesOn radix old digit new → (choices : List Chosen) →
+      SeesOn place n format asked (Call i) c old choices new choices
+  calls i radix ways_are old new digit split carries choices later h =
+      let reads = carries methods cert counts h.checked.are_counts place.method n format (Call i) later c ways_are h.reading in
+      record {
+        sound = h.sound;
+        checked = h.checked;
+        format_is = h.format_is;
+        reading = reads.after;
+        told = λ f is tried within. h.told f is tried (reads.inside f within);
+        room = λ m at. room_next radix c m digit old new split (h.room m at);
+      }
+
 -- where a plan begins
 pub sees : (place : Place) (c : ℕ) (start : Start) → Begins place c start → (plans : Plans) → write_plan place.accepted.now.certificate.methods place.method start.format ≡ Some plans →
-    (format : Format) → format_at place.accepted.now.profile.methods place.method start.format ≡ Some format → HasSeen place start.format format plans.write c start.digits []
-sees place c start b plans plans_are format format_is =
+    (format : Format) → format_at place.accepted.now.profile.methods place.method start.format ≡ Some format → (asked : List AskedValue) → HasSeen place start.format format asked plans.write c start.digits []
+sees place c start b plans plans_are format format_is asked =
     let Reads : Format → Plans → Type 0 =
     λ x y. IsReading place.accepted.now.profile.methods place.accepted.now.certificate.methods place.accepted.now.counts place.method start.format x y.write c start.digits in
     let reading = subst (Reads format) (same_Some b.plans plans (sym b.plans_are ∙ plans_are)) (subst (λ z. Reads z b.plans) (same_Some b.format format (sym b.format_is ∙ format_is)) b.reading) in
-    record { sound = b.sound; checked = b.checked; format_is = format_is; reading = reading; told = λ f tried within. tt; room = b.room }
+    record { sound = b.sound; checked = b.checked; format_is = format_is; reading = reading; told = λ f is tried within. tt; room = b.room }
 
 -- ---- the values that are known
 
@@ -215,7 +259,7 @@ fewer_fit radix digit many span within fits =
     let most : many * span ≤ radix * span = mul-le-mul_right span (omega (arith, within)) in
     omega (arith, most, fits)
 
-module _ (place : Place) (n : ℕ) (format : Format) (c i : ℕ) (old : Digits) (choices : List Chosen) (w : StandsBefore place n format (Call i) c old choices) (d : Field) (j : ℕ) (es : List Expr)
+module _ (place : Place) (n : ℕ) (format : Format) (asked : List AskedValue) (c i : ℕ) (old : Digits) (choices : List Chosen) (w : StandsBefore place n format asked (Call i) c old choices) (d : Field) (j : ℕ) (es : List Expr)
     (field_is : slice_get format.fields i ≡ Some d) (encoding_is : d.encoding ≡ encoding.Call j es) where
   abbrev all : List Method
   all = place.accepted.now.profile.methods
@@ -247,8 +291,8 @@ module _ (place : Place) (n : ℕ) (format : Format) (c i : ℕ) (old : Digits) 
       room_inside : digit + many ≤ radix
       room_inside = are.within radix radix_is
 
-      pub call_fails : vals (told_numbers format place.arguments.now choices) es ≡ Some vs → (skipped : ℕ) → skipped + next.rest ≡ many * next.span → ShareUpTo many next skipped → (asked : List AskedValue) → Fails place bits asked c skipped
-      call_fails values skipped sum up_to asked =
+      pub call_fails : vals (told_numbers format place.arguments.now choices) es ≡ Some vs → (skipped : ℕ) → skipped + next.rest ≡ many * next.span → ShareUpTo many next skipped → Fails place bits asked c skipped
+      call_fails values skipped sum up_to =
           let rest = next.rest in
           let span = next.span in
           let below = split.below in
@@ -273,7 +317,7 @@ module _ (place : Place) (n : ℕ) (format : Format) (c i : ℕ) (old : Digits) 
               let f_format = s.0.read.format_is in
               let p = parts begins.fits in
               let one : p.format ≡ format = one_value (format_at all place.method n) p.format format (ap (format_at all place.method) (sym f_format) ∙ p.is_format) w.seen.format_is in
-              let x = inside all (bits_at place.context.now) place.method place.arguments.now place.path.now format choices f p one (w.seen.told f tried s.0.within) i d j es field_is encoding_is vs values in
+              let x = inside all (bits_at place.context.now) place.method place.arguments.now place.path.now format choices f p one (w.seen.told f (record { fits = begins.fits; of_format = f_format; asked_are = begins.asked_are }) tried s.0.within) i d j es field_is encoding_is vs values in
               let numbered = digits.call all kept told format f i j x.inner called_is x.inner_is in
               let tried_inside = is_candidate all place.accepted.now.profile.sizes place.accepted.now.profile.top base.version kept base.are_sizes base.valid told (bits_at place.context.now) x.fits in
               let x_format = are.of_format x.inner tried_inside (subst (λ z. digit ≤ z) numbered s.1) (subst (λ z. z < digit + many) numbered s.2) in
@@ -282,10 +326,10 @@ module _ (place : Place) (n : ℕ) (format : Format) (c i : ℕ) (old : Digits) 
 -- ---- a choice
 
 -- where the header has other bits than the choices give it, those that share the digits fail
-pub choice_fails : (place : Place) (n : ℕ) (format : Format) (steps : List Step) (c : ℕ) (digits : Digits) (choices : List Chosen) → HasSeen place n format steps c digits choices →
+pub choice_fails : (place : Place) (n : ℕ) (format : Format) (asked : List AskedValue) (steps : List Step) (c : ℕ) (digits : Digits) (choices : List Chosen) → HasSeen place n format asked steps c digits choices →
     (sizes : FormatSizes) → sizes_at place.accepted.now.profile.sizes place.method n ≡ Some sizes → (bits : List Bool) → Differs place (told_numbers format place.arguments.now choices) format.fields sizes.fields bits →
-    (alike : ℕ) → alike + digits.rest ≡ digits.span → ShareDigits digits alike → (asked : List AskedValue) → Fails place bits asked c alike
-choice_fails place n format steps c digits choices seen sizes sizes_are bits differs alike count share asked = record {
+    (alike : ℕ) → alike + digits.rest ≡ digits.span → ShareDigits digits alike → Fails place bits asked c alike
+choice_fails place n format asked steps c digits choices seen sizes sizes_are bits differs alike count share = record {
   some = let below = seen.reading.below in omega (arith, below, count);
   within = λ m at. let room = seen.room m at in omega (arith, room, count);
   none = λ f begins from to.
@@ -295,5 +339,5 @@ choice_fails place n format steps c digits choices seen sizes sizes_are bits dif
       let base = seen.checked in
       let tried = is_candidate methods place.accepted.now.profile.sizes place.accepted.now.profile.top base.version entries base.are_sizes base.valid counts (bits_at place.context.now) begins.fits in
       let s = share methods entries counts place.method n format steps c seen.reading f tried from to in
-      no_other place seen.sound n bits asked f begins s.read.format_is format choices (seen.told f tried s.within) sizes seen.format_is sizes_are differs;
+      no_other place seen.sound n bits asked f begins s.read.format_is format choices (seen.told f (record { fits = begins.fits; of_format = s.read.format_is; asked_are = begins.asked_are }) tried s.within) sizes seen.format_is sizes_are differs;
 }
