@@ -1,9 +1,10 @@
 -- What the octets so far of a packet say, and the octets that come piece by piece.
-use Rattle.std.proofs.Common.{◌≡◌, ◌∙◌, refl, sym, ap, subst, ℕ, zero, suc, ◌+◌, ◌<◌, ◌≤◌, ◌^◌, List, [], ◌∷◌, ◌++◌, length, take, drop, get_or, arith, append_assoc, ◌⊎◌, inl, inr}
-use Rattle.std.specs.Prelude.{slice_get, slice_set, Some, None}
-use Rattle.std.proofs.lemmas.List.{take_more, take-append-drop, append-nil, length-set}
+use Rattle.std.proofs.Common.{◌≡◌, ◌∙◌, refl, sym, ap, subst, ℕ, zero, suc, ◌+◌, ◌-◌, ◌<◌, ◌≤◌, ◌^◌, List, [], ◌∷◌, ◌++◌, length, take, drop, get_or, arith, append_assoc, ◌⊎◌, inl, inr}
+use Rattle.std.specs.Prelude.{slice_get, slice_set, Option, Some, None}
+use Rattle.std.proofs.lemmas.List.{take_more, take-append-drop, take-take, append-nil, drop_more, take_all, length-drop, length-set, length-take}
 use Rattle.std.proofs.lemmas.Option.{slice_get_within, slice_get-get_or}
 use Rattle.std.proofs.lemmas.Bool.{cases_lt}
+use Rattle.fn_bits.proofs.Lists.{take_add}
 use Rattle.fn_context.specs.Entries.{Entries}
 use Rattle.fn_filling.specs.declared.filling.Item.{Item}
 use Rattle.fn_filling.specs.Fillings.{item}
@@ -12,8 +13,8 @@ use Rattle.fn_fits.proofs.Sized.{one_value}
 use Rattle.fn_checker.specs.Accepted.{Accepting}
 use Rattle.fn_line.specs.Lines.{Contexts, reset_octet}
 use Rattle.fn_line.specs.Hearing.{Found, Whole, NoFront, IsPart, Heard, BlamesOctet, packet, reset, nothing, begun, waits, goes_on}
-use Rattle.fn_line.specs.States.{Receiving, Hears, Stops, Fails, FailsIn, FailsAt}
-use Rattle.fn_line.specs.Steps.{IsFresh, IsTaken, IsAwaited, BlamesPacket, IsNew, BlamesBegun, IsHeard}
+use Rattle.fn_line.specs.States.{Receiving, Hears, HearsFirst, Stops, Fails, FailsIn, FailsAt}
+use Rattle.fn_line.specs.Steps.{IsFresh, IsTaken, IsAwaited, BlamesPacket, IsNew, BlamesBegun, IsHeard, IsHeardWhole}
 use Rattle.fn_line.specs.declared.fault.LineFault.{LineFault}
 use Rattle.fn_line.specs.declared.fault.LineFault.TheVariants.{FlowOctet, RefusedPacket, Padding, Ended, OutOfMemory}
 use Rattle.fn_line.proofs.Cases.{BegunParts, part_parts}
@@ -76,6 +77,22 @@ heard_taken p s all octets rest first place flow ctx new it e same flows there t
     goes_on (first ∷ octets) [] ((first, item taken.filling) ∷ []) [] (slice_set s first (next ctx taken.filling)) (e ∙ sym (append-nil (first ∷ octets))) found whole (waits nothing) in
     let done : IsHeard p s (slice_set s first (next ctx taken.filling)) all [] ((flow, it) ∷ []) = record { heard = heard; part = nothing; few = omega arith; flows = length-set s first (next ctx taken.filling) } in
     subst (λ r. IsHeard p s (slice_set s place new) all r ((flow, it) ∷ [])) (sym none) (subst (λ t. IsHeard p s t all [] ((flow, it) ∷ [])) after done)
+
+-- a whole packet that is told at once: the flow's octet, and so many of those after it
+pub heard_whole : (p : Accepting) (s : Contexts) (octets more : List ℕ) (first place flow n : ℕ) (ctx new : Entries) (it : Item) → 0 < length octets → first ≡ get_or octets 0 0 → (m : ℕ) → more ≡ take m (drop 1 octets) → n ≤ length more →
+    place ≡ first → flow ≡ first → slice_get s place ≡ Some ctx → IsTaken p ctx new (take n more) it → IsHeardWhole p s (slice_set s place new) octets (n + 1) ((flow, it) ∷ [])
+heard_whole p s [] more first place flow n ctx new it some first_is m more_are few same flows there taken = absurd (omega arith)
+heard_whole p s (x ∷ xs) more first place flow n ctx new it some first_is m more_are few same flows there taken =
+    let count : length more ≤ length xs = subst (λ z. length z ≤ length xs) (sym more_are) (omega (arith, length-take m xs)) in
+    let within : n ≤ m = omega (arith, few, ap length more_are, length-take m xs) in
+    let front : take n more ≡ take n xs = ap (take n) more_are ∙ take-take n m xs within in
+    let one_more : n + 1 ≡ suc n = omega arith in
+    let is : take (n + 1) (x ∷ xs) ≡ first ∷ take n more = ap (λ k. take k (x ∷ xs)) one_more ∙ (λ i. sym first_is i ∷ sym front i) in
+    record {
+      some = omega arith;
+      within = omega (arith, count, few);
+      heard = (heard_taken p s (take (n + 1) (x ∷ xs)) (take n more) [] first place flow ctx new it is same flows there taken refl).heard;
+    }
 
 pub heard_reset : (p : Accepting) (s : Contexts) (all octets rest : List ℕ) (first flow place flows : ℕ) (new : Entries) → IsNew p s all → length s ≡ flows → all ≡ first ∷ octets → first ≡ reset_octet flows flow → flow < flows →
     place ≡ flow → new ≡ [] → rest ≡ [] → IsHeard p s (slice_set s place new) all rest []
@@ -160,20 +177,43 @@ hears_nothing old well part = record {
   heard = subst (λ o. Heard old.accepted old.contexts o [] old.rest old.contexts) (sym (append-nil old.rest)) (waits part);
 }
 
-pub hears_more : (old mid new : Receiving) (piece : List ℕ) (i octet : ℕ) (found more : Found) → i < length piece → octet ≡ get_or piece i 0 → Hears old mid (take i piece) found → Hears mid new (octet ∷ []) more →
-    Hears old new (take (i + 1) piece) (found ++ more)
-hears_more old mid new piece i octet found more within is a b =
-    let next_octet : take (i + 1) piece ≡ take i piece ++ octet ∷ [] = take_more piece i 0 within ∙ ap (λ o. take i piece ++ o ∷ []) (sym is) in
-    let b_heard : Heard old.accepted mid.contexts (mid.rest ++ octet ∷ []) more new.rest new.contexts = subst (λ p. Heard p mid.contexts (mid.rest ++ octet ∷ []) more new.rest new.contexts) a.accepted_is b.heard in
-    let joined : Heard old.accepted old.contexts ((old.rest ++ take i piece) ++ octet ∷ []) (found ++ more) new.rest new.contexts =
-    heard_join old.accepted old.contexts mid.contexts new.contexts (old.rest ++ take i piece) (octet ∷ []) mid.rest new.rest found more a.heard b_heard in
-    let octets : (old.rest ++ take i piece) ++ octet ∷ [] ≡ old.rest ++ take (i + 1) piece = append_assoc old.rest (take i piece) (octet ∷ []) ∙ ap (λ o. old.rest ++ o) (sym next_octet) in
+-- a whole packet, after which nothing is left
+pub hears_whole : (p : Accepting) (s t : Contexts) (rest left : List ℕ) (fault : Option LineFault) (octets : List ℕ) (n : ℕ) (found : Found) → rest ≡ [] → left ≡ [] → fault ≡ None → IsHeardWhole p s t octets n found →
+    HearsFirst (record { accepted = p; contexts = s; rest = rest; fault = fault }) (record { accepted = p; contexts = t; rest = left; fault = fault }) octets n found
+hears_whole p s t rest left fault octets n found none empty well h = record {
+  some = h.some;
+  within = h.within;
+  hears = record {
+    accepted_is = refl;
+    well_before = well;
+    well = well;
+    heard = subst (λ r. Heard p s (r ++ take n octets) found left t) (sym none) (subst (λ r. Heard p s (take n octets) found r t) (sym empty) h.heard);
+  };
+}
+
+-- one octet
+pub hears_octet : (old new : Receiving) (octets : List ℕ) (octet : ℕ) (found : Found) → 0 < length octets → octet ≡ get_or octets 0 0 → Hears old new (octet ∷ []) found → HearsFirst old new octets 1 found
+hears_octet old new [] octet found some is h = absurd (omega arith)
+hears_octet old new (x ∷ xs) octet found some is h = record { some = omega arith; within = omega arith; hears = subst (λ o. Hears old new (o ∷ []) found) is h }
+
+-- so many more, after so many
+pub hears_further : (old mid new : Receiving) (piece octets : List ℕ) (place n : ℕ) (found more : Found) → octets ≡ drop place piece → Hears old mid (take place piece) found → HearsFirst mid new octets n more → Hears old new (take (place + n) piece) (found ++ more)
+hears_further old mid new piece octets place n found more are a b =
+    let b_heard : Heard old.accepted mid.contexts (mid.rest ++ take n octets) more new.rest new.contexts = subst (λ p. Heard p mid.contexts (mid.rest ++ take n octets) more new.rest new.contexts) a.accepted_is b.hears.heard in
+    let joined : Heard old.accepted old.contexts ((old.rest ++ take place piece) ++ take n octets) (found ++ more) new.rest new.contexts =
+    heard_join old.accepted old.contexts mid.contexts new.contexts (old.rest ++ take place piece) (take n octets) mid.rest new.rest found more a.heard b_heard in
+    let all : (old.rest ++ take place piece) ++ take n octets ≡ old.rest ++ take (place + n) piece =
+    append_assoc old.rest (take place piece) (take n octets) ∙ ap (λ o. old.rest ++ (take place piece ++ take n o)) are ∙ ap (λ o. old.rest ++ o) (sym (take_add place n piece)) in
     record {
-      accepted_is = b.accepted_is ∙ a.accepted_is;
+      accepted_is = b.hears.accepted_is ∙ a.accepted_is;
       well_before = a.well_before;
-      well = b.well;
-      heard = subst (λ o. Heard old.accepted old.contexts o (found ++ more) new.rest new.contexts) octets joined;
+      well = b.hears.well;
+      heard = subst (λ o. Heard old.accepted old.contexts o (found ++ more) new.rest new.contexts) all joined;
     }
+
+-- memory ran out at the octet
+pub fails_at : (p : Accepting) (s t : Contexts) (rest left : List ℕ) (fault : Option LineFault) (octet : ℕ) → FailsAt (record { accepted = p; contexts = s; rest = rest; fault = fault }) (record { accepted = p; contexts = t; rest = left; fault = Some OutOfMemory }) octet OutOfMemory
+fails_at p s t rest left fault octet = record { accepted_is = refl; kept = refl; blames = tt }
 
 pub fails_more : (old mid new : Receiving) (piece : List ℕ) (i octet : ℕ) (found : Found) (e : LineFault) → i < length piece → octet ≡ get_or piece i 0 → Hears old mid (take i piece) found → FailsAt mid new octet e →
     Fails old new piece found e
@@ -192,3 +232,20 @@ fails_more old mid new piece i octet found e within is a b =
       blames = subst (λ p. BlamesOctet e p mid.contexts mid.rest octet) a.accepted_is b.blames;
     } in
     record { accepted_is = b.accepted_is ∙ a.accepted_is; kept = b.kept; comes = subst (λ f. FailsIn f old piece found e) (sym a.well_before) stops }
+
+-- what is left of a piece from a place on
+abbrev pub slice_from : List ℕ → ℕ → List ℕ
+slice_from piece place = take (length piece - place) (drop place piece)
+
+pub slice_left : (piece : List ℕ) (place : ℕ) → slice_from piece place ≡ drop place piece
+slice_left piece place = take_all (length piece - place) (drop place piece) (omega (arith, length-drop place piece))
+
+pub within_piece : (piece octets : List ℕ) (place n : ℕ) → octets ≡ drop place piece → place ≤ length piece → n ≤ length octets → place + n ≤ length piece
+within_piece piece octets place n are within few =
+    let count : length octets ≡ length (drop place piece) = ap length are in
+    omega (arith, length-drop place piece, count, within, few)
+
+pub fails_next : (old mid new : Receiving) (piece octets : List ℕ) (place : ℕ) (found : Found) (e : LineFault) → place < length piece → octets ≡ drop place piece → Hears old mid (take place piece) found →
+    FailsAt mid new (get_or octets 0 0) e → Fails old new piece found e
+fails_next old mid new piece octets place found e within are hears fails =
+    fails_more old mid new piece place (get_or octets 0 0) found e within (ap (λ o. get_or o 0 0) (are ∙ drop_more piece place 0 within)) hears fails

@@ -1,9 +1,11 @@
 -- What trying a packet says of its octets.
-use Rattle.std.proofs.Common.{◌≡◌, ◌∙◌, refl, sym, ap, subst, ℕ, ◌+◌, ◌*◌, ◌<◌, ◌≤◌, ◌^◌, Bool, false, List, [], ◌∷◌, ◌++◌, length, replicate, arith, length-append, ◌⊎◌, inl, inr}
+use Rattle.std.proofs.Common.{◌≡◌, ◌∙◌, refl, sym, ap, subst, ℕ, ◌+◌, ◌*◌, ◌/◌, ◌<◌, ◌≤◌, ◌^◌, Bool, false, List, [], ◌∷◌, ◌++◌, length, replicate, take, drop, arith, length-append, append_assoc, ◌⊎◌, inl, inr}
 use Rattle.std.proofs.lemmas.Bool.{cases_lt}
 use Rattle.hex.specs.Hex.{IsBytes}
 use Rattle.fn_bits.specs.Number.{enc}
-use Rattle.fn_bits.specs.Octets.{bits_of}
+use Rattle.fn_bits.specs.Octets.{bits_of, Holds}
+use Rattle.fn_bits.proofs.Held.{split_same}
+use Rattle.std.proofs.lemmas.List.{take-append-drop}
 use Rattle.fn_bits.specs.Cursor.{Place, Advances}
 use Rattle.fn_bits.proofs.Octets.{length-bits_of, bits_of-push}
 use Rattle.fn_context.specs.Entries.{Entries, overridden}
@@ -15,7 +17,7 @@ use Rattle.fn_checker.specs.Accepted.{Accepting}
 use Rattle.fn_engine.specs.Reading.{Fitting, Fronts, IsTruncated}
 use Rattle.fn_engine.specs.Reading as reading
 use Rattle.fn_line.specs.Steps.{IsFresh, IsTaken, IsAwaited, HasBadPadding}
-use Rattle.fn_line.proofs.Octets.{front_of}
+use Rattle.fn_line.proofs.Octets.{bits_of-append, count_held, front_of}
 
 pub last_of : {A : Type 0} (xs : List A) → 0 < length xs → (before : List A) × (last : A) × (xs ≡ before ++ last ∷ [])
 last_of [] h = absurd (omega arith)
@@ -60,6 +62,40 @@ pub badly_filled : (p : Accepting) (old : Entries) (octets : List ℕ) (bits : L
 badly_filled p old octets bits f from to bits_are fresh fits_f begins at not_zero =
     let front : bits_of octets ≡ packed f ++ to.left = sym bits_are ∙ ap (λ c. c.left) (sym begins) ∙ at.left in
     record { filling = f; padding = to.left; fits = fits_f; bits_are = front; few = few_left p old octets f to.left fresh fits_f front; not_zero = not_zero }
+
+-- ---- a packet that is told at once
+
+-- so many octets hold the packed bits, which are at the front of them all
+pub count_within : (octets : List ℕ) (all bits : List Bool) (from to : Place) (count : ℕ) → Holds octets all → from ≡ record { used = []; left = all } → Advances from to bits → count ≡ length bits → (count + 7) / 8 ≤ length octets
+count_within octets all bits from to count held begins at is =
+    let front : all ≡ bits ++ to.left = ap (λ c. c.left) (sym begins) ∙ at.left in
+    let bits_count : length all ≡ length bits + length to.left = ap length front ∙ length-append bits to.left in
+    let octets_count : 8 * length octets ≡ length all + held.padding = count_held octets all held in
+    omega (arith, is, bits_count, octets_count)
+
+pub told_at_once : (p : Accepting) (old new : Entries) (octets : List ℕ) (n : ℕ) (all own : List Bool) (f : Filling) (from to : Place) (es : Entries) (it : Item) → Holds octets all → Fitting p old f →
+    from ≡ record { used = []; left = all } → Advances from to (packed f) → Holds (take n octets) own → length own ≡ length (packed f) → es ≡ entries f → new ≡ overridden old es → it ≡ item f → IsTaken p old new (take n octets) it
+told_at_once p old new octets n all own f from to es it held fits_f begins at own_held count entries_are next_is item_is = record {
+  filling = f;
+  fits = fits_f;
+  holds = subst (Holds (take n octets)) same own_held;
+  next_is = next_is ∙ ap (overridden old) entries_are;
+  item_is = item_is;
+}
+  where
+    front : all ≡ packed f ++ to.left
+    front = ap (λ c. c.left) (sym begins) ∙ at.left
+
+    parted : bits_of octets ≡ own ++ (replicate own_held.padding false ++ bits_of (drop n octets))
+    parted =
+        ap bits_of (sym (take-append-drop n octets)) ∙ bits_of-append (take n octets) (drop n octets) ∙ ap (λ b. b ++ bits_of (drop n octets)) own_held.filled
+        ∙ append_assoc own (replicate own_held.padding false) (bits_of (drop n octets))
+
+    whole : bits_of octets ≡ packed f ++ (to.left ++ replicate held.padding false)
+    whole = held.filled ∙ ap (λ b. b ++ replicate held.padding false) front ∙ append_assoc (packed f) to.left (replicate held.padding false)
+
+    same : own ≡ packed f
+    same = (split_same own (packed f) (replicate own_held.padding false ++ bits_of (drop n octets)) (to.left ++ replicate held.padding false) count (sym parted ∙ whole)).0
 
 pub awaited : (p : Accepting) (old new : Entries) (octets : List ℕ) (bits left : List Bool) → bits ≡ bits_of octets → left ≡ bits → IsTruncated p old left → new ≡ old → IsAwaited p old new octets
 awaited p old new octets bits left bits_are begins blames same =

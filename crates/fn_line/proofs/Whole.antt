@@ -6,7 +6,6 @@ use Rattle.std.specs.Option.{option_map}
 use Rattle.std.proofs.lemmas.List.{take_more, take-map, map-append, append-nil}
 use Rattle.std.proofs.lemmas.Option.{slice_get-map, slice_get-get_or}
 use Rattle.std.proofs.lemmas.Grind.{flat_map-append}
-use Rattle.fn_fits.specs.Fronts.{Det}
 use Rattle.fn_checker.specs.Accepted.{Accepting}
 use Rattle.fn_engine.specs.declared.writer.PackFault.{PackFault}
 use Rattle.fn_engine.specs.declared.writer.PackFault.TheVariants.{HeaderLength, Asked, NoFormat, Flow}
@@ -19,8 +18,7 @@ use Rattle.fn_line.specs.States.{Sending, Receiving, BlamesAct, IsNotPut, IsPut,
 use Rattle.fn_line.specs.declared.fault.LineFault.{LineFault}
 use Rattle.fn_line.specs.declared.fault.LineFault.TheVariants.{FlowOctet, RefusedPacket, Padding, Ended, OutOfMemory}
 use Rattle.fn_line.proofs.Flows.{lines_join, line_is_heard}
-use Rattle.fn_line.proofs.Hearings.{heard_join, heard_once}
-use Rattle.fn_line.proofs.Faults.{no_fault}
+use Rattle.fn_line.proofs.Hearings.{heard_join}
 use Rattle.fn_line.specs.declared.runs.Event.{Event}
 use Rattle.fn_line.specs.declared.flow.LineVersion.{LineVersion}
 use Rattle.fn_line.specs.Runs.{event_of, ArePut, IsStopped, BlamesRun, run_fault, IsRun, IsWhole, IsCut, IsReceived}
@@ -44,37 +42,17 @@ one_put old mid new events i e before here after octets within is puts one after
       after_is = after_is ∙ ap (λ z. z ++ octets) puts.after_is ∙ append_assoc before (octets_of puts.packets) octets ∙ ap (λ z. before ++ z) (sym out);
     }
 
--- a new sender's octets, heard by a new receiver
-pub is_run : (v : LineVersion) (p : Accepting) → Det p.profile.methods p.profile.top → (old new : Sending) (from to : Receiving) (es : List lines.Event) (octets : List ℕ) (before found items : Found) → old ≡ record { accepted = p; contexts = no_entries v } →
-    from ≡ record { accepted = p; contexts = no_entries v; rest = []; fault = None } → ArePut old new es [] octets → Hears from to octets found → before ≡ [] → items ≡ before ++ found → IsRun p v es octets items
-is_run v p d old new from to es octets before found items starts begins puts hears none items_are =
-    let line : Line p (no_entries v) es puts.packets new.contexts = subst (λ (o : Sending). Line o.accepted o.contexts es puts.packets new.contexts) starts puts.line in
-    let heard : Heard p (no_entries v) octets found to.rest to.contexts = subst (λ (r : Receiving). Heard r.accepted r.contexts (r.rest ++ octets) found to.rest to.contexts) begins hears.heard in
-    let whole : Heard p (no_entries v) (octets_of puts.packets) (items_sent es) [] new.contexts = line_is_heard p (no_entries v) new.contexts es puts.packets line in
-    let known : Heard p (no_entries v) (octets_of puts.packets) found to.rest to.contexts = subst (λ o. Heard p (no_entries v) o found to.rest to.contexts) puts.after_is heard in
-    let same = heard_once p d (no_entries v) to.contexts new.contexts (octets_of puts.packets) to.rest [] found (items_sent es) known whole in
-    record { packets = puts.packets; contexts = new.contexts; line = line; octets_are = puts.after_is; items_are = items_are ∙ ap (λ z. z ++ found) none ∙ same.items }
+-- a new sender's octets are those of a line
+pub is_run : (v : LineVersion) (p : Accepting) (old new : Sending) (es : List lines.Event) (before octets : List ℕ) → old ≡ record { accepted = p; contexts = no_entries v } → ArePut old new es before octets → before ≡ [] →
+    IsRun p v es octets (items_sent es)
+is_run v p old new es before octets starts puts none =
+    record { packets = puts.packets; contexts = new.contexts; line = subst (λ (o : Sending). Line o.accepted o.contexts es puts.packets new.contexts) starts puts.line; octets_are = puts.after_is ∙ ap (λ b. b ++ octets_of puts.packets) none; items_are = refl }
 
--- no fault but want of memory comes
-pub no_line_fault : (v : LineVersion) (p : Accepting) → Det p.profile.methods p.profile.top → (old new : Sending) (from to : Receiving) (es : List lines.Event) (octets : List ℕ) (found : Found) (e : LineFault) → old ≡ record { accepted = p; contexts = no_entries v } →
-    from ≡ record { accepted = p; contexts = no_entries v; rest = []; fault = None } → ArePut old new es [] octets → Fails from to octets found e → e ≡ OutOfMemory
-no_line_fault v p d old new from to es octets found e starts begins puts fails =
-    let line : Line p (no_entries v) es puts.packets new.contexts = subst (λ (o : Sending). Line o.accepted o.contexts es puts.packets new.contexts) starts puts.line in
-    let whole : Heard p (no_entries v) (octets_of puts.packets) (items_sent es) [] new.contexts = line_is_heard p (no_entries v) new.contexts es puts.packets line in
-    let stops : Stops (record { accepted = p; contexts = no_entries v; rest = []; fault = None }) octets found e = subst (λ (r : Receiving). FailsIn r.fault r octets found e) begins fails.comes in
-    no_fault p d (no_entries v) new.contexts stops.contexts (octets_of puts.packets) stops.before stops.rest stops.after stops.octet (items_sent es) found e whole (sym puts.after_is ∙ stops.piece_is) stops.heard stops.blames
-
--- nothing is left at the end
-pub no_end : (v : LineVersion) (p : Accepting) → Det p.profile.methods p.profile.top → (old new : Sending) (from to : Receiving) (es : List lines.Event) (octets : List ℕ) (found : Found) (e : LineFault) → old ≡ record { accepted = p; contexts = no_entries v } →
-    from ≡ record { accepted = p; contexts = no_entries v; rest = []; fault = None } → ArePut old new es [] octets → Hears from to octets found → end_of to.fault to.rest ≡ Some e → ⊥
-no_end v p d old new from to es octets found e starts begins puts hears ends =
-    let line : Line p (no_entries v) es puts.packets new.contexts = subst (λ (o : Sending). Line o.accepted o.contexts es puts.packets new.contexts) starts puts.line in
-    let heard : Heard p (no_entries v) octets found to.rest to.contexts = subst (λ (r : Receiving). Heard r.accepted r.contexts (r.rest ++ octets) found to.rest to.contexts) begins hears.heard in
-    let whole : Heard p (no_entries v) (octets_of puts.packets) (items_sent es) [] new.contexts = line_is_heard p (no_entries v) new.contexts es puts.packets line in
-    let known : Heard p (no_entries v) (octets_of puts.packets) found to.rest to.contexts = subst (λ o. Heard p (no_entries v) o found to.rest to.contexts) puts.after_is heard in
-    let same = heard_once p d (no_entries v) to.contexts new.contexts (octets_of puts.packets) to.rest [] found (items_sent es) known whole in
-    let never : end_of None [] ≡ Some e = ap (λ r. end_of None r) (sym same.rests) ∙ ap (λ f. end_of f to.rest) (sym hears.well) ∙ ends in
-    cc
+-- a new receiver hears of them what was sent, with nothing left
+pub is_heard : (v : LineVersion) (p : Accepting) (es : List lines.Event) (octets : List ℕ) → IsRun p v es octets (items_sent es) → IsReceived p v octets (items_sent es) None
+is_heard v p es octets run =
+    let whole : Heard p (no_entries v) (octets_of run.packets) (items_sent es) [] run.contexts = line_is_heard p (no_entries v) run.contexts es run.packets run.line in
+    record { rest = []; contexts = run.contexts; heard = subst (λ o. Heard p (no_entries v) o (items_sent es) [] run.contexts) (sym run.octets_are) whole; end_is = refl }
 
 -- ---- the event that is refused
 

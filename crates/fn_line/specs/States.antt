@@ -1,5 +1,5 @@
 -- What senders and receivers keep, and what a call does to it.
-use Rattle.std.specs.Prelude.{◌≡◌, ℕ, List, [], ◌∷◌, ◌++◌, ◌≤◌, length, slice_get, Option, Some, None}
+use Rattle.std.specs.Prelude.{◌≡◌, ℕ, List, [], ◌∷◌, ◌++◌, ◌<◌, ◌≤◌, length, take, slice_get, Option, Some, None}
 use Rattle.fn_context.specs.Entries.{Entries}
 use Rattle.fn_filling.specs.declared.filling.Item.{Item}
 use Rattle.fn_checker.specs.Accepted.{Accepting}
@@ -47,6 +47,12 @@ pub record Hears (old new : Receiving) (piece : List ℕ) (found : Found) : Type
   pub well_before : old.fault ≡ None
   pub well : new.fault ≡ None
   pub heard : Heard old.accepted old.contexts (old.rest ++ piece) found new.rest new.contexts
+
+-- So many of the octets were heard after the rest, and gave these items.
+pub record HearsFirst (old new : Receiving) (octets : List ℕ) (n : ℕ) (found : Found) : Type 0 where
+  pub some : 0 < n
+  pub within : n ≤ length octets
+  pub hears : Hears old new (take n octets) found
 
 -- The piece was heard up to an octet, and gave these items; the fault came at that octet.
 pub record Stops (old : Receiving) (piece : List ℕ) (found : Found) (e : LineFault) : Type 0 where

@@ -1,5 +1,5 @@
 -- One packet of one flow, as its octets come.
-use Rattle.std.specs.Prelude.{◌≡◌, ℕ, ◌<◌, ◌≤◌, ◌^◌, Bool, false, List, [], ◌∷◌, ◌++◌, length, replicate, Option, Some, None}
+use Rattle.std.specs.Prelude.{◌≡◌, ℕ, ◌<◌, ◌≤◌, ◌^◌, Bool, false, List, [], ◌∷◌, ◌++◌, length, replicate, take, Option, Some, None}
 use Rattle.fn_bits.specs.Octets.{bits_of, Holds}
 use Rattle.fn_context.specs.Entries.{Entries}
 use Rattle.fn_filling.specs.declared.filling.Filling.{Filling}
@@ -78,6 +78,12 @@ pub record IsHeard (p : Accepting) (s t : Contexts) (begun rest : List ℕ) (fou
   pub part : IsPart p t rest
   pub few : length rest ≤ 2 ^ 20
   pub flows : length t ≡ length s
+
+-- so many of the octets were heard as a whole packet, of which nothing is left
+pub record IsHeardWhole (p : Accepting) (s t : Contexts) (octets : List ℕ) (n : ℕ) (found : Found) : Type 0 where
+  pub some : 0 < n
+  pub within : n ≤ length octets
+  pub heard : Heard p s (take n octets) found [] t
 
 -- the packet of an item was added to the octets, after the flow's octet, and the context is the next one
 pub record IsPacked (p : Accepting) (old new : Entries) (flow : ℕ) (it : Item) (before after : List ℕ) : Type 0 where

@@ -1,19 +1,22 @@
 //! One packet of one flow, as its octets come.
 
-ghost use Rattle.std.specs.Prelude.{◌≡◌, ◌↔◌, ◌<◌, ◌≤◌, ◌++◌, false, length, replicate, drop, IsTrue, IfOk, IfErr, OnOk};
+ghost use Rattle.std.specs.Prelude.{◌≡◌, ◌↔◌, ◌<◌, ◌≤◌, ◌++◌, false, length, replicate, take, drop, IsTrue, IfOk, IfErr, IfSome, IfNone, OnOk};
 ghost use Rattle.fn_line.specs.Hearing.{Found};
-ghost use Rattle.fn_line.specs.Steps.{IsFresh, IsNew, IsTried, IsHeard, BlamesPacket, BlamesBegun};
+ghost use Rattle.fn_line.specs.Steps.{IsFresh, IsNew, IsTaken, IsTried, IsHeard, IsHeardWhole, BlamesPacket, BlamesBegun};
 ghost use Rattle.fn_line.specs.Lines.{flow_limit};
 
 use crate::fault::LineFault;
 use crate::flow::{Flow, Start, start_of};
 use crate::unfinished::Unfinished;
-use fn_bits::Cursor;
+use fn_bits::{Bits, Cursor};
 use fn_checker::Accepted;
 use fn_context::Context;
-use fn_engine::{Read, UnpackFault, unpack};
+use fn_engine::{Read, UnpackFault, most_octets, unpack, unpack_drawn};
 use fn_filling::Item;
-use std::alloc::Global;
+use std::alloc::{AllocError, Global};
+
+/// How many octets are looked at ahead, at most: longer packets are tried octet by octet.
+const AHEAD_LIMIT: usize = 1024;
 
 /// Whether all bits that are left are zero.
 fn is_zero(cursor: &Cursor<'_>) -> bool
@@ -54,6 +57,69 @@ fn try_packet(
             UnpackFault::Refused(_) => Err(LineFault::RefusedPacket),
             UnpackFault::OutOfMemory => Err(LineFault::OutOfMemory),
         },
+    }
+}
+
+/// The item of the packet that begins these octets, after its flow's, and how many of them it is; and the context then moves on. None where that isn't told at
+/// once, though there may be one.
+fn whole_packet(
+    alloc: Global,
+    accepted: &Accepted,
+    context: &mut Context,
+    octets: &[u8],
+) -> Result<Option<(Item, usize)>, AllocError>
+    ensures some { IfOk result (λ o. IfSome o (λ whole. (whole.1 ≤ length octets.now) × IsTaken accepted.now context.old context.new (take whole.1 octets.now) whole.0)) }
+    ensures none { IfOk result (λ o. IfNone o (context.new ≡ context.old)) }
+{
+    let Some(bits) = Bits::from_octets(alloc, octets, octets.len().saturating_mul(8))? else {
+        return Ok(None);
+    };
+    let mut cursor = Cursor::new(&bits);
+    let Some(read) = unpack_drawn(alloc, accepted, context, &mut cursor)? else {
+        return Ok(None);
+    };
+    let Some(over) = read.bits.checked_add(7) else {
+        return Ok(None);
+    };
+    let count = over / 8;
+    let Some(_own) = Bits::from_octets(alloc, &octets[..count], read.bits)? else {
+        return Ok(None);
+    };
+    let Read { item, entries, .. } = read;
+    context.replace(entries)?;
+    Ok(Some((item, count)))
+}
+
+/// Hears the packet that begins these octets, its flow's first, where it is told at once: it is so many octets. None where it isn't; then nothing is heard.
+pub(crate) fn hear_whole(
+    alloc: Global,
+    accepted: &Accepted,
+    contexts: &mut Vec<Context>,
+    octets: &[u8],
+    out: &mut Vec<(Flow, Item)>,
+) -> Result<Option<usize>, AllocError>
+    requires some { 0 < length octets.now }
+    requires flows { length contexts.old.items ≤ flow_limit }
+    ensures some { IfOk result (λ o. IfSome o (λ n. (found : Found) × (out.new.items ≡ out.old.items ++ found) × IsHeardWhole accepted.now contexts.old.items contexts.new.items octets.now n found)) }
+    ensures none { IfOk result (λ o. IfNone o ((contexts.new.items ≡ contexts.old.items) × (out.new.items ≡ out.old.items))) }
+    ensures flows { length contexts.new.items ≡ length contexts.old.items }
+    ensures err { IfErr result (λ _. out.new.items ≡ out.old.items) }
+{
+    let Some(start) = start_of(contexts.len() as u8, octets[0]) else {
+        return Ok(None);
+    };
+    let Start::Packet(flow) = start else {
+        return Ok(None);
+    };
+    let more = octets.len() - 1;
+    let ahead = more.min(most_octets(accepted)).min(AHEAD_LIMIT);
+    let context = &mut contexts[usize::from(flow.number())];
+    match whole_packet(alloc, accepted, context, &octets[1..1 + ahead])? {
+        Some(whole) => {
+            out.push((flow, whole.0))?;
+            Ok(Some(whole.1 + 1))
+        }
+        None => Ok(None),
     }
 }
 

@@ -1,14 +1,14 @@
 //! The receiving end of a line.
 
-ghost use Rattle.std.specs.Prelude.{◌≡◌, ◌<◌, ◌≤◌, ◌^◌, ℕ, List, [], ◌∷◌, ◌++◌, length, replicate, Option, Some, None, IfOk, IfErr, OnOk, MatchResult};
+ghost use Rattle.std.specs.Prelude.{◌≡◌, ◌<◌, ◌≤◌, ◌^◌, ℕ, List, [], ◌∷◌, ◌++◌, length, replicate, get_or, Option, Some, None, IfOk, IfErr, IfSome, IfNone, OnOk, MatchResult};
 ghost use Rattle.fn_line.specs.Hearing.{Found, IsPart, BlamesOctet};
 ghost use Rattle.fn_line.specs.Lines.{flow_limit, no_entries};
-ghost use Rattle.fn_line.specs.States.{Hears, Fails, FailsAt, end_of};
+ghost use Rattle.fn_line.specs.States.{Hears, HearsFirst, Fails, FailsAt, end_of};
 ghost use Rattle.fn_line.specs.Steps.{IsHeard};
 
 use crate::fault::LineFault;
 use crate::flow::{Flow, LineVersion, no_contexts};
-use crate::packet::hear;
+use crate::packet::{hear, hear_whole};
 use crate::unfinished::Unfinished;
 use fn_checker::Accepted;
 use fn_context::Context;
@@ -71,9 +71,11 @@ impl<'a> Receiver<'a> {
         if let Some(fault) = self.fault {
             return Err(fault);
         }
-        for octet in piece {
-            if let Err(fault) = self.take(*octet, out) {
-                return Err(fault);
+        let mut place = 0;
+        while place < piece.len() {
+            match self.take_next(&piece[place..], out) {
+                Ok(count) => place += count,
+                Err(fault) => return Err(fault),
             }
         }
         Ok(())
@@ -90,6 +92,47 @@ impl<'a> Receiver<'a> {
             Ok(())
         } else {
             Err(LineFault::Ended)
+        }
+    }
+
+    /// Takes the first of these octets, or with it all others of its packet, where the packet is told at once: so many.
+    fn take_next(&mut self, octets: &[u8], out: &mut Vec<(Flow, Item)>) -> Result<usize, LineFault>
+        requires some { 0 < length octets.now }
+        requires well { self.old.fault ≡ None }
+        ensures ok { IfOk result (λ n. (found : Found) × (out.new.items ≡ out.old.items ++ found) × HearsFirst self.old self.new octets.now n found) }
+        ensures err { IfErr result (λ e. (out.new.items ≡ out.old.items) × FailsAt self.old self.new (get_or octets.now 0 0) e) }
+    {
+        match self.take_whole(octets, out) {
+            Ok(Some(count)) => Ok(count),
+            Ok(None) => match self.take(octets[0], out) {
+                Ok(()) => Ok(1),
+                Err(fault) => Err(fault),
+            },
+            Err(fault) => Err(fault),
+        }
+    }
+
+    /// Takes the packet that begins these octets, where nothing is left of those before and it is told at once: so many octets.
+    fn take_whole(
+        &mut self,
+        octets: &[u8],
+        out: &mut Vec<(Flow, Item)>,
+    ) -> Result<Option<usize>, LineFault>
+        requires some { 0 < length octets.now }
+        requires well { self.old.fault ≡ None }
+        ensures some { IfOk result (λ o. IfSome o (λ n. (found : Found) × (out.new.items ≡ out.old.items ++ found) × HearsFirst self.old self.new octets.now n found)) }
+        ensures none { IfOk result (λ o. IfNone o ((self.new ≡ self.old) × (out.new.items ≡ out.old.items))) }
+        ensures err { IfErr result (λ e. (out.new.items ≡ out.old.items) × ((octet : ℕ) → FailsAt self.old self.new octet e)) }
+    {
+        if !self.rest.is_empty() {
+            return Ok(None);
+        }
+        match hear_whole(self.alloc, self.accepted, &mut self.contexts, octets, out) {
+            Ok(heard) => Ok(heard),
+            Err(_) => {
+                self.fault = Some(LineFault::OutOfMemory);
+                Err(LineFault::OutOfMemory)
+            }
         }
     }
 

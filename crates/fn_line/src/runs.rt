@@ -1,6 +1,7 @@
 //! Whole runs of a line: what is sent is heard.
 
-ghost use Rattle.std.specs.Prelude.{◌≡◌, ◌++◌, ℕ, List, map, IfOk, IfErr, OnOk};
+ghost use Rattle.std.specs.Prelude.{◌≡◌, ◌++◌, ℕ, List, None, map, IfOk, IfErr, OnOk};
+ghost use Rattle.fn_line.specs.Laws.{items_sent};
 ghost use Rattle.fn_line.specs.Lines.{no_entries};
 ghost use Rattle.fn_line.specs.States.{IsNotPut, IsPut};
 ghost use Rattle.fn_line.specs.Runs.{event_of, ArePut, IsRun, IsReceived, BlamesRun, run_fault};
@@ -38,13 +39,6 @@ impl From<AllocError> for RunFault {
     fn from(_error: AllocError) -> RunFault {
         RunFault::OutOfMemory
     }
-}
-
-/// What is put on a line, and what is heard of it.
-#[derive(Drop)]
-pub struct Sent {
-    pub octets: Vec<u8>,
-    pub items: Vec<(Flow, Item)>,
 }
 
 /// What is received of octets: items with their flows, and the fault that ends them, if there is one.
@@ -89,35 +83,25 @@ fn refused_at(index: usize, fault: PackFault) -> RunFault
     }
 }
 
-/// The octets of all events on a new line, and the items that a new receiver hears of them. The octets are a line of the events,
-/// and the items are those that were sent. A fault is that of the first event that is refused.
+/// The octets of all events on a new line. They are a line of the events, of which a new receiver hears the items that were sent. A fault is that of the
+/// first event that is refused.
+///
+/// No receiver runs for that: by the law `line_is_heard` it would hear just these.
 pub fn run(
     alloc: Global,
     accepted: &Accepted,
     version: LineVersion,
     events: &[Event],
-) -> Result<Sent, RunFault>
-    ensures ok { IfOk result (λ r. IsRun accepted.now version (map event_of events.now) r.octets.items r.items.items) }
+) -> Result<Vec<u8>, RunFault>
+    ensures ok { IfOk result (λ octets. IsRun accepted.now version (map event_of events.now) octets.items (items_sent (map event_of events.now))) }
+    ensures heard { IfOk result (λ octets. IsReceived accepted.now version octets.items (items_sent (map event_of events.now)) None) }
     ensures fault { IfErr result (λ e. BlamesRun e accepted.now (no_entries version) (map event_of events.now)) }
 {
-    accepted.determinate();
     let mut octets = Vec::new(alloc);
     let mut sender = Sender::new(alloc, accepted, version)?;
     match put_all(&mut sender, events, &mut octets) {
-        Ok(()) => {}
-        Err(fault) => return Err(fault),
-    }
-    let mut items = Vec::new(alloc);
-    let mut receiver = Receiver::new(alloc, accepted, version)?;
-    match receiver.feed(&octets, &mut items) {
-        Ok(()) => match receiver.finish() {
-            Ok(()) => Ok(Sent { octets, items }),
-            Err(_) => unreachable!(),
-        },
-        Err(fault) => match fault {
-            LineFault::OutOfMemory => Err(RunFault::OutOfMemory),
-            _ => unreachable!(),
-        },
+        Ok(()) => Ok(octets),
+        Err(fault) => Err(fault),
     }
 }
 

@@ -10,10 +10,12 @@ use Rattle.fn_checker.specs.Accepted.{Accepting}
 use Rattle.fn_engine.specs.declared.writer.PackFault.{PackFault}
 use Rattle.fn_line.specs.Lines.{no_entries}
 use Rattle.fn_line.specs.Hearing.{Found}
+use Rattle.fn_line.specs.Laws.{items_sent}
 use Rattle.fn_line.specs.Runs.{BlamesRun, IsReceived, IsRun, event_of}
 use Rattle.fn_line.specs.declared.fault.LineFault.{LineFault}
 use Rattle.fn_line.specs.declared.flow.LineVersion.{LineVersion}
 use Rattle.fn_line.specs.declared.runs.Event.{Event}
+use Rattle.fn_line.specs.declared.runs.Event.TheVariants as event
 use Rattle.fn_line.specs.declared.runs.RunFault.{RunFault}
 use Rattle.fn_line.specs.declared.runs.RunFault.TheVariants as run
 use Rattle.rohcfn_input.specs.declared.status.Answer.{Answer}
@@ -74,35 +76,67 @@ fault_lines v a octets start lines found shown fault e (Ok answer) is some same 
 
 -- ---- items, one after the other
 
--- the lines so far and those of what is left are all lines
-pub record PushedSoFar (found : Found) (i : ℕ) (before here : List ℕ) : Type 0 where
+-- the lines so far and those of the items that are left are all lines
+pub record PushedSoFar (found left : Found) (before here : List ℕ) : Type 0 where
   pub lines : List ℕ
   pub here_is : here ≡ before ++ lines
-  pub more : (rest : List ℕ) → AreItemLines (drop i found) rest → AreItemLines found (lines ++ rest)
+  pub more : (rest : List ℕ) → AreItemLines left rest → AreItemLines found (lines ++ rest)
 
-pub none_pushed : (found : Found) (before : List ℕ) → PushedSoFar found 0 before before
+pub none_pushed : (found : Found) (before : List ℕ) → PushedSoFar found found before before
 none_pushed found before = record { lines = []; here_is = sym (append-nil before); more = λ rest h. h }
-
-moved : (a b d s w t : List ℕ) → a ++ b ++ d ++ s ++ w ++ t ≡ a ++ (b ++ (d ++ s ++ w ++ t))
-moved a b d s w t = simp append_assoc
 
 joined : (d s w rest : List ℕ) → (d ++ s ++ w ++ 10 ∷ []) ++ rest ≡ d ++ s ++ w ++ 10 ∷ rest
 joined d s w rest = simp append_assoc
 
-pub one_pushed : (found : Found) (i : ℕ) (d x : ℕ × Item) (before here after : List ℕ) → i < length found → x ≡ get_or found i d → PushedSoFar found i before here → IsItemPushed x.0 x.1 here after → PushedSoFar found (i + 1) before after
-one_pushed found i d x before here after inside at so_far one =
-    let line : List ℕ = decimal x.0 ++ codes " " ++ one.words ++ 10 ∷ [] in
-    let left : drop i found ≡ x ∷ drop (i + 1) found = drop_more found i d inside ∙ ap (λ y. y ∷ drop (i + 1) found) (sym at) in
+moved : (a b d s w t : List ℕ) → a ++ b ++ d ++ s ++ w ++ t ≡ a ++ (b ++ (d ++ s ++ w ++ t))
+moved a b d s w t = simp append_assoc
+
+-- one more
+next_pushed : (found left later : Found) (flow : ℕ) (it : Item) (before here after : List ℕ) → left ≡ (flow, it) ∷ later → PushedSoFar found left before here → IsItemPushed flow it here after → PushedSoFar found later before after
+next_pushed found left later flow it before here after begins so_far one =
+    let line : List ℕ = decimal flow ++ codes " " ++ one.words ++ 10 ∷ [] in
     record {
       lines = so_far.lines ++ line;
-      here_is = one.after_is ∙ ap (λ h. h ++ decimal x.0 ++ codes " " ++ one.words ++ 10 ∷ []) so_far.here_is ∙ moved before so_far.lines (decimal x.0) (codes " ") one.words (10 ∷ []);
+      here_is = one.after_is ∙ ap (λ h. h ++ decimal flow ++ codes " " ++ one.words ++ 10 ∷ []) so_far.here_is ∙ moved before so_far.lines (decimal flow) (codes " ") one.words (10 ∷ []);
       more = λ rest h.
-          let shown : AreItemLines (x ∷ drop (i + 1) found) (line ++ rest) = (one.words, rest, one.spelled, h, joined (decimal x.0) (codes " ") one.words rest) in
-          let here : AreItemLines (drop i found) (line ++ rest) = subst (λ xs. AreItemLines xs (line ++ rest)) (sym left) shown in
+          let shown : AreItemLines ((flow, it) ∷ later) (line ++ rest) = (one.words, rest, one.spelled, h, joined (decimal flow) (codes " ") one.words rest) in
+          let here : AreItemLines left (line ++ rest) = subst (λ xs. AreItemLines xs (line ++ rest)) (sym begins) shown in
           subst (AreItemLines found) (sym (append_assoc so_far.lines line rest)) (so_far.more (line ++ rest) here);
     }
 
-pub all_pushed : (found : Found) (i : ℕ) (before after : List ℕ) → length found ≤ i → PushedSoFar found i before after → IsPushed found before after
-all_pushed found i before after whole so_far =
-    let none : AreItemLines (drop i found) [] = subst (λ xs. AreItemLines xs []) (sym (drop_all i found whole)) refl in
-    record { lines = so_far.lines; spelled = subst (AreItemLines found) (append-nil so_far.lines) (so_far.more [] none); after_is = so_far.here_is }
+-- nothing is left
+ended_pushed : (found left : Found) (before after : List ℕ) → left ≡ [] → PushedSoFar found left before after → IsPushed found before after
+ended_pushed found left before after none so_far =
+    let empty : AreItemLines left [] = subst (λ xs. AreItemLines xs []) (sym none) refl in
+    record { lines = so_far.lines; spelled = subst (AreItemLines found) (append-nil so_far.lines) (so_far.more [] empty); after_is = so_far.here_is }
+
+pub one_pushed : (found : Found) (i : ℕ) (d x : ℕ × Item) (before here after : List ℕ) → i < length found → x ≡ get_or found i d → PushedSoFar found (drop i found) before here → IsItemPushed x.0 x.1 here after → PushedSoFar found (drop (i + 1) found) before after
+one_pushed found i d x before here after inside at so_far one =
+    next_pushed found (drop i found) (drop (i + 1) found) x.0 x.1 before here after (drop_more found i d inside ∙ ap (λ y. y ∷ drop (i + 1) found) (sym at)) so_far one
+
+pub all_pushed : (found : Found) (i : ℕ) (before after : List ℕ) → length found ≤ i → PushedSoFar found (drop i found) before after → IsPushed found before after
+all_pushed found i before after whole so_far = ended_pushed found (drop i found) before after (drop_all i found whole) so_far
+
+-- ---- items that were sent, event after event
+
+abbrev pub sent_from : List Event → ℕ → Found
+sent_from events i = items_sent (map event_of (drop i events))
+
+begins_by : (events : List Event) (i : ℕ) (d e : Event) → i < length events → e ≡ get_or events i d → sent_from events i ≡ items_sent (event_of e ∷ map event_of (drop (i + 1) events))
+begins_by events i d e inside at = ap (λ es. items_sent (map event_of es)) (drop_more events i d inside ∙ ap (λ y. y ∷ drop (i + 1) events) (sym at))
+
+pub send_pushed : (events : List Event) (i : ℕ) (d e : Event) (flow : ℕ) (it : Item) (before here after : List ℕ) → i < length events → e ≡ get_or events i d → e ≡ event.Send flow it →
+    PushedSoFar (items_sent (map event_of events)) (sent_from events i) before here → IsItemPushed flow it here after → PushedSoFar (items_sent (map event_of events)) (sent_from events (i + 1)) before after
+send_pushed events i d e flow it before here after inside at is so_far one =
+    next_pushed (items_sent (map event_of events)) (sent_from events i) (sent_from events (i + 1)) flow it before here after
+    (begins_by events i d e inside at ∙ ap (λ x. items_sent (event_of x ∷ map event_of (drop (i + 1) events))) is) so_far one
+
+pub reset_passed : (events : List Event) (i : ℕ) (d e : Event) (flow : ℕ) (before here : List ℕ) → i < length events → e ≡ get_or events i d → e ≡ event.Reset flow →
+    PushedSoFar (items_sent (map event_of events)) (sent_from events i) before here → PushedSoFar (items_sent (map event_of events)) (sent_from events (i + 1)) before here
+reset_passed events i d e flow before here inside at is so_far =
+    subst (λ left. PushedSoFar (items_sent (map event_of events)) left before here)
+    (begins_by events i d e inside at ∙ ap (λ x. items_sent (event_of x ∷ map event_of (drop (i + 1) events))) is) so_far
+
+pub all_sent_pushed : (events : List Event) (i : ℕ) (before after : List ℕ) → length events ≤ i → PushedSoFar (items_sent (map event_of events)) (sent_from events i) before after → IsPushed (items_sent (map event_of events)) before after
+all_sent_pushed events i before after whole so_far =
+    ended_pushed (items_sent (map event_of events)) (sent_from events i) before after (ap (λ es. items_sent (map event_of es)) (drop_all i events whole)) so_far

@@ -1,6 +1,8 @@
 //! What is answered to `line`.
 
-ghost use Rattle.std.specs.Prelude.{◌≡◌, ◌++◌, IfOk, OnOk, codes, decimal, string_bytes};
+ghost use Rattle.std.specs.Prelude.{◌≡◌, ◌++◌, IfOk, OnOk, codes, decimal, map, string_bytes};
+ghost use Rattle.fn_line.specs.Laws.{items_sent};
+ghost use Rattle.fn_line.specs.Runs.{event_of};
 ghost use Rattle.rohcfn_report.specs.Accepting.{origin_of};
 ghost use Rattle.rohcfn_tool.specs.Lined as spec;
 ghost use Rattle.rohcfn_input.specs.OneLine.{IsLine};
@@ -9,7 +11,7 @@ use crate::events::read_events;
 use fn_checker::Accepted;
 use fn_engine::PackFault;
 use fn_filling::Item;
-use fn_line::{Event, Flow, LineFault, LineVersion, Received, RunFault, Sent, receive, run};
+use fn_line::{Event, Flow, LineFault, LineVersion, Received, RunFault, receive, run};
 use itoa::Buffer;
 use rohcfn_input::bundle::Parts;
 use rohcfn_input::inputs::BadLine;
@@ -129,7 +131,7 @@ fn send_all(
     ensures { IfOk result (spec.AnswersSent version accepted.now events.now) }
 {
     match run(alloc, accepted, version, events) {
-        Ok(sent) => print_sent(alloc, &sent),
+        Ok(octets) => print_sent(alloc, octets.as_slice(), events),
         Err(RunFault::Refused(index, fault)) => {
             let line = event_fault(alloc, index + 1, fault)?;
             refusal(alloc, line.as_str())
@@ -138,17 +140,30 @@ fn send_all(
     }
 }
 
-/// The octets in hex, and a line for each item.
-fn print_sent(alloc: Global, sent: &Sent) -> Result<Answer, AllocError>
-    ensures { IfOk result (spec.IsSentPrinted sent.now.octets.items sent.now.items.items) }
+/// The octets in hex, and a line for each item that was sent.
+fn print_sent(alloc: Global, octets: &[u8], events: &[Event]) -> Result<Answer, AllocError>
+    ensures { IfOk result (spec.IsSentPrinted octets.now (items_sent (map event_of events.now))) }
 {
-    let mut output = hex::encode(alloc, sent.octets.as_slice())?;
+    let mut output = hex::encode(alloc, octets)?;
     output.push('\n')?;
-    push_items(alloc, &mut output, sent.items.as_slice())?;
+    push_sent(alloc, &mut output, events)?;
     Ok(Answer {
         status: Status::Done,
         output,
     })
+}
+
+/// A line for each item that was sent.
+fn push_sent(alloc: Global, output: &mut String, events: &[Event]) -> Result<(), AllocError>
+    ensures { OnOk result (spec.IsPushed (items_sent (map event_of events.now)) (string_bytes output.old) (string_bytes output.new)) }
+{
+    for event in events {
+        match event {
+            Event::Send(flow, item) => push_item(alloc, output, *flow, item)?,
+            Event::Reset(_flow) => {}
+        }
+    }
+    Ok(())
 }
 
 /// The line of a refused event.

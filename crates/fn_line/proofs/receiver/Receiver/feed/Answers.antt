@@ -1,30 +1,32 @@
-use Rattle.std.proofs.Common.{◌∙◌, refl, sym, ap, subst, [], ◌++◌, append_assoc, get_or}
+use Rattle.std.proofs.Common.{◌∙◌, refl, sym, ap, subst, [], ◌++◌, append_assoc, arith}
 use Rattle.std.proofs.lemmas.List.{append-nil}
 use Rattle.fn_line.specs.States.{Receiving, Hears}
-use Rattle.fn_line.proofs.Begun.{hears_nothing, hears_more, fails_more}
+use Rattle.fn_line.proofs.Begun.{hears_nothing, hears_further, fails_next, slice_from, slice_left, within_piece}
 use Rattle.fn_line.proofs.receiver.Receiver.feed.Goals as goal
 
-pub loop-octet-init : goal.loop-octet-init
-loop-octet-init c = (
+pub loop-place-init : goal.loop-place-init
+loop-place-init c = (
+  omega arith,
   [],
   sym (append-nil c.args.out.now.items),
   subst (λ (r : Receiving). Hears r r [] []) c.self.view_is
       (hears_nothing (record { accepted = c.self.inside.accepted.now; contexts = c.self.inside.contexts.items; rest = c.self.inside.rest; fault = c.self.inside.fault }) c.in_default.is c.self.invariant.2),
 )
 
-pub returns-in-Err-clause-err : goal.returns-in-Err-clause-err
-returns-in-Err-clause-err c = (
-  c.loop-octet.invariant.0,
-  c.in-Err.ensures.err.0 ∙ c.loop-octet.invariant.1,
-  fails_more c.args.self.now c.loop-octet.self c.take.new.self c.args.piece.now c.loop-octet.octet-index (get_or c.args.piece.now c.loop-octet.octet-index 0) c.loop-octet.invariant.0 c.in-Err.fault c.loop-octet-test.true refl
-      c.loop-octet.invariant.2 c.in-Err.ensures.err.1,
-)
+pub loop-place-preserved : goal.loop-place-preserved
+loop-place-preserved c =
+    let l = c.loop-place in
+    let more = c.in-Ok.ensures.ok in (
+      within_piece c.args.piece.now (slice_from c.args.piece.now l.place) l.place c.in-Ok.count (slice_left c.args.piece.now l.place) l.invariant.0 more.2.within,
+      l.invariant.1 ++ more.0,
+      more.1 ∙ ap (λ o. o ++ more.0) l.invariant.2 ∙ append_assoc c.args.out.now.items l.invariant.1 more.0,
+      hears_further c.args.self.now l.self c.take_next.new.self c.args.piece.now (slice_from c.args.piece.now l.place) l.place c.in-Ok.count l.invariant.1 more.0 (slice_left c.args.piece.now l.place) l.invariant.3 more.2,
+    )
 
-pub loop-octet-preserved : goal.loop-octet-preserved
-loop-octet-preserved c =
-    let more = c.in_default-take.ensures.ok in (
-      c.loop-octet.invariant.0 ++ more.0,
-      more.1 ∙ ap (λ o. o ++ more.0) c.loop-octet.invariant.1 ∙ append_assoc c.args.out.now.items c.loop-octet.invariant.0 more.0,
-      hears_more c.args.self.now c.loop-octet.self c.take.new.self c.args.piece.now c.loop-octet.octet-index (get_or c.args.piece.now c.loop-octet.octet-index 0) c.loop-octet.invariant.0 more.0 c.loop-octet-test.true refl
-          c.loop-octet.invariant.2 more.2,
+pub returns-in-Err-clause-err : goal.returns-in-Err-clause-err
+returns-in-Err-clause-err c =
+    let l = c.loop-place in (
+      l.invariant.1,
+      c.in-Err.ensures.err.0 ∙ l.invariant.2,
+      fails_next c.args.self.now l.self c.take_next.new.self c.args.piece.now (slice_from c.args.piece.now l.place) l.place l.invariant.1 c.in-Err.fault c.loop-place-test.true (slice_left c.args.piece.now l.place) l.invariant.3 c.in-Err.ensures.err.1,
     )
