@@ -2,11 +2,11 @@
 //! is told that would give it, with the first fact that it lacks. A fact that a field was taken or called is followed to the step that takes or calls it.
 
 use crate::places::{constraint_place, format_at, method_place, naming_place, place_text};
-use fn_cert::{Direction, Fact, Rule, Step, Version};
+use fn_cert::{Direction, Fact, Step, Version};
 use fn_expr::Side;
 use fn_normal::{Format, FormatSizes, MethodSizes};
 use fn_order::FieldSide;
-use fn_plans::{Knowledge, rule_of};
+use fn_plans::{Knowledge, NeedRule, enables, lacking, rule_of};
 use fn_profile::Profile;
 use fn_source::Span;
 use rohcfn_report::verdicts::field_name;
@@ -15,9 +15,9 @@ use std::alloc::{AllocError, Global};
 
 /// A step with its rule.
 #[derive(Drop)]
-struct Possible {
+struct Possible<'a> {
     step: Step,
-    rule: Rule,
+    rule: NeedRule<'a>,
 }
 
 /// What waits: a step for a fact, or nothing that would give the fact.
@@ -51,7 +51,7 @@ pub(crate) fn plan_notes(
     let steps = possible_steps(alloc, version, direction, profile.sizes(), sizes, found)?;
     let known = closure(alloc, found, steps.as_slice())?;
     let missing = Fact::BitsOf(first.side, first.field);
-    let waiting = first_waiting(&known, steps.as_slice(), missing, found.fields.len());
+    let waiting = first_waiting(&known, found, steps.as_slice(), missing);
     let place = place_of(found, waiting, method_place(methods, method));
     let mut text = place_text(alloc, octets, place)?;
     push_waiting(alloc, &mut text, profile, method, format, waiting)?;
@@ -63,14 +63,14 @@ fn sizes_at(table: &[MethodSizes], method: usize, format: usize) -> Option<&Form
 }
 
 /// All steps that have a rule, field by field.
-fn possible_steps(
+fn possible_steps<'a>(
     alloc: Global,
     version: Version,
     direction: Direction,
     table: &[MethodSizes],
     sizes: &FormatSizes,
-    format: &Format,
-) -> Result<Items<Possible>, AllocError> {
+    format: &'a Format,
+) -> Result<Items<Possible<'a>>, AllocError> {
     let mut found = Items::new(alloc);
     for step in all_steps(alloc, format)?.as_slice() {
         if let Some(rule) = rule_of(alloc, version, direction, table, sizes, format, *step)? {
@@ -122,10 +122,14 @@ fn push_lengths(
 }
 
 /// What is known where each step is taken that can be. Each round but the last learns one of five facts of a field.
-fn closure(alloc: Global, format: &Format, steps: &[Possible]) -> Result<Knowledge, AllocError> {
+fn closure(
+    alloc: Global,
+    format: &Format,
+    steps: &[Possible<'_>],
+) -> Result<Knowledge, AllocError> {
     let mut known = Knowledge::at_start(alloc, format)?;
     for _ in 0..format.fields.len().saturating_mul(5) {
-        if !learn_round(&mut known, steps) {
+        if !learn_round(&mut known, format, steps) {
             return Ok(known);
         }
     }
@@ -133,11 +137,11 @@ fn closure(alloc: Global, format: &Format, steps: &[Possible]) -> Result<Knowled
 }
 
 /// Takes each step that can be taken and gives something new. Whether one was.
-fn learn_round(known: &mut Knowledge, steps: &[Possible]) -> bool {
+fn learn_round(known: &mut Knowledge, format: &Format, steps: &[Possible<'_>]) -> bool {
     let mut learns = false;
     for possible in steps {
         let gives = possible.rule.gives.as_slice();
-        if !known.has_all(gives) && known.enables(&possible.rule) {
+        if !known.has_all(gives) && enables(known, format, &possible.rule) {
             known.learn_all(gives);
             learns = true;
         }
@@ -145,12 +149,17 @@ fn learn_round(known: &mut Knowledge, steps: &[Possible]) -> bool {
     learns
 }
 
-/// The step that would give the fact, with what it lacks. From a field that wasn't taken or called it goes on, at most so many times.
-fn first_waiting(known: &Knowledge, steps: &[Possible], missing: Fact, turns: usize) -> Waiting {
-    let mut waiting = waiting_for(known, steps, missing);
-    for _ in 0..turns {
+/// The step that would give the fact, with what it lacks. From a field that wasn't taken or called it goes on, at most once for each field.
+fn first_waiting(
+    known: &Knowledge,
+    format: &Format,
+    steps: &[Possible<'_>],
+    missing: Fact,
+) -> Waiting {
+    let mut waiting = waiting_for(known, format, steps, missing);
+    for _ in 0..format.fields.len() {
         match waiting.fact {
-            Fact::Done(_) => waiting = waiting_for(known, steps, waiting.fact),
+            Fact::Done(_) => waiting = waiting_for(known, format, steps, waiting.fact),
             _ => return waiting,
         }
     }
@@ -158,16 +167,19 @@ fn first_waiting(known: &Knowledge, steps: &[Possible], missing: Fact, turns: us
 }
 
 /// The first step that would give the fact, with the first fact that it lacks.
-fn waiting_for(known: &Knowledge, steps: &[Possible], missing: Fact) -> Waiting {
+fn waiting_for(
+    known: &Knowledge,
+    format: &Format,
+    steps: &[Possible<'_>],
+    missing: Fact,
+) -> Waiting {
     for possible in steps {
         if gives(&possible.rule, missing) {
-            for need in possible.rule.needs.as_slice() {
-                if !known.has(*need) {
-                    return Waiting {
-                        step: Some(possible.step),
-                        fact: *need,
-                    };
-                }
+            if let Some(fact) = lacking(known, format, possible.rule.needs.as_slice()) {
+                return Waiting {
+                    step: Some(possible.step),
+                    fact,
+                };
             }
         }
     }
@@ -177,7 +189,7 @@ fn waiting_for(known: &Knowledge, steps: &[Possible], missing: Fact) -> Waiting 
     }
 }
 
-fn gives(rule: &Rule, fact: Fact) -> bool {
+fn gives(rule: &NeedRule<'_>, fact: Fact) -> bool {
     for given in rule.gives.as_slice() {
         if is_same(*given, fact) {
             return true;
