@@ -126,9 +126,31 @@ fn kept_section(
 {
     if is_in(Group::Base, section.kind) {
         kept_items(alloc, scope, methods, section.items.as_slice())
+    } else if is_in(Group::Default, section.kind) {
+        kept_encodings(alloc, scope, methods, section.items.as_slice())
     } else {
         Ok(Items::new(alloc))
     }
+}
+
+/// The encodings of the statements alone.
+fn kept_encodings(
+    alloc: Global,
+    scope: &Scope<'_, '_>,
+    methods: &Methods<'_, '_>,
+    items: &[Item],
+) -> Result<Items<KeptStatement>, AllocError>
+    ensures { IfOk result (AllZip (spec.IsKept scope.now methods.now) items.now) }
+{
+    let mut kept = Items::new(alloc);
+    for item in items {
+        let encoding = kept_encoding(alloc, scope, methods, item)?;
+        kept.push(KeptStatement {
+            constraints: None,
+            encoding,
+        })?;
+    }
+    Ok(kept)
 }
 
 fn kept_items(
