@@ -1,4 +1,4 @@
-//! What UNCOMPRESSED and CONTROL say, kept once for all formats of a method.
+//! What UNCOMPRESSED, CONTROL and DEFAULT say, kept once for all formats of a method.
 
 ghost use Rattle.std.specs.Prelude.{◌≡◌, None, IfOk, IfSome};
 ghost use Rattle.std.specs.List.{AllZip};
@@ -37,7 +37,7 @@ pub struct KeptField {
 /// What all formats of a method have in common.
 #[derive(Drop)]
 pub struct Kept<'t> {
-    /// The statements of the method's sections in their order; none of a section other than UNCOMPRESSED and CONTROL.
+    /// The statements of the method's sections in their order: those of UNCOMPRESSED and CONTROL, the encodings of DEFAULT, and none of other sections.
     pub sections: Items<Items<KeptStatement>>,
     /// The table of the header and control fields.
     pub table: Table<'t>,
