@@ -77,7 +77,7 @@ impl<'t> Kept<'t> {
     }
 }
 
-/// What the statements of UNCOMPRESSED and CONTROL say in each format of the method of this setting, as far as they name no local field.
+/// What the statements of UNCOMPRESSED, CONTROL and DEFAULT say in each format of the method of this setting, as far as they name no local field.
 pub fn kept_statements<'t>(alloc: Global, setting: &Setting<'_, 't>) -> Result<Kept<'t>, AllocError>
     ensures { IfOk result (spec.HasKept setting.now) }
 {
