@@ -1,4 +1,4 @@
--- What UNCOMPRESSED and CONTROL say, kept once for all formats of a method.
+-- What UNCOMPRESSED, CONTROL and DEFAULT say, kept once for all formats of a method.
 use Rattle.std.specs.Prelude.{◌≡◌, ℕ, Bool, true, List, [], Option, Some, None, is_some, slice_get}
 use Rattle.std.specs.List.{AllZip, AllByRecursion}
 use Rattle.std.specs.Option.{option_and_then}

@@ -24,7 +24,7 @@ pub struct Resolved {
     pub fault: Option<ProfileFault>,
 }
 
-/// The format of a COMPRESSED section, which is the method's section of this number. It shares what is kept of UNCOMPRESSED and CONTROL.
+/// The format of a COMPRESSED section, which is the method's section of this number. It shares what is kept of UNCOMPRESSED, CONTROL and DEFAULT.
 pub fn section_format<'t>(
     alloc: Global,
     setting: &Setting<'_, 't>,

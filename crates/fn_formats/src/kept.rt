@@ -1,4 +1,4 @@
-//! What UNCOMPRESSED and CONTROL say, kept once for all formats of a method.
+//! What UNCOMPRESSED, CONTROL and DEFAULT say, kept once for all formats of a method.
 
 ghost use Rattle.std.specs.Prelude.{◌≡◌, None, IfOk, IfSome};
 ghost use Rattle.std.specs.List.{AllZip};
@@ -37,7 +37,7 @@ pub struct KeptField {
 /// What all formats of a method have in common.
 #[derive(Drop)]
 pub struct Kept<'t> {
-    /// The statements of the method's sections in their order; none of a section other than UNCOMPRESSED and CONTROL.
+    /// The statements of the method's sections in their order: those of UNCOMPRESSED and CONTROL, the encodings of DEFAULT, and none of other sections.
     pub sections: Items<Items<KeptStatement>>,
     /// The table of the header and control fields.
     pub table: Table<'t>,
@@ -77,7 +77,7 @@ impl<'t> Kept<'t> {
     }
 }
 
-/// What the statements of UNCOMPRESSED and CONTROL say in each format of the method of this setting, as far as they name no local field.
+/// What the statements of UNCOMPRESSED, CONTROL and DEFAULT say in each format of the method of this setting, as far as they name no local field.
 pub fn kept_statements<'t>(alloc: Global, setting: &Setting<'_, 't>) -> Result<Kept<'t>, AllocError>
     ensures { IfOk result (spec.HasKept setting.now) }
 {
@@ -126,9 +126,31 @@ fn kept_section(
 {
     if is_in(Group::Base, section.kind) {
         kept_items(alloc, scope, methods, section.items.as_slice())
+    } else if is_in(Group::Default, section.kind) {
+        kept_encodings(alloc, scope, methods, section.items.as_slice())
     } else {
         Ok(Items::new(alloc))
     }
+}
+
+/// The encodings of the statements alone.
+fn kept_encodings(
+    alloc: Global,
+    scope: &Scope<'_, '_>,
+    methods: &Methods<'_, '_>,
+    items: &[Item],
+) -> Result<Items<KeptStatement>, AllocError>
+    ensures { IfOk result (AllZip (spec.IsKept scope.now methods.now) items.now) }
+{
+    let mut kept = Items::new(alloc);
+    for item in items {
+        let encoding = kept_encoding(alloc, scope, methods, item)?;
+        kept.push(KeptStatement {
+            constraints: None,
+            encoding,
+        })?;
+    }
+    Ok(kept)
 }
 
 fn kept_items(
