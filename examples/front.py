@@ -377,7 +377,7 @@ def by_files(place, path):
         (folder / name).write_text(text.removesuffix("\n") if text.endswith("\n\n") else text)
     files = [it for name in parts if name != "profile" for it in (PARTS[name], name)]
     due, tops = path.with_suffix(".expected").read_text(), words.index("--top")
-    more = words[1:] if "E27" in due else words[1:tops] + words[tops + 2:]
+    more = [it for it in (words[1:] if "E27" in due else words[1:tops] + words[tops + 2:]) if it != "--items"]
     seen = place.call(words[0], "profile", *files, *more, cwd=folder)
     return path.name, seen[1:] == (due, ""), seen
 

@@ -18,6 +18,7 @@ use fn_normal::{Method, Name};
 use fn_profile::Profile;
 use fn_reasons::{Figure, Line, Reason};
 use fn_source::{Span, line_column};
+use itoa::Buffer;
 use std::alloc::{AllocError, Global};
 
 /// Adds a line for each, after a line feed: where in the profile it stands, the method and the format, and what stands against that. Each method that a field
@@ -364,7 +365,14 @@ fn figure_words(
 fn value_words(alloc: Global, name: &str, value: i128) -> Result<String, AllocError>
     ensures { IfOk result (λ text. string_bytes text ≡ codes "; " ++ name.now ++ codes " is " ++ signed_decimal value) }
 {
-    format!(in alloc; "; {name} is {value}")
+    let mut buffer = Buffer::new();
+    number_words(alloc, name, buffer.format(value))
+}
+
+fn number_words(alloc: Global, name: &str, number: &str) -> Result<String, AllocError>
+    ensures { IfOk result (λ text. string_bytes text ≡ codes "; " ++ name.now ++ codes " is " ++ number.now) }
+{
+    format!(in alloc; "; {name} is {number}")
 }
 
 fn input_name(
