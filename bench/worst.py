@@ -112,7 +112,7 @@ def conditions(program):
 
 
 # seconds and MiB at most: three times what was measured
-BOUNDS = {waiting: (1, 36), operands: (6, 45), steps: (2, 45), encodings: (40, 10800), brackets: (4, 730), conditions: (30, 60)}
+BOUNDS = {waiting: (1, 36), operands: (6, 45), steps: (2, 45), encodings: (9, 350), brackets: (4, 730), conditions: (30, 60)}
 
 
 def main(words):
