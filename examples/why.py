@@ -24,13 +24,13 @@ MOST = 1 << 12  # headers with values of the asked fields that are searched for 
 Filled = collections.namedtuple("Filled", "index header packed entries")
 
 
-def fillings(subject, context):
-    """All of the top in a context: every header, every value of the asked fields."""
+def fillings(subject, context, of_headers=None):
+    """All of the top in a context: of every header, or of these, by every value of the asked fields."""
     top = len(subject.methods) - 1
     fields = subject.methods[top].formats[0].fields
     asked = {it.name: ["".join(bits) for bits in itertools.product("01", repeat=it.u[1])] for it in fields if it.asked}
     search = Search(subject.methods, context, subject.initial)
-    for header in headers(subject):
+    for header in of_headers or headers(subject):
         for values in itertools.product(*asked.values()):
             for it in search.fillings(top, (), "", header, dict(zip(asked, values))):
                 yield Filled(it.index, it.header, it.packed, it.entries)
@@ -105,8 +105,9 @@ def stored():
             parts, number = parts_of(bundle.decode("latin-1")), REFUSED.search(output.decode("latin-1"))
             words = parts.get("words", "").split()
             name = names.get(parts.get("profile", "").rstrip("\n") + "\n")
-            if number and words[:1] in (["pack"], ["unpack"]) and name == words[2] and "certificate" not in parts:
-                part = "items" if words[0] == "pack" else "packets"
+            if number and words[:1] in (["pack"], ["unpack"], ["why"], ["fields"]) and name == words[2] and "certificate" not in parts:
+                part = "items" if "items" in parts else "packets"
+                words[0] = "pack" if part == "items" else "unpack"
                 yield roundtrip.sample(name), words, parts.get("context", ""), part, parts[part].split("\n")[:int(number[1])]
 
 
@@ -114,7 +115,7 @@ def reached(subject, words, start, part, lines):
     """The context after the lines, as the program prints it."""
     entries = dict(it.split(" ") for it in start.split("\n") if it)
     if lines:
-        shown, _ = printed(" ".join(words[:1] + ["--context"] + words[1:]), subject.profile, {}, part, lines, start)
+        shown, _ = printed("%s --top %s --context" % (words[0], words[2]) + (" --v2" if "--v2" in words else ""), subject.profile, {}, part, lines, start)
         entries = dict(it.split(" ") for it in shown[shown.index("=== context") + 1:])
     return {path: bits_of(bits) for path, bits in entries.items()}
 
@@ -122,11 +123,11 @@ def reached(subject, words, start, part, lines):
 def stored_trials():
     """For each of these what is wrong with it, if anything, and how many formats were blamed."""
     for subject, words, start, part, lines in stored():
-        form = subject.methods[-1].formats[0]
-        if 1 << form.most("U") + sum(it.u[1] for it in form.fields if it.asked) > MOST:
+        form, bits = subject.methods[-1].formats[0], bits_of(lines[-1].split(" ")[0])
+        if 1 << (form.most("U") if part == "packets" else 0) + sum(it.u[1] for it in form.fields if it.asked) > MOST:
             continue
         context = reached(subject, words, start, part, lines[:-1])
-        known, bits = list(fillings(subject, context)), bits_of(lines[-1].split(" ")[0])
+        known = list(fillings(subject, context, [bits] if part == "items" else None))
         there = {it.index for it in known if (bits == it.header if part == "items" else bits.startswith(it.packed))}
         yield told_or_wrong(subject, context, words[0], " --items" if part == "items" else "", part, lines[-1], there)
 
