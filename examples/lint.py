@@ -1,7 +1,8 @@
 #!/usr/bin/env python3
-"""Through the built program: what `lint` prints. Of the profiles of samples.py, profiles/ and tutorial/, by each format of which something can be packed, it prints nothing, but for one that needs a context to begin with. Of drawn small profiles
-each format that it names has no filling by a slow search over all headers, in contexts that are drawn (searching.py). A format that gets a condition above the range of its field is named, at
-the place of that condition. A format that it says is never used has no filling in the empty context."""
+"""Through the built program: what `lint` prints. Of the profiles of samples.py, profiles/ and tutorial/, by each format of which something can be packed, it prints nothing, but for one that
+needs a context to begin with. Of drawn small profiles each format that it names has no filling by a slow search over all headers, in contexts that are drawn (searching.py). A format that gets a
+condition above the range of its field is named, at the place of that condition. A format that it says is never used has no filling in the empty context, nor in contexts that fillings lead to from
+there."""
 import itertools
 import pathlib
 import random
@@ -17,6 +18,7 @@ from searching import Search
 HERE = pathlib.Path(__file__).parent
 LINE = re.compile(r"(\d+):(\d+): warning p\.(\w): .*: nothing fits this format")
 USED = re.compile(r"\d+:\d+: warning p\.(\w+) is never used: it needs [\w.]+ in the context, which no format that can come before puts there")
+REACHED = 12  # contexts of a drawn profile that are looked at
 ABOVE = "ENFORCE(x.UVALUE > 3);"  # x has two bits
 # what is due for a profile of samples.py that goes on from a given context alone
 DUE = {"both": "4:1: warning both.- is never used: it needs f.m in the context, which no format that can come before puts there\n"}
@@ -48,15 +50,36 @@ def parted(out):
     return [it for it in lines if not USED.fullmatch(it)], [it for it in lines if USED.fullmatch(it)]
 
 
-def has_filling(methods, initial, form, draw, count=3):
+def has_filling(methods, initial, form, draw):
     """Whether the format of the top has a filling: for every header, in the empty context and in some that are drawn."""
-    contexts = [{}] + [{name: format(draw.randrange(4), "02b") for name in "xyms"} for _ in range(count)]
+    contexts = [{}] + [{name: format(draw.randrange(4), "02b") for name in "xyms"} for _ in range(3)]
     headers = ["".join(it) for it in itertools.product("01", repeat=methods[-1].formats[0].most("U"))]
     for context, header in itertools.product(contexts, headers):
         asked = {it.name: "00" for it in methods[-1].formats[0].fields if it.asked}
         if any(it.index == form for it in Search(methods, context, initial).fillings(len(methods) - 1, (), "", header, asked)):
             return True
     return False
+
+
+def fillings_in(methods, initial, context, draw):
+    """The fillings of every header in a context, by values of the asked fields that are drawn."""
+    fields, top = methods[-1].formats[0].fields, len(methods) - 1
+    search = Search(methods, context, initial)
+    for header in itertools.product("01", repeat=methods[-1].formats[0].most("U")):
+        asked = {it.name: "".join(draw.choice("01") for _ in range(it.u[1])) for it in fields if it.asked}
+        yield from search.fillings(top, (), "", "".join(header), asked)
+
+
+def formats_met(methods, initial, draw):
+    """The formats of fillings in the empty context, and in some that one filling after the other leads to from there."""
+    met, contexts, place = set(), [{}], 0
+    while place < len(contexts):
+        found = list(fillings_in(methods, initial, contexts[place], draw))
+        met |= {it.index for it in found}
+        for it in draw.sample(found, min(len(found), REACHED - len(contexts))):
+            contexts.append({**contexts[place], **dict(it.entries)})
+        place += 1
+    return met
 
 
 def due_of(profile, name, base):
@@ -81,8 +104,9 @@ def drawn(draw):
         yield None if status == 0 and all(found) and len(set(named)) == len(named) else (profile, out)
         for name in named:
             yield (profile, out) if has_filling(methods, initial, names.index(name), draw) else None
+        met = formats_met(methods, initial, draw) if warned else set()
         for name in (USED.fullmatch(it)[1] for it in warned):
-            yield (profile, out) if has_filling(methods, initial, names.index(name), draw, 0) else None
+            yield (profile, out) if names.index(name) in met else None
         for name in names:
             if name not in named:
                 changed, due = due_of(profile, name, base)
