@@ -20,7 +20,7 @@ INPUTS = {
     "fields": ("item", "items", "packet", "packets", "from_context", "certificate", "pcap", "flow"),
     "why": ("item", "items", "packet", "packets", "from_context", "certificate", "pcap", "flow"),
     "show": (),
-    "lint": (),
+    "lint": ("from_context",),
     "draw": (),
     "check": ("certificate",),
     "prove": (),

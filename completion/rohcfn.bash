@@ -54,7 +54,7 @@ _rohcfn() {
     fields) options='--top --v2 --context --help --items --item --packet --packets --from-context --certificate --pcap --flow --diagnose' ;;
     why) options='--top --v2 --context --help --items --item --packet --packets --from-context --certificate --pcap --flow --diagnose' ;;
     show) options='--top --help --diagnose' ;;
-    lint) options='--top --help --diagnose' ;;
+    lint) options='--top --help --from-context --diagnose' ;;
     draw) options='--top --help --diagnose' ;;
     check) options='--top --v2 --help --explain --certificate --diagnose' ;;
     prove) options='--top --v2 --help --explain --diagnose' ;;

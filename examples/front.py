@@ -125,6 +125,7 @@ def composed(place):
          {"items": "8:01\n8:03\n", "context": "x 8:07\n"}),
         (["fields", "--item=8:02", "a profile.fn", "--v2", "--certificate", "certificate"], ["fields", *top, "--v2", "--items"], {"items": "8:02\n", **certificate}),
         (["show", "a profile.fn"], ["show", *top], {}),
+        (["lint", "a profile.fn", "--from-context", "context"], ["lint", *top], {"context": "x 8:07\n"}),
         (["show", "a profile.fn", "--top", "--help"], None, None),
         (["check", "a profile.fn", "--certificate", "certificate", "--v2"], ["check", *top, "--v2"], certificate),
         (["prove", "./a profile.fn", "--v2"], ["prove", *top, "--v2"], {}),
