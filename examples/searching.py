@@ -37,21 +37,39 @@ class Level:
             return e
         if e[0] == "parameter":
             return self.arguments[e[1]]
+        if e[0] == "-" and len(e) == 2:
+            return -self.value(e[1])
         if len(e) == 2:
             bits = self.bits(e[0], e[1][0])
             return number(bits) if e[1].endswith("VALUE") else len(bits)
         left, right = self.value(e[1]), self.value(e[2])
-        if e[0] == "%":
-            return left % right
-        return {"+": left + right, "-": left - right, "*": left * right}[e[0]]
+        if (e[0] in "/%" and right == 0) or (e[0] == "^" and right < 0):
+            raise NoValue
+        if e[0] in "/%":
+            return left // right if e[0] == "/" else left % right
+        return left ** right if e[0] == "^" else {"+": left + right, "-": left - right, "*": left * right}[e[0]]
+
+    def truth(self, condition):
+        """Of a condition; both sides of `&&` and `||` need a value."""
+        if isinstance(condition, bool):
+            return condition
+        if condition[0] == "!":
+            return not self.truth(condition[1])
+        if condition[0] in ("&&", "||"):
+            left, right = self.truth(condition[1]), self.truth(condition[2])
+            return left and right if condition[0] == "&&" else left or right
+        operator, left, right = condition
+        left, right = self.value(left), self.value(right)
+        return {"==": left == right, "!=": left != right, "<=": left <= right, ">=": left >= right, "<": left < right, ">": left > right}[operator]
 
     def holds(self, constraint):
         if constraint[0] == "bracket":
             _, field, side, lengths = constraint
             return len(self.bits(field, side)) in [self.value(it) for it in lengths]
-        operator, left, right = constraint[1]
-        left, right = self.value(left), self.value(right)
-        return {"==": left == right, "!=": left != right, "<=": left <= right}[operator]
+        try:
+            return self.truth(constraint[1])
+        except NoValue:
+            return False
 
     def fits(self, field, reference):
         """Whether the two sides of a field that calls nothing are as its encoding says."""
@@ -59,6 +77,8 @@ class Level:
         if field.encoding is None:
             return lower == ""
         name, *words = field.encoding
+        if len(upper) > 64 or len(lower) > 64:
+            return False
         try:
             if name == "irregular":
                 return upper == lower and len(upper) == self.value(words[0])

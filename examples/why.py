@@ -1,7 +1,7 @@
 #!/usr/bin/env python3
 """Through the built program: what `why` prints of items and packets that are refused. For each format of the top there is a line, in the order of the text. Where it tells a reason, a slow search over
 all headers and all values of asked fields (searching.py) finds no filling of that format with the item's header, or at the front of the packet. The fault line is that of `pack` or `unpack`.
-The items and packets are drawn, many of them damaged, and those of the cases in cases/ whose profile is a sample (samples.py)."""
+The items and packets are drawn, many of them damaged, or those of the cases in cases/ that are refused, whose profiles normal.py reads."""
 import collections
 import itertools
 import pathlib
@@ -10,18 +10,52 @@ import re
 import sys
 
 import cases
+import normal
 import roundtrip
 import samples
 from fields import bits_of, printed
 from roundtrip import text
-from searching import Search
+from searching import NoValue, Search, spelled
 
 LINE = re.compile(r"[1-9]\d*:[1-9]\d*: (?P<blanks> *)(?P<method>\w+)\.(?P<format>\w+|-): (?P<reason>.+)")
 NOTHING = "nothing simple stands against it"
 SAMPLES = ["tick", "opt", "mode", "turn"]
 REFUSED = re.compile(r"^(?:item|packet) ([1-9]\d*): (?:F3|U1|U2) ", re.MULTILINE)
-MOST = 1 << 12  # headers with values of the asked fields that are searched for a stored case
+MOST = 1 << 16  # headers with values of the asked fields that are searched for a stored case
 Filled = collections.namedtuple("Filled", "index header packed entries")
+
+
+class Quick(Search):
+    """The slow search, where the compressed side follows from the other one by the encoding alone."""
+
+    def sides(self, form, field, values, path, upper):
+        name, *words = field.encoding or ("", "")
+        bits = upper[field.name]
+        if field.is_called() and field.name not in form.listing:
+            ranges = [range(least, most + 1) for least, most in self.methods[words[0]].parameters.values()]
+            inner = [(it, list(values)) for values in itertools.product(*ranges) for it in self.inside(words[0], values, path, bits)]
+            return iter([("", it) for it in inner if not it[0].packed])
+        if field.name not in form.listing or name not in ("irregular", "static", "uncompressed_value", "lsb", "compressed_value") or not all(isinstance(it, int) for it in words):
+            return super().sides(form, field, values, path, upper)
+        if name == "compressed_value":
+            try:
+                return iter([(spelled(*words), None)])
+            except NoValue:
+                return iter([])
+        if name == "lsb":
+            return iter([(bits[len(bits) - words[0]:], None)] if 0 <= words[0] <= len(bits) else [])
+        return iter([(bits if name == "irregular" else "", None)])
+
+
+class Stored:
+    """The profile of a stored case."""
+
+    def __init__(self, profile, words):
+        self.profile, self.name, self.version = profile, words[2], 2 if "--v2" in words else 1
+        self.methods, self.initial = normal.methods_of(profile, self.name)
+
+    def words(self, command):
+        return "%s --top %s%s" % (command, self.name, " --v2" if self.version == 2 else "")
 
 
 def fillings(subject, context, of_headers=None):
@@ -29,7 +63,7 @@ def fillings(subject, context, of_headers=None):
     top = len(subject.methods) - 1
     fields = subject.methods[top].formats[0].fields
     asked = {it.name: ["".join(bits) for bits in itertools.product("01", repeat=it.u[1])] for it in fields if it.asked}
-    search = Search(subject.methods, context, subject.initial)
+    search = Quick(subject.methods, context, subject.initial)
     for header in of_headers or headers(subject):
         for values in itertools.product(*asked.values()):
             for it in search.fillings(top, (), "", header, dict(zip(asked, values))):
@@ -98,17 +132,15 @@ def parts_of(bundle):
 
 
 def stored():
-    """The stored cases in which an item or a packet of a sample is refused: the subject, the context that is reached, the flags, the line, and the formats that it may be of."""
-    names = {text: name for name, text in samples.TEXTS.items()}
+    """The stored cases in which an item or a packet is refused: the subject, the words, the context to begin with, the part, and its lines up to that one."""
     for path in sorted(pathlib.Path(__file__).parent.glob("cases/*.cases")):
         for _, bundle, _, output in cases.stored(path):
             parts, number = parts_of(bundle.decode("latin-1")), REFUSED.search(output.decode("latin-1"))
             words = parts.get("words", "").split()
-            name = names.get(parts.get("profile", "").rstrip("\n") + "\n")
-            if number and words[:1] in (["pack"], ["unpack"], ["why"], ["fields"]) and name == words[2] and "certificate" not in parts:
+            if number and words[:1] in (["pack"], ["unpack"], ["why"], ["fields"]) and "certificate" not in parts:
                 part = "items" if "items" in parts else "packets"
                 words[0] = "pack" if part == "items" else "unpack"
-                yield roundtrip.sample(name), words, parts.get("context", ""), part, parts[part].split("\n")[:int(number[1])]
+                yield Stored(parts["profile"], words), words, parts.get("context", ""), part, parts[part].split("\n")[:int(number[1])]
 
 
 def reached(subject, words, start, part, lines):
@@ -122,14 +154,26 @@ def reached(subject, words, start, part, lines):
 
 def stored_trials():
     """For each of these what is wrong with it, if anything, and how many formats were blamed."""
+    known_of = {}
     for subject, words, start, part, lines in stored():
         form, bits = subject.methods[-1].formats[0], bits_of(lines[-1].split(" ")[0])
         if 1 << (form.most("U") if part == "packets" else 0) + sum(it.u[1] for it in form.fields if it.asked) > MOST:
             continue
         context = reached(subject, words, start, part, lines[:-1])
-        known = list(fillings(subject, context, [bits] if part == "items" else None))
+        key = subject.profile, part == "items" and bits, tuple(context.items())
+        if key not in known_of:
+            known_of[key] = list(fillings(subject, context, [bits] if part == "items" else None))
+        known = known_of[key]
         there = {it.index for it in known if (bits == it.header if part == "items" else bits.startswith(it.packed))}
         yield told_or_wrong(subject, context, words[0], " --items" if part == "items" else "", part, lines[-1], there)
+
+
+def readings():
+    """Whether normal.py reads a sample as its normal form was written by hand: the same fillings in the empty context."""
+    for name in SAMPLES:
+        by_hand, read = roundtrip.sample(name), Stored(samples.TEXTS[name], ["why", "--top", name])
+        same = sorted(map(str, fillings(by_hand, {}))) == sorted(map(str, fillings(read, {})))
+        yield None if same else (name, "is read otherwise"), 0
 
 
 def subjects(draw):
@@ -145,7 +189,7 @@ def main():
     passed = failed = told = 0
     of_cases = list(stored_trials())
     drawn = (it for subject, context, most in subjects(draw) for it in trials(subject, context, draw, most))
-    for wrong, blamed in itertools.chain(of_cases, drawn):
+    for wrong, blamed in itertools.chain(readings(), of_cases, drawn):
         passed, failed, told = passed + (wrong is None), failed + (wrong is not None), told + blamed
         if wrong is not None and failed < 5:
             print("why:", *wrong)
