@@ -1,14 +1,5 @@
 pub mod Places
-pub mod Narrowing
-pub mod Totals
-pub mod Tables
 pub mod Folding
-pub mod Calling
-pub mod Earliest
 pub mod Faultless
 pub mod Ruling
 pub mod Widening
-pub mod Rows
-pub mod Weighing
-pub mod Agreeing
-pub mod Reaching

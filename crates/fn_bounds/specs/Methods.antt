@@ -12,6 +12,7 @@ use Rattle.fn_normal.specs.declared.profile.Method.{Method}
 use Rattle.fn_normal.specs.declared.fault.ProfileFault.{ProfileFault}
 use Rattle.fn_normal.specs.declared.fault.ProfileFaultKind.TheVariants.{TooLarge}
 use Rattle.fn_normal.specs.Faults.{about}
+use Rattle.fn_bounds.specs.Limits.{header_limit}
 use Rattle.fn_bounds.specs.Fields.{bounds, sides}
 use Rattle.fn_bounds.specs.Formats.{format_sizes, HaveNumbers}
 
@@ -57,9 +58,9 @@ pub record SizedBefore (methods : List Method) (order : List ℕ) (place : ℕ) 
 pub record SumsAreNumbers (table : List MethodSizes) (method : Method) : Type 0 where
   pub each : (n : ℕ) (format : Format) → slice_get method.formats n ≡ Some format → HaveNumbers (format_sizes table format).whole
 
--- at most 4,096 bits of a header
+-- no more bits of a header than there may be
 abbrev pub is_short : Sizes → Bool
-is_short s = nat_le s.uncompressed.most 4096
+is_short s = nat_le s.uncompressed.most header_limit
 
 -- and at most 2^18 packed bits
 abbrev pub is_within : Sizes → Bool

@@ -4,12 +4,11 @@ ghost use Rattle.std.specs.Prelude.{◌≡◌, true, IsTrue, IfSome};
 ghost use Rattle.fn_expr.specs.Rules.{is_within};
 ghost use Rattle.fn_bounds.specs.Constants as spec;
 
-use crate::reach;
 use fn_expr::{Expr, Known, Operator, Ranges, range, value};
 use std::alloc::Global;
 
 /// The greatest size of an end point of a range that is accepted.
-const LIMIT: i128 = reach::LIMIT as i128;
+const LIMIT: i128 = 0x100_0000_0000_0000_0000_0000_0000_0000;
 
 /// A number up to this size is far within the limit of ranges.
 const SMALL: i128 = 0x1_0000_0000_0000_0000;

@@ -67,7 +67,7 @@ fn known_condition_fault(cond: &Cond, ranges: &Ranges) -> Option<RangeFault>
 }
 
 /// The first fault of a range in an expression.
-pub(crate) fn range_fault(extent: Extent, expr: &Expr, ranges: &Ranges) -> Option<RangeFault>
+pub fn range_fault(extent: Extent, expr: &Expr, ranges: &Ranges) -> Option<RangeFault>
     ensures { result ≡ spec.range_fault extent (bounding_of ranges.now) expr.now }
 {
     match extent {
@@ -77,11 +77,7 @@ pub(crate) fn range_fault(extent: Extent, expr: &Expr, ranges: &Ranges) -> Optio
 }
 
 /// The first fault of a range in a condition.
-pub(crate) fn condition_range_fault(
-    extent: Extent,
-    cond: &Cond,
-    ranges: &Ranges,
-) -> Option<RangeFault>
+pub fn condition_range_fault(extent: Extent, cond: &Cond, ranges: &Ranges) -> Option<RangeFault>
     ensures { result ≡ spec.condition_range_fault extent (bounding_of ranges.now) cond.now }
 {
     match extent {

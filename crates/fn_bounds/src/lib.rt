@@ -1,17 +1,9 @@
-//! Bounds on the lengths of fields, formats and methods, and the ranges of parameters.
+//! What the bounds on the lengths of fields, formats and methods are, and the ranges of parameters.
 #![tactic(auto)]
 
-pub use methods::sizes;
+pub use limits::HEADER_LIMIT;
 
-mod callers;
 pub mod constants;
-mod fields;
-mod formats;
-mod judging;
-mod known;
+pub mod known;
 pub mod laws;
-pub mod methods;
-mod parameters;
-mod quiet;
-pub mod ranging;
-mod reach;
+pub mod limits;

@@ -4,6 +4,7 @@ ghost use Rattle.std.specs.Prelude.{◌≡◌};
 ghost use Rattle.fn_expr.specs.Known.{assignment_of, no_numbers, nothing_known, numbers_at};
 
 use crate::expr::{Attribute, Measure, Side, Subject};
+use crate::valuation::Valuation;
 use sqlite_items::Items;
 use std::alloc::Global;
 
@@ -49,31 +50,6 @@ impl Known {
         }
     }
 
-    /// The number of a parameter, where it is known.
-    pub fn parameter(&self, index: usize) -> Option<i128>
-        ensures { result ≡ (assignment_of self.now).parameter index }
-    {
-        self.parameters.get(index).copied()
-    }
-
-    /// The number of an attribute, where it is known.
-    pub fn attribute(&self, attribute: Attribute) -> Option<i128>
-        ensures { result ≡ (assignment_of self.now).attribute attribute }
-    {
-        let sides = match attribute.subject {
-            Subject::This => self.whole,
-            Subject::Field(index) => self.field(index),
-        };
-        let numbers = match attribute.side {
-            Side::Uncompressed => sides.uncompressed,
-            Side::Compressed => sides.compressed,
-        };
-        match attribute.measure {
-            Measure::Value => numbers.value,
-            Measure::Length => numbers.length,
-        }
-    }
-
     fn field(&self, index: usize) -> SideNumbers
         ensures { result ≡ numbers_at self.now.fields index }
     {
@@ -89,6 +65,29 @@ impl Known {
                     compressed: none,
                 }
             }
+        }
+    }
+}
+
+impl Valuation for Known {
+    ghost assignment = { assignment_of };
+
+    fn parameter(&self, index: usize) -> Option<i128> {
+        self.parameters.get(index).copied()
+    }
+
+    fn attribute(&self, attribute: Attribute) -> Option<i128> {
+        let sides = match attribute.subject {
+            Subject::This => self.whole,
+            Subject::Field(index) => self.field(index),
+        };
+        let numbers = match attribute.side {
+            Side::Uncompressed => sides.uncompressed,
+            Side::Compressed => sides.compressed,
+        };
+        match attribute.measure {
+            Measure::Value => numbers.value,
+            Measure::Length => numbers.length,
         }
     }
 }

@@ -7,7 +7,8 @@ pub use inputs::{Input, condition_inputs, expr_inputs};
 pub use interval::Interval;
 pub use known::{Known, Numbers, SideNumbers};
 pub use ranges::{Intervals, Ranges, SideIntervals, condition_fault, range};
-pub use values::{calculate, decide, value};
+pub use valuation::Valuation;
+pub use values::{calculate, compares, decide, value};
 
 pub mod expr;
 pub mod fault;
@@ -16,4 +17,5 @@ pub mod interval;
 pub mod known;
 pub mod laws;
 pub mod ranges;
+pub mod valuation;
 pub mod values;

@@ -1,19 +1,19 @@
 //! The value of an expression.
 
 ghost use Rattle.std.specs.Prelude.{◌≡◌, Option};
-ghost use Rattle.fn_expr.specs.Known.{assignment_of};
 ghost use Rattle.fn_expr.specs.Values.{val, truth, apply, compare};
 ghost use Rattle.fn_expr.specs.Values as spec;
 ghost use Rattle.fn_expr.specs.Spread.{IsRanged, AreRanged, IsCalculable};
 
 use crate::expr::{Comparison, Cond, Expr, Operator};
-use crate::known::Known;
+use crate::valuation::Valuation;
 
 /// The value of an expression, where it has one, as over unbounded whole numbers.
 /// It is asked where `range` accepts the expression, for ranges in which the known numbers lie.
-pub fn value(expr: &Expr, known: &Known) -> Option<i128>
-    requires { IsRanged (assignment_of known.now) expr.now }
-    ensures { result ≡ val (assignment_of known.now) expr.now }
+pub fn value<V: Valuation>(expr: &Expr, known: &V) -> Option<i128>
+    requires ready { V.is_ready known.now }
+    requires ranged { IsRanged (V.assignment known.now) expr.now }
+    ensures { result ≡ val (V.assignment known.now) expr.now }
 {
     match expr {
         Expr::Number(_, number) => Some(*number),
@@ -29,9 +29,10 @@ pub fn value(expr: &Expr, known: &Known) -> Option<i128>
 
 /// Whether a condition holds, where it has a value.
 /// It is asked where `range` accepts each expression of whole numbers in it, for ranges in which the known numbers lie.
-pub fn decide(cond: &Cond, known: &Known) -> Option<bool>
-    requires { AreRanged (assignment_of known.now) cond.now }
-    ensures { result ≡ truth (assignment_of known.now) cond.now }
+pub fn decide<V: Valuation>(cond: &Cond, known: &V) -> Option<bool>
+    requires ready { V.is_ready known.now }
+    requires ranged { AreRanged (V.assignment known.now) cond.now }
+    ensures { result ≡ truth (V.assignment known.now) cond.now }
 {
     match cond {
         Cond::Constant(_, holds) => Some(*holds),
@@ -57,7 +58,8 @@ pub fn decide(cond: &Cond, known: &Known) -> Option<bool>
     }
 }
 
-fn compares(comparison: Comparison, left: i128, right: i128) -> bool
+/// Whether the comparison holds of the two numbers.
+pub fn compares(comparison: Comparison, left: i128, right: i128) -> bool
     ensures { result ≡ compare comparison left right }
 {
     match comparison {
@@ -70,6 +72,7 @@ fn compares(comparison: Comparison, left: i128, right: i128) -> bool
     }
 }
 
+/// What the operator makes of the two numbers, where it makes one. It is asked where this is within 128 bits.
 pub fn calculate(operator: Operator, left: i128, right: i128) -> Option<i128>
     requires { IsCalculable operator left right }
     ensures { result ≡ apply operator left right }

@@ -7,3 +7,9 @@ pub mod Bounding
 pub mod Arguments
 pub mod Sides
 pub mod Fronts
+pub mod Each
+pub mod Coded
+pub mod Readying
+pub mod Judged
+pub mod Limits
+pub mod Pieces

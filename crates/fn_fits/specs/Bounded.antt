@@ -11,6 +11,7 @@ use Rattle.fn_normal.specs.declared.profile.Encoding.TheVariants as encoding
 use Rattle.fn_normal.specs.declared.profile.Field.{Field}
 use Rattle.fn_normal.specs.declared.profile.Format.{Format}
 use Rattle.fn_normal.specs.declared.profile.Method.{Method}
+use Rattle.fn_bounds.specs.Limits.{header_limit}
 use Rattle.fn_bounds.specs.Outcome.{AreSizes}
 use Rattle.fn_filling.specs.declared.filling.Filling.{Filling, out-Filling}
 use Rattle.fn_filling.specs.declared.filling.FilledField.{FilledField}
@@ -46,7 +47,7 @@ LengthsLieInBounds = (methods : List Method) (table : List MethodSizes) → AreS
 -- Both sides of a fitting filling are short.
 abbrev pub SidesAreShort : Type 0
 SidesAreShort = (methods : List Method) (table : List MethodSizes) → AreSizes methods table → (ctx : Context) (k : ℕ) (args : List ℤ) (path : Path) (f : Filling) →
-    Fits methods ctx k args path f → (length (header f) ≤ 4096) × (length (packed f) ≤ 2 ^ 18)
+    Fits methods ctx k args path f → (length (header f) ≤ header_limit) × (length (packed f) ≤ 2 ^ 18)
 
 -- each argument lies in the range of its parameter
 pub record ArgumentsLie (ranges : List Interval) (args : List ℤ) : Type 0 where

@@ -10,7 +10,7 @@ use Rattle.fn_filling.specs.declared.filling.Item.{Item}
 use Rattle.fn_filling.specs.Fillings.{item}
 use Rattle.fn_filling.specs.Entries.{next}
 use Rattle.fn_fits.proofs.Sized.{one_value}
-use Rattle.fn_checker.specs.Accepted.{Accepting}
+use Rattle.fn_accepted.specs.Accepted.{Accepting}
 use Rattle.fn_line.specs.Lines.{Contexts, reset_octet}
 use Rattle.fn_line.specs.Hearing.{Found, Whole, NoFront, IsPart, Heard, BlamesOctet, packet, reset, nothing, begun, waits, goes_on}
 use Rattle.fn_line.specs.States.{Receiving, Hears, HearsFirst, Stops, Fails, FailsIn, FailsAt}

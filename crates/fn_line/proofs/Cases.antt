@@ -9,7 +9,7 @@ use Rattle.fn_filling.specs.Fillings.{packed, item}
 use Rattle.fn_filling.specs.Entries.{next}
 use Rattle.fn_fits.specs.Fronts.{Det}
 use Rattle.fn_fits.proofs.Sized.{one_value}
-use Rattle.fn_checker.specs.Accepted.{Accepting}
+use Rattle.fn_accepted.specs.Accepted.{Accepting}
 use Rattle.fn_engine.specs.Reading.{Fitting, Fronts}
 use Rattle.fn_line.specs.Lines.{Contexts}
 use Rattle.fn_line.specs.Hearing.{Found, Whole, NoFront, IsPart, packet, reset, nothing, begun}

@@ -10,7 +10,7 @@ use Rattle.fn_context.specs.Entries.{Entries, bits_at}
 use Rattle.fn_filling.specs.Fillings.{packed}
 use Rattle.fn_fits.specs.Fronts.{Det}
 use Rattle.fn_fits.proofs.Sized.{one_value}
-use Rattle.fn_checker.specs.Accepted.{Accepting}
+use Rattle.fn_accepted.specs.Accepted.{Accepting}
 use Rattle.fn_engine.specs.Reading.{Fronts}
 use Rattle.fn_line.specs.Lines.{Contexts}
 use Rattle.fn_line.specs.Hearing.{Found, Whole, Heard, IsRefused, IsBadlyFilled, BlamesOctet, waits, goes_on}

@@ -11,8 +11,8 @@ use Rattle.fn_filling.specs.declared.filling.Item.{Item}
 use Rattle.fn_filling.specs.Fillings.{packed}
 use Rattle.fn_filling.specs.Entries.{next}
 use Rattle.fn_fits.proofs.Sized.{one_value}
-use Rattle.fn_checker.specs.Accepted.{Accepting}
-use Rattle.fn_best.proofs.Order.{best_is_one}
+use Rattle.fn_accepted.specs.Accepted.{Accepting}
+use Rattle.fn_candidates.proofs.Order.{best_is_one}
 use Rattle.fn_line.specs.Lines.{Contexts, IsBest, Act, Event, Packet, Puts, Line, Alone, sent, emptied, ended, puts_on, stopped, acts_on, octets_of, acts_of, packets_of}
 use Rattle.fn_line.specs.Lines.Act.{Send, Reset}
 use Rattle.fn_line.specs.Hearing.{Whole, packet, reset, nothing, waits, goes_on}

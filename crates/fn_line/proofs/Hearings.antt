@@ -2,7 +2,7 @@
 use Rattle.std.proofs.Common.{◌≡◌, ◌∙◌, refl, sym, ap, subst, ℕ, List, ◌++◌, append_assoc}
 use Rattle.std.proofs.lemmas.List.{append_cancel_left}
 use Rattle.fn_fits.specs.Fronts.{Det}
-use Rattle.fn_checker.specs.Accepted.{Accepting}
+use Rattle.fn_accepted.specs.Accepted.{Accepting}
 use Rattle.fn_line.specs.Lines.{Contexts}
 use Rattle.fn_line.specs.Hearing.{Found, Heard, waits, goes_on}
 use Rattle.fn_line.specs.Laws.{HeardJoin, HeardOnce, IsSame}

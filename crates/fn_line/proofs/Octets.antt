@@ -10,7 +10,7 @@ use Rattle.fn_filling.specs.declared.filling.Filling.{Filling}
 use Rattle.fn_filling.specs.Fillings.{packed}
 use Rattle.fn_fits.specs.Fits.{Context}
 use Rattle.fn_fits.specs.Fronts.{FitsTop, InFronts, Det}
-use Rattle.fn_checker.specs.Accepted.{Accepting}
+use Rattle.fn_accepted.specs.Accepted.{Accepting}
 
 -- the shorter of two fronts of a list is at the front of the longer one
 pub front_of : {A : Type 0} (a b x y : List A) → length a ≤ length b → a ++ x ≡ b ++ y → (z : List A) × (b ≡ a ++ z)

@@ -13,7 +13,7 @@ use Rattle.fn_filling.specs.declared.filling.Filling.{Filling}
 use Rattle.fn_filling.specs.declared.filling.Item.{Item}
 use Rattle.fn_filling.specs.Fillings.{packed, item}
 use Rattle.fn_filling.specs.Entries.{entries}
-use Rattle.fn_checker.specs.Accepted.{Accepting}
+use Rattle.fn_accepted.specs.Accepted.{Accepting}
 use Rattle.fn_engine.specs.Reading.{Fitting, Fronts, IsTruncated}
 use Rattle.fn_engine.specs.Reading as reading
 use Rattle.fn_line.specs.Steps.{IsFresh, IsTaken, IsAwaited, HasBadPadding}

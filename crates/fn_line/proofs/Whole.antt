@@ -6,7 +6,7 @@ use Rattle.std.specs.Option.{option_map}
 use Rattle.std.proofs.lemmas.List.{take_more, take-map, map-append, append-nil}
 use Rattle.std.proofs.lemmas.Option.{slice_get-map, slice_get-get_or}
 use Rattle.std.proofs.lemmas.Grind.{flat_map-append}
-use Rattle.fn_checker.specs.Accepted.{Accepting}
+use Rattle.fn_accepted.specs.Accepted.{Accepting}
 use Rattle.fn_engine.specs.declared.writer.PackFault.{PackFault}
 use Rattle.fn_engine.specs.declared.writer.PackFault.TheVariants.{HeaderLength, Asked, NoFormat, Flow}
 use Rattle.fn_engine.specs.declared.writer.PackFault.TheVariants as pack

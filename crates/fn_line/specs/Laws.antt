@@ -2,7 +2,7 @@
 use Rattle.std.specs.Prelude.{◌≡◌, ℕ, List, [], ◌∷◌, ◌++◌, length, slice_get, Some}
 use Rattle.fn_context.specs.Entries.{Entries}
 use Rattle.fn_fits.specs.Fronts.{Det}
-use Rattle.fn_checker.specs.Accepted.{Accepting}
+use Rattle.fn_accepted.specs.Accepted.{Accepting}
 use Rattle.fn_line.specs.Lines.{Contexts, Act, Event, Packet, Line, Alone, octets_of, acts_of, packets_of}
 use Rattle.fn_line.specs.Lines.Act.{Send, Reset}
 use Rattle.fn_line.specs.Hearing.{Found, Heard, BlamesOctet}

@@ -7,8 +7,8 @@ use Rattle.fn_filling.specs.declared.filling.Filling.{Filling}
 use Rattle.fn_filling.specs.declared.filling.Item.{Item}
 use Rattle.fn_filling.specs.Fillings.{packed}
 use Rattle.fn_filling.specs.Entries.{next}
-use Rattle.fn_best.specs.Best.{Best}
-use Rattle.fn_checker.specs.Accepted.{Accepting}
+use Rattle.fn_candidates.specs.Best.{Best}
+use Rattle.fn_accepted.specs.Accepted.{Accepting}
 use Rattle.fn_line.specs.declared.flow.LineVersion.{LineVersion}
 use Rattle.fn_line.specs.declared.flow.LineVersion.TheVariants.{One, Two}
 

@@ -1,6 +1,6 @@
 -- Whole runs of a line: a list of events, and all octets of one.
 use Rattle.std.specs.Prelude.{◌≡◌, ℕ, List, ◌∷◌, ◌++◌, take, slice_get, Option, Some, None}
-use Rattle.fn_checker.specs.Accepted.{Accepting}
+use Rattle.fn_accepted.specs.Accepted.{Accepting}
 use Rattle.fn_engine.specs.declared.writer.PackFault.{PackFault}
 use Rattle.fn_engine.specs.declared.writer.PackFault.TheVariants as pack
 use Rattle.fn_line.specs.Lines.{Contexts, Packet, Line, octets_of, no_entries}

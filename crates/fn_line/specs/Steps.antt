@@ -6,7 +6,7 @@ use Rattle.fn_filling.specs.declared.filling.Filling.{Filling}
 use Rattle.fn_filling.specs.declared.filling.Item.{Item}
 use Rattle.fn_filling.specs.Fillings.{packed, item}
 use Rattle.fn_filling.specs.Entries.{next}
-use Rattle.fn_checker.specs.Accepted.{Accepting}
+use Rattle.fn_accepted.specs.Accepted.{Accepting}
 use Rattle.fn_engine.specs.Reading.{Fitting, Fronts}
 use Rattle.fn_line.specs.Lines.{Contexts, IsBest, reset_octet}
 use Rattle.fn_line.specs.Hearing.{Found, NoFront, IsPart, Heard, IsRefused, IsBadlyFilled}

@@ -9,7 +9,7 @@ use crate::fault::LineFault;
 use crate::flow::{Flow, Start, start_of};
 use crate::unfinished::Unfinished;
 use fn_bits::{Bits, Cursor};
-use fn_checker::Accepted;
+use fn_accepted::Accepted;
 use fn_context::Context;
 use fn_engine::{Read, UnpackFault, most_octets, unpack, unpack_drawn};
 use fn_filling::Item;

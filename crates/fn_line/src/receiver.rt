@@ -10,7 +10,7 @@ use crate::fault::LineFault;
 use crate::flow::{Flow, LineVersion, no_contexts};
 use crate::packet::{hear, hear_whole};
 use crate::unfinished::Unfinished;
-use fn_checker::Accepted;
+use fn_accepted::Accepted;
 use fn_context::Context;
 use fn_filling::Item;
 use std::alloc::{AllocError, Global};

@@ -10,7 +10,7 @@ use crate::fault::LineFault;
 use crate::flow::{Flow, LineVersion};
 use crate::receiver::Receiver;
 use crate::sender::Sender;
-use fn_checker::Accepted;
+use fn_accepted::Accepted;
 use fn_engine::PackFault;
 use fn_filling::Item;
 use std::alloc::{AllocError, Global};

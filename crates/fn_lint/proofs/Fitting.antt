@@ -29,9 +29,9 @@ use Rattle.fn_filling.specs.Fillings.{sides_of, fields_of, level}
 use Rattle.fn_filling.specs.Entries.{Path, below}
 use Rattle.fn_fits.specs.Numbers.{known_level}
 use Rattle.fn_fits.proofs.Lying.{AreSmall, known_lies}
-use Rattle.fn_holds.specs.Level.{Evaluates}
-use Rattle.fn_holds.proofs.Limits.{whole_small}
-use Rattle.fn_holds.proofs.Readying.{evaluates}
+use Rattle.fn_fits.specs.Level.{Evaluates}
+use Rattle.fn_fits.proofs.Limits.{whole_small}
+use Rattle.fn_fits.proofs.Readying.{evaluates}
 use Rattle.fn_fits.specs.Fits.{Context, Fits, LevelFits, IsShaped, format_at, side_of, method_of, assigned, reference_of}
 use Rattle.fn_fits.specs.Bounded as bounded
 use Rattle.fn_fits.specs.Bounded.{ArgumentsLie, LengthsLie, LiesBetween, SidesLie}

@@ -8,7 +8,7 @@ ghost use Rattle.fn_lint.specs.Obstacles as spec;
 use crate::lengths::no_length;
 use crate::never::first_untrue;
 use crate::unfit::{sends_more, splits_octets};
-use fn_bounds::ranging::format_ranges;
+use fn_sizes::ranging::format_ranges;
 use fn_expr::{Interval, Side};
 use fn_normal::{Format, FormatSizes, MethodSizes};
 use fn_profile::Profile;

@@ -8,12 +8,12 @@ ghost use Rattle.fn_plans.specs.Knowing as knowing;
 ghost use Rattle.fn_plans.specs.Needing as spec;
 
 use crate::facts::fact_of;
-use crate::fields::is_header;
 use crate::knowledge::{FieldKnowledge, Knowledge, NOTHING};
 use crate::needs::{Need, NeedRule};
 use fn_cert::Fact;
 use fn_expr::{Attribute, Expr, Measure, Side, Subject};
 use fn_normal::{Field, Format};
+use fn_rules::fields::is_header;
 
 /// Whether a step of this rule is enabled: all that it needs is known, and nothing that hinders it.
 pub fn enables(known: &Knowledge, format: &Format, rule: &NeedRule<'_>) -> bool

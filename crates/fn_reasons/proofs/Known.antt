@@ -53,8 +53,8 @@ use Rattle.fn_fits.proofs.Bounding.{placed as bounded_at}
 use Rattle.fn_fits.proofs.Inverted.{CalledParts}
 use Rattle.fn_fits.proofs.Lying.{known_lies}
 use Rattle.fn_fits.proofs.Values.{vals_same}
-use Rattle.fn_holds.specs.Ready.{ArgumentsLieAt}
-use Rattle.fn_holds.proofs.Readying.{call_lies}
+use Rattle.fn_fits.specs.Ready.{ArgumentsLieAt}
+use Rattle.fn_fits.proofs.Readying.{call_lies}
 use Rattle.fn_fits.proofs.Sized.{and_then_some, crc_parts, two_parts}
 use Rattle.std.proofs.lemmas.List.{length-map}
 use Rattle.fn_lint.proofs.Fitting.{Sits}

@@ -9,7 +9,7 @@ use Rattle.fn_filling.specs.Entries.{Path}
 use Rattle.fn_filling.specs.Fillings.{header, packed}
 use Rattle.fn_fits.specs.Bounded.{ArgumentsLie}
 use Rattle.fn_fits.specs.Fits.{Fits}
-use Rattle.fn_holds.specs.Ready.{ArgumentsLieAt}
+use Rattle.fn_fits.specs.Ready.{ArgumentsLieAt}
 use Rattle.fn_profile.specs.Resolved.{Resolved}
 use Rattle.fn_reasons.specs.declared.spot.Spot.{Spot}
 

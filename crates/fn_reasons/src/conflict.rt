@@ -18,7 +18,7 @@ use crate::subjects::{seen_at, seen_subject};
 use fn_bits::Bits;
 use fn_expr::{Ranges, Side};
 use fn_filling::below;
-use fn_holds::sides::reference_below;
+use fn_fits::whole_sides::reference_below;
 use fn_normal::{Encoding, Field, Library};
 use std::alloc::{AllocError, Global};
 

@@ -11,7 +11,7 @@ use crate::placing::only_length;
 use crate::spot::Spot;
 use fn_bits::Bits;
 use fn_expr::{Expr, Ranges, Side};
-use fn_holds::sides::reference_below;
+use fn_fits::whole_sides::reference_below;
 use fn_normal::{Encoding, Field, FormatSizes, Library};
 use sqlite_items::Items;
 use std::alloc::{AllocError, Global};

@@ -13,7 +13,7 @@ use crate::sight::Sight;
 use crate::spot::Spot;
 use fn_bits::Bits;
 use fn_expr::{Ranges, Side};
-use fn_holds::sides::reference_below;
+use fn_fits::whole_sides::reference_below;
 use fn_normal::{Encoding, Field, Format, FormatSizes, Library};
 use sqlite_items::Items;
 use std::alloc::{AllocError, Global};

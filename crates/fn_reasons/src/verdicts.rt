@@ -26,7 +26,7 @@ use crate::spot::Spot;
 use crate::subjects::joined;
 use crate::undefined::{undefined_argument, undefined_condition};
 use fn_bits::Bits;
-use fn_bounds::ranging::format_ranges;
+use fn_sizes::ranging::format_ranges;
 use fn_expr::{Expr, Interval, Ranges, Side, range};
 use fn_filling::below;
 use fn_lint::{first_untrue, obstacle_of};

@@ -3,7 +3,8 @@
 use crate::outcome::{First, Outcome};
 use crate::samples::Sample;
 use crate::stop::Stop;
-use fn_cert::{Certificate, CertificateError, print};
+use fn_cert::Certificate;
+use fn_cert_text::{CertificateError, print};
 use fn_checker::{CheckError, check};
 use fn_profile::Profile;
 use std::alloc::Global;
@@ -22,7 +23,7 @@ fn proved_text(alloc: Global, sample: &Sample, profile: &Profile) -> Result<Stri
 }
 
 fn read_twice(alloc: Global, profile: &Profile, text: &str) -> Result<Outcome, Stop> {
-    match fn_cert::read(alloc, profile, text) {
+    match fn_cert_text::read(alloc, profile, text) {
         Ok(found) => judged(alloc, First::Answered, &found, text),
         Err(CertificateError::OutOfMemory) => read_again(alloc, profile, text),
         Err(_) => Ok(Outcome::Wrong),
@@ -30,7 +31,7 @@ fn read_twice(alloc: Global, profile: &Profile, text: &str) -> Result<Outcome, S
 }
 
 fn read_again(alloc: Global, profile: &Profile, text: &str) -> Result<Outcome, Stop> {
-    match fn_cert::read(alloc, profile, text) {
+    match fn_cert_text::read(alloc, profile, text) {
         Ok(found) => judged(alloc, First::Kept, &found, text),
         Err(_) => Ok(Outcome::WrongAgain),
     }

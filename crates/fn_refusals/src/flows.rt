@@ -3,7 +3,7 @@
 use crate::outcome::{First, Outcome};
 use crate::samples::Sample;
 use crate::stop::Stop;
-use fn_checker::Accepted;
+use fn_accepted::Accepted;
 use fn_engine::PackFault;
 use fn_filling::Item;
 use fn_line::{Flow, LineFault, LineVersion, Receiver, Sender};
@@ -16,52 +16,45 @@ const FLOW: u8 = 3;
 const RESET: u8 = 0x13;
 
 /// `send PROFILE`: the second packet of a flow. Another sender, which is refused no memory, puts the same on a line of its own.
-pub(crate) fn sends(alloc: Global, sample: &Sample) -> Result<Outcome, Stop> {
-    let accepted = sample.accepted(alloc)?;
+pub(crate) fn sends(alloc: Global, accepted: &Accepted, sample: &Sample) -> Result<Outcome, Stop> {
+    let due = second_packet(alloc, accepted, sample)?;
     let next = sample.next(alloc)?;
-    let Some(flow) = Flow::new(FLOW) else {
-        return Err(Stop::Row("no flow"));
-    };
-    let other = begun(alloc, flow, sample, &accepted)?;
-    let due = next_packet(alloc, flow, &next, other)?;
-    let mut sender = begun(alloc, flow, sample, &accepted)?;
-    send_next(alloc, &mut sender, flow, &next, due.as_slice())
+    let mut sender = begun(alloc, accepted, sample)?;
+    send_next(alloc, &mut sender, &next, due.as_slice())
 }
 
 /// A sender that has put the first packet of its flow on a line.
-fn begun<'a>(
-    alloc: Global,
-    flow: Flow,
-    sample: &Sample,
-    accepted: &'a Accepted,
-) -> Result<Sender<'a>, Stop> {
-    let item = sample.item(alloc)?;
+fn begun<'a>(alloc: Global, accepted: &'a Accepted, sample: &Sample) -> Result<Sender<'a>, Stop> {
     let mut sender = Sender::new(alloc, accepted, LineVersion::One)?;
-    let mut line = Vec::new(alloc);
-    sender.send(flow, &item, &mut line)?;
+    let _ = sent(alloc, &mut sender, &sample.item(alloc)?)?;
     Ok(sender)
 }
 
-/// The second packet by such a sender.
-fn next_packet(
-    alloc: Global,
-    flow: Flow,
-    next: &Item,
-    sender: Sender<'_>,
-) -> Result<Vec<u8>, Stop> {
-    let mut sender = sender;
+/// What the sender puts on a line for the item.
+fn sent(alloc: Global, sender: &mut Sender<'_>, item: &Item) -> Result<Vec<u8>, Stop> {
+    let Some(flow) = Flow::new(FLOW) else {
+        return Err(Stop::Row("no flow"));
+    };
     let mut line = Vec::new(alloc);
-    sender.send(flow, next, &mut line)?;
+    sender.send(flow, item, &mut line)?;
     Ok(line)
+}
+
+/// The second packet of such a sender.
+fn second_packet(alloc: Global, accepted: &Accepted, sample: &Sample) -> Result<Vec<u8>, Stop> {
+    let mut sender = begun(alloc, accepted, sample)?;
+    sent(alloc, &mut sender, &sample.next(alloc)?)
 }
 
 fn send_next(
     alloc: Global,
     sender: &mut Sender<'_>,
-    flow: Flow,
     item: &Item,
     due: &[u8],
 ) -> Result<Outcome, Stop> {
+    let Some(flow) = Flow::new(FLOW) else {
+        return Err(Stop::Row("no flow"));
+    };
     let mut line = Vec::new(alloc);
     match sender.send(flow, item, &mut line) {
         Ok(()) => Ok(First::Answered.then(line.as_slice() == due)),
@@ -76,25 +69,22 @@ fn send_next(
 
 /// `reset PROFILE`: the reset of a flow that has sent. Where it was refused memory, the sender goes on with a packet before it is made again, so that a context
 /// that went would show.
-pub(crate) fn resets(alloc: Global, sample: &Sample) -> Result<Outcome, Stop> {
-    let accepted = sample.accepted(alloc)?;
+pub(crate) fn resets(alloc: Global, accepted: &Accepted, sample: &Sample) -> Result<Outcome, Stop> {
+    let due = second_packet(alloc, accepted, sample)?;
     let next = sample.next(alloc)?;
-    let Some(flow) = Flow::new(FLOW) else {
-        return Err(Stop::Row("no flow"));
-    };
-    let other = begun(alloc, flow, sample, &accepted)?;
-    let due = next_packet(alloc, flow, &next, other)?;
-    let mut sender = begun(alloc, flow, sample, &accepted)?;
-    reset_flow(alloc, &mut sender, flow, &next, due.as_slice())
+    let mut sender = begun(alloc, accepted, sample)?;
+    reset_flow(alloc, &mut sender, &next, due.as_slice())
 }
 
 fn reset_flow(
     alloc: Global,
     sender: &mut Sender<'_>,
-    flow: Flow,
     item: &Item,
     due: &[u8],
 ) -> Result<Outcome, Stop> {
+    let Some(flow) = Flow::new(FLOW) else {
+        return Err(Stop::Row("no flow"));
+    };
     let mut line = Vec::new(alloc);
     match sender.reset(flow, &mut line) {
         Ok(()) => Ok(First::Answered.then(line.as_slice() == [RESET].as_slice())),
@@ -111,23 +101,17 @@ fn reset_flow(
 }
 
 /// `feed PROFILE`: the octets of two packets of a flow. A receiver that was refused memory keeps the items before, and says so again.
-pub(crate) fn feeds(alloc: Global, sample: &Sample) -> Result<Outcome, Stop> {
-    let accepted = sample.accepted(alloc)?;
-    let octets = two_packets(alloc, sample, &accepted)?;
-    let mut receiver = Receiver::new(alloc, &accepted, LineVersion::One)?;
+pub(crate) fn feeds(alloc: Global, accepted: &Accepted, sample: &Sample) -> Result<Outcome, Stop> {
+    let octets = two_packets(alloc, accepted, sample)?;
+    let mut receiver = Receiver::new(alloc, accepted, LineVersion::One)?;
     feed(alloc, sample, &mut receiver, octets.as_slice())
 }
 
-fn two_packets(alloc: Global, sample: &Sample, accepted: &Accepted) -> Result<Vec<u8>, Stop> {
-    let item = sample.item(alloc)?;
-    let next = sample.next(alloc)?;
-    let Some(flow) = Flow::new(FLOW) else {
-        return Err(Stop::Row("no flow"));
-    };
+fn two_packets(alloc: Global, accepted: &Accepted, sample: &Sample) -> Result<Vec<u8>, Stop> {
     let mut sender = Sender::new(alloc, accepted, LineVersion::One)?;
-    let mut octets = Vec::new(alloc);
-    sender.send(flow, &item, &mut octets)?;
-    sender.send(flow, &next, &mut octets)?;
+    let mut octets = sent(alloc, &mut sender, &sample.item(alloc)?)?;
+    let more = sent(alloc, &mut sender, &sample.next(alloc)?)?;
+    octets.extend_from_slice(more.as_slice())?;
     Ok(octets)
 }
 

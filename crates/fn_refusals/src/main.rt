@@ -13,8 +13,9 @@ mod packets;
 mod samples;
 mod stop;
 
+use fn_accepted::Accepted;
 use outcome::Outcome;
-use samples::sample_of;
+use samples::{Sample, sample_of};
 use std::alloc::Global;
 use std::io;
 use std::io::Eprint;
@@ -68,11 +69,28 @@ fn outcome_of(alloc: Global, call: &str, rest: &str) -> Result<Outcome, Stop> {
         "context" => contexts::read_text(alloc, rest),
         "read" => certificates::reads(alloc, &sample_of(rest)?),
         "check" => certificates::checks(alloc, &sample_of(rest)?),
-        "pack" => packets::packs(alloc, &sample_of(rest)?),
-        "unpack" => packets::unpacks(alloc, &sample_of(rest)?),
-        "send" => flows::sends(alloc, &sample_of(rest)?),
-        "reset" => flows::resets(alloc, &sample_of(rest)?),
-        "feed" => flows::feeds(alloc, &sample_of(rest)?),
+        _ => outcome_by(alloc, call, &sample_of(rest)?),
+    }
+}
+
+/// The outcome of a call by the sample's profile, which is accepted and let go of here alone.
+fn outcome_by(alloc: Global, call: &str, sample: &Sample) -> Result<Outcome, Stop> {
+    let accepted = sample.accepted(alloc)?;
+    accepted_outcome(alloc, call, &accepted, sample)
+}
+
+fn accepted_outcome(
+    alloc: Global,
+    call: &str,
+    accepted: &Accepted,
+    sample: &Sample,
+) -> Result<Outcome, Stop> {
+    match call {
+        "pack" => packets::packs(alloc, accepted, sample),
+        "unpack" => packets::unpacks(alloc, accepted, sample),
+        "send" => flows::sends(alloc, accepted, sample),
+        "reset" => flows::resets(alloc, accepted, sample),
+        "feed" => flows::feeds(alloc, accepted, sample),
         _ => Err(Stop::Row("no such call")),
     }
 }

@@ -3,18 +3,17 @@
 use crate::outcome::{First, Outcome};
 use crate::samples::Sample;
 use crate::stop::Stop;
+use fn_accepted::Accepted;
 use fn_bits::{Bits, Cursor};
-use fn_checker::Accepted;
 use fn_context::Context;
 use fn_engine::{PackFault, Read, UnpackFault, Written, pack, unpack};
 use fn_filling::Item;
 use std::alloc::Global;
 
 /// `pack PROFILE`: the packet of the item.
-pub(crate) fn packs(alloc: Global, sample: &Sample) -> Result<Outcome, Stop> {
-    let accepted = sample.accepted(alloc)?;
+pub(crate) fn packs(alloc: Global, accepted: &Accepted, sample: &Sample) -> Result<Outcome, Stop> {
     let context = sample.context(alloc)?;
-    packed_in(alloc, &accepted, &context, &sample.item(alloc)?)
+    packed_in(alloc, accepted, &context, &sample.item(alloc)?)
 }
 
 fn packed_in(
@@ -46,13 +45,16 @@ fn packed(
 }
 
 /// `unpack PROFILE`: the item that bits are read as, by a cursor that took seven before.
-pub(crate) fn unpacks(alloc: Global, sample: &Sample) -> Result<Outcome, Stop> {
-    let accepted = sample.accepted(alloc)?;
+pub(crate) fn unpacks(
+    alloc: Global,
+    accepted: &Accepted,
+    sample: &Sample,
+) -> Result<Outcome, Stop> {
     let context = sample.context(alloc)?;
     let bits = sample.bits(alloc)?;
     let mut cursor = Cursor::new(&bits);
     let _ = cursor.take(alloc, 7)?;
-    read_in(alloc, &accepted, &context, cursor)
+    read_in(alloc, accepted, &context, cursor)
 }
 
 fn read_in(

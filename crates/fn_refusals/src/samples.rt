@@ -2,9 +2,10 @@
 
 use crate::bits::bits_of;
 use crate::stop::Stop;
+use fn_accepted::Accepted;
 use fn_bits::Bits;
 use fn_cert::{Certificate, Version};
-use fn_checker::{Accepted, CheckError, check};
+use fn_checker::{CheckError, check};
 use fn_context::Context;
 use fn_filling::Item;
 use fn_names::read;

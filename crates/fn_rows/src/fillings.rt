@@ -8,7 +8,7 @@ use crate::words::{bits, count, parted, put_bits};
 use anyhow::{Context as _, Result, anyhow};
 use fn_context::Context;
 use fn_filling::{FilledField, Filling, advance, below};
-use fn_holds::holds;
+use fn_model::holds;
 use fn_names::read;
 use fn_normal::{Declared, Name, Part, Shared};
 use fn_profile::Profile;

@@ -2,7 +2,7 @@
 
 use crate::words::{bits, put_bits};
 use anyhow::{Result, ensure};
-use fn_checker::Accepted;
+use fn_accepted::Accepted;
 use fn_filling::Item;
 use fn_line::{Flow, LineFault, LineVersion, Receiver};
 use std::alloc::Global;

@@ -16,6 +16,7 @@ mod trees;
 mod words;
 
 use anyhow::Result;
+use fn_accepted::Accepted;
 use fn_line::LineVersion;
 use percent_encoding::{CONTROLS, percent_decode, utf8_percent_encode};
 use std::alloc::Global;
@@ -101,12 +102,21 @@ fn keep(profile: &mut String, rest: &str) -> Result<()> {
 
 /// The answer to a row on the profile, accepted with the certificate that `prove` makes.
 fn accepted(alloc: Global, out: &mut String, profile: &str, verb: &str, rest: &str) -> Result<()> {
-    let accepted = trees::accept(alloc, profile)?;
+    by_accepted(alloc, out, &trees::accept(alloc, profile)?, verb, rest)
+}
+
+fn by_accepted(
+    alloc: Global,
+    out: &mut String,
+    accepted: &Accepted,
+    verb: &str,
+    rest: &str,
+) -> Result<()> {
     match verb {
-        "pieces" => lines::pieces(alloc, out, &accepted, LineVersion::One, rest),
-        "wide" => lines::pieces(alloc, out, &accepted, LineVersion::Two, rest),
-        "cuttings" => lines::cuttings(alloc, out, &accepted, rest),
-        _ => trees::tables(alloc, out, &accepted, rest),
+        "pieces" => lines::pieces(alloc, out, accepted, LineVersion::One, rest),
+        "wide" => lines::pieces(alloc, out, accepted, LineVersion::Two, rest),
+        "cuttings" => lines::cuttings(alloc, out, accepted, rest),
+        _ => trees::tables(alloc, out, accepted, rest),
     }
 }
 

@@ -3,9 +3,10 @@
 use crate::fillings::read_profile;
 use crate::words::count;
 use anyhow::{Context as _, Result, anyhow};
+use fn_accepted::{Accepted, Picked};
 use fn_bits::{Bits, Cursor};
 use fn_cert::{Node, Version};
-use fn_checker::{Accepted, Picked, check};
+use fn_checker::check;
 use fn_context::Context;
 use fn_prover::prove;
 use sqlite_items::at;

@@ -1,8 +1,9 @@
 //! Where a method is drawn, and what it goes by.
 
 use crate::stop::Stop;
+use fn_accepted::{Accepted, Picked};
+use fn_acts::ActList;
 use fn_bits::Cursor;
-use fn_checker::{Accepted, ActList, Picked};
 use fn_context::Context;
 use fn_expr::Side;
 use fn_filling::AskedValue;

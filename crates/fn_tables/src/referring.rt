@@ -6,7 +6,7 @@ ghost use Rattle.fn_rules.specs.Trees.{is_number, referred, references};
 
 use fn_bits::Bits;
 use fn_context::Context;
-use fn_holds::sides::reference_below;
+use fn_fits::whole_sides::reference_below;
 use fn_normal::Format;
 use std::alloc::{AllocError, Global};
 

@@ -31,17 +31,17 @@ use Rattle.fn_rules.specs.Rules.{choice}
 use Rattle.fn_rules.specs.Views.{view, side_at}
 use Rattle.fn_rules.proofs.Agree.{side_is, inner_is}
 use Rattle.fn_rules.proofs.Inputs.{declared_of, declared_in}
-use Rattle.fn_best.specs.declared.digits.Digits.{Digits}
-use Rattle.fn_best.specs.declared.digits.Start.{Start}
-use Rattle.fn_best.specs.Codes.{number, called_at, write_plan, IsCandidate}
-use Rattle.fn_best.specs.Reading.{Divides, IsNext, CarriesOn, IsReading, ShareDigits, ShareUpTo}
-use Rattle.fn_best.proofs.Fitting.{is_candidate}
-use Rattle.fn_best.proofs.Kept.{reading_passes, reading_parts, ways_of_choice, ways_of_call}
-use Rattle.fn_best.proofs.Reading as digits
-use Rattle.fn_checker.specs.Accepted.{Accepting}
-use Rattle.fn_walk.specs.declared.place.Place.{Place}
-use Rattle.fn_writing.specs.Writing.{Begins as StandsIn, asked_before}
-use Rattle.fn_writing.proofs.Steps.{asked_at}
+use Rattle.fn_candidates.specs.declared.digits.Digits.{Digits}
+use Rattle.fn_candidates.specs.declared.digits.Start.{Start}
+use Rattle.fn_candidates.specs.Codes.{number, called_at, write_plan, IsCandidate}
+use Rattle.fn_candidates.specs.Reading.{Divides, IsNext, CarriesOn, IsReading, ShareDigits, ShareUpTo}
+use Rattle.fn_candidates.proofs.Fitting.{is_candidate}
+use Rattle.fn_candidates.proofs.Kept.{reading_passes, reading_parts, ways_of_choice, ways_of_call}
+use Rattle.fn_candidates.proofs.Reading as digits
+use Rattle.fn_accepted.specs.Accepted.{Accepting}
+use Rattle.fn_accepted.specs.declared.place.Place.{Place}
+use Rattle.fn_candidates.specs.Writing.{Begins as StandsIn, asked_before}
+use Rattle.fn_candidates.proofs.Steps.{asked_at}
 use Rattle.fn_writer.specs.declared.told.Chosen.{Chosen}
 use Rattle.fn_writer.specs.Foreseeing.{IsAsked, IsAskedFor, HasSeen, StandsBefore, SeesOn, IsRefutedInside, by_values, by_start, AreRefutedInside}
 use Rattle.fn_writer.specs.Going.{Begins}

@@ -14,12 +14,12 @@ use Rattle.fn_filling.specs.Entries.{below}
 use Rattle.fn_filling.specs.Fillings.{asked_values, is_header, level}
 use Rattle.fn_fits.specs.Bounded.{sizes_at}
 use Rattle.fn_fits.specs.Fits.{Fits, format_at}
-use Rattle.fn_best.specs.declared.digits.Digits.{Digits}
-use Rattle.fn_best.specs.Codes.{number, IsCandidate}
-use Rattle.fn_best.specs.Digits.{InSpan}
-use Rattle.fn_best.specs.Reading.{IsReading}
-use Rattle.fn_walk.specs.declared.place.Place.{Place}
-use Rattle.fn_writing.specs.Writing.{IsChecked, asked_before}
+use Rattle.fn_candidates.specs.declared.digits.Digits.{Digits}
+use Rattle.fn_candidates.specs.Codes.{number, IsCandidate}
+use Rattle.fn_candidates.specs.Digits.{InSpan}
+use Rattle.fn_candidates.specs.Reading.{IsReading}
+use Rattle.fn_accepted.specs.declared.place.Place.{Place}
+use Rattle.fn_candidates.specs.Writing.{IsChecked, asked_before}
 use Rattle.fn_writer.specs.declared.told.Chosen.{Chosen}
 use Rattle.fn_writer.specs.Told.{HasChosen}
 use Rattle.fn_writer.specs.Refuting.{HasFalse, HaveBefore, IsRefuted, operand}

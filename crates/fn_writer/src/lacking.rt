@@ -9,11 +9,11 @@ ghost use Rattle.fn_writer.specs.Told.{numbers};
 
 use crate::refuting::{has_false, is_header, only_length};
 use crate::told::{Told, values_of};
+use fn_accepted::Accepted;
+use fn_accepted::place::{format_of, sizes_of};
 use fn_bits::Cursor;
-use fn_checker::Accepted;
 use fn_expr::Expr;
 use fn_normal::{Encoding, Library, Sizes};
-use fn_walk::place::{format_of, sizes_of};
 use sqlite_items::at;
 use std::alloc::{AllocError, Global};
 

@@ -144,7 +144,7 @@ fn origin_notes(
             let Ok(text) = str::from_utf8(given) else {
                 return Ok(String::new(alloc));
             };
-            match fn_cert::read(alloc, &profile, text) {
+            match fn_cert_text::read(alloc, &profile, text) {
                 Ok(certificate) => verdict_notes(alloc, octets, profile, certificate, text),
                 Err(_) => Ok(String::new(alloc)),
             }

@@ -13,15 +13,15 @@ use Rattle.fn_normal.specs.declared.profile.Method.{Method}
 use Rattle.fn_profile.specs.Resolved.{IsSound, Resolved}
 use Rattle.fn_cert.specs.declared.certificate.Version.{Version}
 use Rattle.fn_cert.specs.Kept.{Certified, AreKept}
-use Rattle.fn_cert.specs.Text.{certificate_text}
-use Rattle.fn_cert.specs.Faults.{IsReading, Blames, text_limit}
-use Rattle.fn_cert.specs.declared.reading.CertificateError.{CertificateError}
+use Rattle.fn_cert_text.specs.Text.{certificate_text}
+use Rattle.fn_cert_text.specs.Faults.{IsReading, Blames, text_limit}
+use Rattle.fn_cert_text.specs.declared.reading.CertificateError.{CertificateError}
 use Rattle.fn_rules.specs.declared.fault.CheckFault.{CheckFault}
 use Rattle.fn_rules.specs.Valid.{Valid}
-use Rattle.fn_checker.specs.Accepted as check
-use Rattle.fn_checker.specs.Accepted.{Accepting, IsAccepted}
-use Rattle.fn_checker.specs.declared.accepted.CheckError.{CheckError}
-use Rattle.fn_checker.specs.declared.accepted.CheckError.TheVariants.{Fault}
+use Rattle.fn_checker.specs.Blaming as check
+use Rattle.fn_accepted.specs.Accepted.{Accepting, IsAccepted}
+use Rattle.fn_checker.specs.declared.refusal.CheckError.{CheckError}
+use Rattle.fn_checker.specs.declared.refusal.CheckError.TheVariants.{Fault}
 use Rattle.fn_prover.specs.Proved.{IsProved, IsUnproved}
 use Rattle.fn_prover.specs.declared.unproved.Unproved.{Unproved}
 use Rattle.rohcfn_report.specs.declared.accepting.Found.{Found}

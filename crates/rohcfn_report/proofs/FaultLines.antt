@@ -3,11 +3,11 @@ use Rattle.std.proofs.Common.{◌≡◌, ℕ, zero, suc, ◌+◌, ◌&&◌, Bool
 use Rattle.std.specs.Prelude.{flat_map, slice_get, option_and_then, option_map}
 use Rattle.std.specs.List.{list_all}
 use Rattle.fn_context.specs.Path.{is_name}
-use Rattle.fn_cert.specs.Text.{name_of, side_word}
+use Rattle.fn_cert_text.specs.Text.{name_of, side_word}
 use Rattle.fn_cert.specs.declared.certificate.Direction.{Direction}
 use Rattle.fn_cert.specs.declared.certificate.Direction.TheVariants as direction
-use Rattle.fn_cert.specs.declared.reading.CertificateError.{CertificateError}
-use Rattle.fn_cert.specs.declared.reading.CertificateError.TheVariants as error
+use Rattle.fn_cert_text.specs.declared.reading.CertificateError.{CertificateError}
+use Rattle.fn_cert_text.specs.declared.reading.CertificateError.TheVariants as error
 use Rattle.fn_expr.specs.declared.expr.Side.{Side}
 use Rattle.fn_expr.specs.declared.expr.Side.TheVariants as side
 use Rattle.fn_normal.specs.Faults as profiles

@@ -5,14 +5,14 @@ use Rattle.std.specs.Str.{IsUtf8}
 use Rattle.fn_bits.specs.Lines.{numbered_lines, broken_line}
 use Rattle.fn_names.specs.Readings.{Reads}
 use Rattle.fn_profile.specs.Resolved.{Resolved}
-use Rattle.fn_cert.specs.declared.reading.CertificateError.{CertificateError}
+use Rattle.fn_cert_text.specs.declared.reading.CertificateError.{CertificateError}
 use Rattle.fn_cert.specs.declared.certificate.Version.{Version}
 use Rattle.fn_cert.specs.Kept.{Certified, AreKept}
-use Rattle.fn_cert.specs.Faults.{IsReading, Blames, text_limit}
+use Rattle.fn_cert_text.specs.Faults.{IsReading, Blames, text_limit}
 use Rattle.fn_rules.specs.declared.fault.CheckFault.{CheckFault}
 use Rattle.fn_rules.specs.Refusals.{IsRefused}
 use Rattle.fn_rules.specs.Valid.{Valid}
-use Rattle.fn_checker.specs.Accepted.{Accepting}
+use Rattle.fn_accepted.specs.Accepted.{Accepting}
 use Rattle.fn_prover.specs.Proved.{IsProved, IsUnproved}
 use Rattle.fn_prover.specs.declared.unproved.Unproved.{Unproved}
 use Rattle.rohcfn_report.specs.declared.accepting.Found.{Found}

@@ -4,7 +4,7 @@ use Rattle.fn_normal.specs.declared.profile.Method.{Method}
 use Rattle.fn_cert.specs.declared.certificate.Direction.{Direction}
 use Rattle.fn_cert.specs.declared.certificate.Version.{Version}
 use Rattle.fn_cert.specs.Kept.{Certified, AreKept}
-use Rattle.fn_cert.specs.Text.{certificate_text, side_word}
+use Rattle.fn_cert_text.specs.Text.{certificate_text, side_word}
 use Rattle.fn_profile.specs.Resolved.{Resolved}
 use Rattle.fn_order.specs.declared.fault.FieldSide.{FieldSide}
 use Rattle.fn_prover.specs.Proved.{IsProved, IsUnproved}

@@ -15,7 +15,7 @@ use Rattle.fn_expr.specs.declared.inputs.Input.TheVariants as input
 use Rattle.fn_normal.specs.declared.profile.Method.{Method}
 use Rattle.fn_lint.specs.declared.obstacle.Obstacle.TheVariants as obstacle
 use Rattle.fn_profile.specs.Resolved.{Resolved}
-use Rattle.fn_cert.specs.Text.{name_of}
+use Rattle.fn_cert_text.specs.Text.{name_of}
 use Rattle.fn_reasons.specs.declared.figures.Figure.{Figure}
 use Rattle.fn_reasons.specs.declared.line.Line.{Line}
 use Rattle.fn_reasons.specs.declared.reason.Reason.{Reason}

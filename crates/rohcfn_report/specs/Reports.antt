@@ -3,7 +3,7 @@ use Rattle.std.specs.Prelude.{ℕ, ◌+◌, List, [], ◌∷◌, ◌++◌, codes
 use Rattle.fn_profile.specs.Resolved.{Resolved}
 use Rattle.fn_names.specs.Readings.{Reads}
 use Rattle.fn_show.specs.Shown as listing
-use Rattle.fn_checker.specs.Accepted.{Accepting}
+use Rattle.fn_accepted.specs.Accepted.{Accepting}
 use Rattle.fn_cert.specs.declared.certificate.Version.{Version}
 use Rattle.rohcfn_report.specs.declared.accepting.Origin.{Origin}
 use Rattle.rohcfn_input.specs.declared.status.Answer.{Answer}

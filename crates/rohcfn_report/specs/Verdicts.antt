@@ -5,9 +5,9 @@ use Rattle.fn_normal.specs.declared.profile.Format.{Format}
 use Rattle.fn_normal.specs.declared.profile.Method.{Method}
 use Rattle.fn_cert.specs.declared.certificate.Direction.{Direction}
 use Rattle.fn_cert.specs.declared.certificate.Direction.TheVariants.{Read, Write}
-use Rattle.fn_cert.specs.declared.reading.CertificateError.{CertificateError}
-use Rattle.fn_cert.specs.declared.reading.CertificateError.TheVariants.{BadWord, UnknownName, AboveLimits, OutOfMemory}
-use Rattle.fn_cert.specs.Text.{name_of, side_word}
+use Rattle.fn_cert_text.specs.declared.reading.CertificateError.{CertificateError}
+use Rattle.fn_cert_text.specs.declared.reading.CertificateError.TheVariants.{BadWord, UnknownName, AboveLimits, OutOfMemory}
+use Rattle.fn_cert_text.specs.Text.{name_of, side_word}
 use Rattle.fn_rules.specs.declared.fault.CheckFault.{CheckFault}
 use Rattle.fn_rules.specs.declared.fault.CheckFault.TheVariants.{NoMethod, NoFormat, NotEnabled, NeverLearnt, WrongLeaf, ShortFormat, OutOfRange, BeyondWord, TooMany, TooLong}
 

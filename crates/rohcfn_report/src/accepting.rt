@@ -2,7 +2,7 @@
 
 ghost use Rattle.std.specs.Prelude.{◌≡◌, IfOk, string_bytes};
 ghost use Rattle.std.specs.Str.{IsUtf8};
-ghost use Rattle.fn_cert.specs.Faults.{Blames};
+ghost use Rattle.fn_cert_text.specs.Faults.{Blames};
 ghost use Rattle.fn_profile.specs.Resolved.{Resolved};
 ghost use Rattle.rohcfn_report.specs.Accepting as spec;
 ghost use Rattle.rohcfn_report.specs.Verdicts as verdicts;
@@ -12,8 +12,10 @@ use crate::showing::error_line;
 use crate::verdicts::{error_text, unread_line, verdict_line};
 use fn_bits::LinesError;
 use fn_bits::lines::lines;
-use fn_cert::{Certificate, CertificateError, Version};
-use fn_checker::{Accepted, CheckError, check};
+use fn_cert::{Certificate, Version};
+use fn_cert_text::CertificateError;
+use fn_accepted::Accepted;
+use fn_checker::{CheckError, check};
 use fn_names::read;
 use fn_profile::Profile;
 use fn_prover::prove;
@@ -131,7 +133,7 @@ fn broken(alloc: Global, octets: &[u8]) -> Result<String, AllocError>
 fn read_text(alloc: Global, profile: &Profile, text: &str) -> Result<Found, AllocError>
     ensures { IfOk result (spec.IsGiven profile.now text.now) }
 {
-    match fn_cert::read(alloc, profile, text) {
+    match fn_cert_text::read(alloc, profile, text) {
         Ok(certificate) => {
             certificate.keeps();
             Ok(Found::Certificate(certificate))

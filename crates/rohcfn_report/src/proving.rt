@@ -2,13 +2,14 @@
 
 ghost use Rattle.std.specs.Prelude.{◌≡◌, ◌++◌, codes, flat_map, IfOk, string_bytes};
 ghost use Rattle.rohcfn_report.specs.Reports.{ProvesOctets};
-ghost use Rattle.fn_cert.specs.Text.{certificate_text};
+ghost use Rattle.fn_cert_text.specs.Text.{certificate_text};
 ghost use Rattle.rohcfn_report.specs.Provings as spec;
 ghost use Rattle.rohcfn_report.specs.Provings.{Proves};
 
 use crate::showing::error_line;
 use crate::verdicts::{direction_word, field_name, format_name, method_name, names, side_word};
-use fn_cert::{Certificate, Direction, Version, print};
+use fn_cert::{Certificate, Direction, Version};
+use fn_cert_text::print;
 use fn_names::read;
 use fn_normal::Method;
 use fn_order::FieldSide;

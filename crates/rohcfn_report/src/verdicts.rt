@@ -2,10 +2,11 @@
 
 ghost use Rattle.std.specs.Prelude.{◌≡◌, ◌++◌, codes, decimal, IfOk, string_bytes};
 ghost use Rattle.std.specs.Option.{option_copied};
-ghost use Rattle.fn_cert.specs.Text as text;
+ghost use Rattle.fn_cert_text.specs.Text as text;
 ghost use Rattle.rohcfn_report.specs.Verdicts as spec;
 
-use fn_cert::{CertificateError, Direction};
+use fn_cert_text::CertificateError;
+use fn_cert::Direction;
 use fn_expr::Side;
 use fn_normal::{Field, Format, Method, Name};
 use fn_rules::CheckFault;

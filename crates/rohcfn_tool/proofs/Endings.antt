@@ -7,7 +7,7 @@ use Rattle.fn_context.specs.Entries.{Entries}
 use Rattle.fn_filling.specs.declared.filling.Filling.{Filling}
 use Rattle.fn_filling.specs.declared.filling.Item.{Item}
 use Rattle.fn_filling.specs.Entries.{next}
-use Rattle.fn_checker.specs.Accepted.{Accepting}
+use Rattle.fn_accepted.specs.Accepted.{Accepting}
 use Rattle.fn_line.specs.declared.runs.Event.{Event}
 use Rattle.fn_profile.specs.Resolved.{Resolved}
 use Rattle.rohcfn_input.specs.Counted.{Account, most_octets}

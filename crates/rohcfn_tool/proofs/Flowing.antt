@@ -6,7 +6,7 @@ use Rattle.std.specs.declared.alloc.AllocError.{AllocError}
 use Rattle.std.proofs.lemmas.List.{append-nil, drop_more, drop_all}
 use Rattle.hex.specs.Hex.{encode_lower}
 use Rattle.fn_filling.specs.declared.filling.Item.{Item}
-use Rattle.fn_checker.specs.Accepted.{Accepting}
+use Rattle.fn_accepted.specs.Accepted.{Accepting}
 use Rattle.fn_engine.specs.declared.writer.PackFault.{PackFault}
 use Rattle.fn_line.specs.Lines.{no_entries}
 use Rattle.fn_line.specs.Hearing.{Found}

@@ -12,7 +12,7 @@ use Rattle.fn_filling.specs.Entries.{next}
 use Rattle.rohcfn_input.specs.declared.status.Answer.{Answer}
 use Rattle.rohcfn_input.specs.declared.status.Status.{Status}
 use Rattle.rohcfn_input.specs.declared.status.Status.TheVariants as status
-use Rattle.fn_checker.specs.Accepted.{Accepting}
+use Rattle.fn_accepted.specs.Accepted.{Accepting}
 use Rattle.rohcfn_input.specs.declared.inputs.BadLine.{BadLine}
 use Rattle.rohcfn_input.specs.declared.inputs.BadLine.TheVariants as bad
 use Rattle.rohcfn_words.specs.declared.words.Direction.{Direction}

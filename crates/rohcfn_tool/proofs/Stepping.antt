@@ -9,7 +9,7 @@ use Rattle.fn_profile.specs.Named.{AreWords}
 use Rattle.fn_profile.specs.Resolved.{IsSound, Resolved}
 use Rattle.fn_filling.specs.declared.filling.Item.{Item}
 use Rattle.fn_filling.specs.Fillings.{item, packed}
-use Rattle.fn_checker.specs.Accepted.{Accepting}
+use Rattle.fn_accepted.specs.Accepted.{Accepting}
 use Rattle.fn_engine.specs.Reading as reading
 use Rattle.fn_engine.specs.Writing as writing
 use Rattle.fn_engine.specs.declared.reader.Read.{Read}

@@ -9,9 +9,9 @@ use Rattle.fn_filling.specs.declared.filling.Filling.{Filling, out-Filling}
 use Rattle.fn_filling.specs.declared.filling.Item.{Item}
 use Rattle.fn_filling.specs.Fillings.{packed, item}
 use Rattle.fn_filling.specs.Entries.{next}
-use Rattle.fn_best.specs.Best.{Best}
+use Rattle.fn_candidates.specs.Best.{Best}
 use Rattle.fn_reader.specs.declared.fault.Blamed.{Blamed}
-use Rattle.fn_checker.specs.Accepted.{Accepting}
+use Rattle.fn_accepted.specs.Accepted.{Accepting}
 use Rattle.fn_engine.specs.Reading as reading
 use Rattle.fn_engine.specs.Writing as writing
 use Rattle.fn_engine.specs.declared.reader.UnpackFault.{UnpackFault}

@@ -8,7 +8,7 @@ ghost use Rattle.rohcfn_tool.specs.Lined as spec;
 ghost use Rattle.rohcfn_input.specs.OneLine.{IsLine};
 
 use crate::events::read_events;
-use fn_checker::Accepted;
+use fn_accepted::Accepted;
 use fn_engine::PackFault;
 use fn_filling::Item;
 use fn_line::{Event, Flow, LineFault, LineVersion, Received, RunFault, receive, run};

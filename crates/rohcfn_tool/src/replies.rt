@@ -6,7 +6,7 @@ ghost use Rattle.rohcfn_tool.specs.Printed as spec;
 
 use crate::lined::answer_line;
 use crate::printing::{Shape, pack_all, unpack_all};
-use fn_checker::Accepted;
+use fn_accepted::Accepted;
 use fn_context::Context;
 use rohcfn_explain::explaining::{explain_check, explain_prove};
 use rohcfn_input::bundle::Parts;

@@ -3,7 +3,10 @@ use Rattle.fn_rows.proofs.expressions.truth_of.Goals as goal
 
 pub decide-requires : goal.decide-requires
 decide-requires c = record {
-  ranges = bounding_of c.args.ranges.now;
-  lie = c.requires;
-  accepted = (c.in-None.ensures {u = tt}).accepted;
+  ready = tt;
+  ranged = record {
+    ranges = bounding_of c.args.ranges.now;
+    lie = c.requires;
+    accepted = (c.in-None.ensures {u = tt}).accepted;
+  };
 }

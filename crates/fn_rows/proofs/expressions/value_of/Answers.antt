@@ -4,7 +4,10 @@ use Rattle.fn_rows.proofs.expressions.value_of.Goals as goal
 
 pub value-requires : goal.value-requires
 value-requires c = record {
-  ranges = bounding_of c.args.ranges.now;
-  lie = c.requires;
-  accepted = accepted_at (bounding_of c.args.ranges.now) c.args.expr.now c.range.result c.in_ok-range.field-0 c.range.ensures.outcome (c.in_ok-range.was {u = tt});
+  ready = tt;
+  ranged = record {
+    ranges = bounding_of c.args.ranges.now;
+    lie = c.requires;
+    accepted = accepted_at (bounding_of c.args.ranges.now) c.args.expr.now c.range.result c.in_ok-range.field-0 c.range.ensures.outcome (c.in_ok-range.was {u = tt});
+  };
 }

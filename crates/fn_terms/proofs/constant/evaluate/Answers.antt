@@ -3,4 +3,4 @@ use Rattle.fn_terms.proofs.Evaluating.{may_evaluate}
 use Rattle.fn_terms.proofs.constant.evaluate.Goals as goal
 
 pub value-requires : goal.value-requires
-value-requires c = rw c.nothing.ensures (may_evaluate (bounding_of c.anything.result) c.args.expr.now c.in-Ok.field-0 c.in-Ok.ensures.outcome)
+value-requires c = record { ready = tt; ranged = rw c.nothing.ensures (may_evaluate (bounding_of c.anything.result) c.args.expr.now c.in-Ok.field-0 c.in-Ok.ensures.outcome) }

@@ -1,5 +1,5 @@
 use Rattle.std.proofs.Common.{sym, ◌∙◌, subst}
-use Rattle.fn_best.specs.Reading.{Divides, IsNext, CarriesOn}
+use Rattle.fn_candidates.specs.Reading.{Divides, IsNext, CarriesOn}
 use Rattle.fn_cert.specs.declared.certificate.Step.TheVariants.{Choose}
 use Rattle.fn_writer.specs.Foreseeing.{SeesOn}
 use Rattle.fn_writer.proofs.Chosen.{width_of}

@@ -1,0 +1,4 @@
+pub mod Accepting
+pub mod Depth
+pub mod Starting
+pub mod Unsent

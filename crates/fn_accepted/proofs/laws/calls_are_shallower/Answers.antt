@@ -1,0 +1,5 @@
+use Rattle.fn_accepted.proofs.Depth.{calls_are_shallower}
+use Rattle.fn_accepted.proofs.laws.calls_are_shallower.Goals as goal
+
+pub returns : goal.returns
+returns c = calls_are_shallower

@@ -1,0 +1,5 @@
+use Rattle.fn_candidates.proofs.Order.{best_is_one}
+use Rattle.fn_candidates.proofs.laws.best_is_one.Goals as goal
+
+pub returns : goal.returns
+returns c = best_is_one

@@ -1,0 +1,5 @@
+use Rattle.fn_candidates.proofs.Compares.{same_order}
+use Rattle.fn_candidates.proofs.laws.same_order.Goals as goal
+
+pub returns : goal.returns
+returns c = same_order

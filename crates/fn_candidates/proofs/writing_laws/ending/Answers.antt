@@ -1,0 +1,6 @@
+use Rattle.fn_candidates.proofs.Ending.{writing_ends}
+use Rattle.fn_candidates.proofs.Going.{top_passes, top_refuses}
+use Rattle.fn_candidates.proofs.writing_laws.ending.Goals as goal
+
+pub returns : goal.returns
+returns c = record { ends = writing_ends; passes = top_passes; refuses = top_refuses }

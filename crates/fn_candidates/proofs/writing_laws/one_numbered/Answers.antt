@@ -1,0 +1,5 @@
+use Rattle.fn_candidates.proofs.Single.{one_numbered}
+use Rattle.fn_candidates.proofs.writing_laws.one_numbered.Goals as goal
+
+pub returns : goal.returns
+returns c = one_numbered

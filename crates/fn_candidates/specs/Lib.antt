@@ -1,0 +1,12 @@
+pub mod Best
+pub mod Codes
+pub mod Digits
+pub mod Example
+pub mod Laws
+pub mod Numbered
+pub mod Packing
+pub mod Reading
+pub mod Starts
+pub mod Knowing
+pub mod Writing
+pub mod WritingLaws

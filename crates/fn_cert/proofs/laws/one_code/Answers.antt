@@ -1,5 +1,0 @@
-use Rattle.fn_cert.proofs.Single.{one_code}
-use Rattle.fn_cert.proofs.laws.one_code.Goals as goal
-
-pub returns : goal.returns
-returns c = one_code

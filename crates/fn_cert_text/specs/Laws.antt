@@ -1,0 +1,37 @@
+-- Laws of reading: a text has one reading, a reading and a fault exclude each other, and the printed text is read as what was printed.
+use Rattle.std.specs.Prelude.{◌≡◌, ℕ, ◌≤◌, List, length}
+use Rattle.fn_normal.specs.declared.profile.Method.{Method}
+use Rattle.fn_profile.specs.Named.{AreNamed}
+use Rattle.fn_bits.specs.Lines.{numbered_lines}
+use Rattle.fn_cert_text.specs.declared.draft.Draft.{Draft}
+use Rattle.fn_cert_text.specs.declared.faults.Fault.{Fault}
+use Rattle.fn_cert_text.specs.declared.reading.CertificateError.{CertificateError}
+use Rattle.fn_cert_text.specs.declared.reading.CertificateError.TheVariants.{OutOfMemory}
+use Rattle.fn_cert_text.specs.Faults.{IsCertificate, IsReading, IsFaultAt, Blames, text_limit}
+use Rattle.fn_cert.specs.Kept.{Certified}
+use Rattle.fn_cert.specs.Of.{AreWords}
+use Rattle.fn_cert_text.specs.Tells.{Tells}
+use Rattle.fn_cert_text.specs.Text.{certificate_text}
+
+-- Where the names of the methods are words and stand once, lines are those of one certificate at most.
+abbrev pub OneReading : Type 0
+OneReading = (methods : List Method) (numbered : List (ℕ × List ℕ)) (es others : Certified) → AreNamed methods → AreWords methods → IsCertificate methods es → IsCertificate methods others
+    → IsReading methods numbered es → IsReading methods numbered others → es ≡ others
+
+-- Lines that are those of a certificate have none at fault.
+abbrev pub FaultsExclude : Type 0
+FaultsExclude = (methods : List Method) (numbered : List (ℕ × List ℕ)) (fault : Fault) (n : ℕ) (es : Certified) → IsCertificate methods es → IsReading methods numbered es → IsFaultAt methods numbered fault n → ⊥
+
+-- A line that can't come next has one code.
+abbrev pub OneCode : Type 0
+OneCode = (methods : List Method) (draft : Draft) (words : List (List ℕ)) (one other : Fault) → Tells methods draft words one → Tells methods draft words other → one ≡ other
+
+-- The text of a certificate is read as that certificate, and as no other one; below the limit nothing is blamed but want of memory.
+abbrev pub ReadsBack : Type 0
+ReadsBack = (methods : List Method) (es : Certified) → AreNamed methods → AreWords methods → IsCertificate methods es → IsReading methods (numbered_lines (certificate_text es)) es
+
+abbrev pub ReadsOnly : Type 0
+ReadsOnly = (methods : List Method) (es others : Certified) → AreNamed methods → AreWords methods → IsCertificate methods es → IsCertificate methods others → IsReading methods (numbered_lines (certificate_text es)) others → others ≡ es
+
+abbrev pub NoBlame : Type 0
+NoBlame = (methods : List Method) (es : Certified) (e : CertificateError) → AreNamed methods → AreWords methods → IsCertificate methods es → length (certificate_text es) ≤ text_limit → Blames methods e (certificate_text es) → e ≡ OutOfMemory

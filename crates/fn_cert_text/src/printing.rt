@@ -1,0 +1,226 @@
+//! The text of a certificate.
+
+ghost use Rattle.std.specs.Prelude.{◌≡◌, IfOk, flat_map, map, slice_get, string_bytes};
+ghost use Rattle.fn_cert_text.specs.Text as spec;
+
+use fn_cert::{Certificate, FormatPlans, MethodPlans, Node, Plans, Step, Version};
+use fn_expr::Side;
+use fn_normal::Name;
+use std::alloc::{AllocError, Global};
+
+/// The text of a certificate: its version, of each method that it names the tree and of each format that it names there the plans, and `end`, each
+/// line with a line feed. A name that the certificate doesn't have is printed as `-`.
+#[tactic(auto, using(crate::proofs::Lines::whole_spelled))]
+pub fn print(alloc: Global, certificate: &Certificate) -> Result<String, AllocError>
+    ensures { IfOk result (λ text. string_bytes text ≡ spec.certificate_text certificate.now) }
+{
+    let methods = methods_text(alloc, certificate.methods())?;
+    let methods = methods.as_str();
+    let version = version_word(certificate.version());
+    format!(in alloc; "rohcfn-certificate {version}\n{methods}end\n")
+}
+
+fn version_word(version: Version) -> &'static str
+    ensures { result.now ≡ spec.version_word version }
+{
+    match version {
+        Version::One => "1",
+        Version::Two => "2",
+    }
+}
+
+fn methods_text(alloc: Global, methods: &[Option<MethodPlans>]) -> Result<String, AllocError>
+    ensures { IfOk result (λ text. string_bytes text ≡ spec.spelled (flat_map spec.method_lines methods.now)) }
+{
+    let mut output = String::new(alloc);
+    for method in methods {
+        let text = entry_text(alloc, method)?;
+        output.push_str(text.as_str())?;
+    }
+    Ok(output)
+}
+
+/// A method with its tree and its formats, nothing where there is none.
+fn entry_text(alloc: Global, method: &Option<MethodPlans>) -> Result<String, AllocError>
+    ensures { IfOk result (λ text. string_bytes text ≡ spec.spelled (spec.method_lines method.now)) }
+{
+    match method {
+        Some(method) => method_text(alloc, method),
+        None => Ok(String::new(alloc)),
+    }
+}
+
+#[tactic(auto, using(crate::proofs::Lines::method_spelled))]
+fn method_text(alloc: Global, method: &MethodPlans) -> Result<String, AllocError>
+    ensures { IfOk result (λ text. string_bytes text ≡ spec.spelled (spec.method_lines (Some method.now))) }
+{
+    let name = method.name.as_str();
+    let nodes = nodes_text(alloc, method)?;
+    let nodes = nodes.as_str();
+    let formats = formats_text(alloc, method.formats.as_slice())?;
+    let formats = formats.as_str();
+    format!(in alloc; "method {name}\n{nodes}{formats}")
+}
+
+/// The nodes of a method's tree.
+fn nodes_text(alloc: Global, method: &MethodPlans) -> Result<String, AllocError>
+    ensures { IfOk result (λ text. string_bytes text ≡ spec.spelled (map (spec.node_line method.now) method.now.tree)) }
+{
+    let mut output = String::new(alloc);
+    for node in method.tree.as_slice() {
+        let line = node_text(alloc, method, *node)?;
+        output.push_str(line.as_str())?;
+    }
+    Ok(output)
+}
+
+#[tactic(auto, using(crate::proofs::Lines::texts_joined))]
+fn node_text(alloc: Global, method: &MethodPlans, node: Node) -> Result<String, AllocError>
+    ensures { IfOk result (λ text. string_bytes text ≡ spec.ended (spec.node_line method.now node)) }
+{
+    match node {
+        Node::Bit(offset) => format!(in alloc; "bit {offset}\n"),
+        Node::Parameter(parameter, constant) => {
+            let name = name_at(method.parameters.as_slice(), parameter);
+            format!(in alloc; "param {name} {constant}\n")
+        }
+        Node::Reference(field, constant) => {
+            let name = first_name(method.formats.as_slice(), field);
+            format!(in alloc; "ref {name} {constant}\n")
+        }
+        Node::Leaf(format) => {
+            let name = format_name(method.formats.as_slice(), format);
+            format!(in alloc; "leaf {name}\n")
+        }
+        Node::Nowhere => String::from_str(alloc, "none\n"),
+    }
+}
+
+/// The name at an index, or `-`.
+fn name_at(names: &[Name], index: usize) -> &str
+    ensures { result.now ≡ spec.name_at names.now index }
+{
+    match names.get(index) {
+        Some(name) => name.as_str(),
+        None => "-",
+    }
+}
+
+/// The name of the first format's field at an index, or `-`.
+fn first_name(formats: &[FormatPlans], index: usize) -> &str
+    ensures { result.now ≡ spec.name_at (spec.first_names formats.now) index }
+{
+    match formats {
+        [first, ..] => name_at(first.fields.as_slice(), index),
+        [] => "-",
+    }
+}
+
+/// The name of the format at an index, or `-`.
+fn format_name(formats: &[FormatPlans], index: usize) -> &str
+    ensures { result.now ≡ spec.format_name (slice_get formats.now index) }
+{
+    match formats.get(index) {
+        Some(format) => name_of(&format.name),
+        None => "-",
+    }
+}
+
+/// A name, or `-`.
+fn name_of(name: &Option<Name>) -> &str
+    ensures { result.now ≡ spec.name_of name.now }
+{
+    match name {
+        Some(name) => name.as_str(),
+        None => "-",
+    }
+}
+
+fn formats_text(alloc: Global, formats: &[FormatPlans]) -> Result<String, AllocError>
+    ensures { IfOk result (λ text. string_bytes text ≡ spec.spelled (flat_map spec.format_lines formats.now)) }
+{
+    let mut output = String::new(alloc);
+    for format in formats {
+        let text = format_text(alloc, format)?;
+        output.push_str(text.as_str())?;
+    }
+    Ok(output)
+}
+
+/// A format with its plans, nothing where it has none.
+fn format_text(alloc: Global, format: &FormatPlans) -> Result<String, AllocError>
+    ensures { IfOk result (λ text. string_bytes text ≡ spec.spelled (spec.format_lines format.now)) }
+{
+    match &format.plans {
+        Some(plans) => plans_text(
+            alloc,
+            name_of(&format.name),
+            format.fields.as_slice(),
+            plans,
+        ),
+        None => Ok(String::new(alloc)),
+    }
+}
+
+#[tactic(auto, using(crate::proofs::Lines::plans_spelled))]
+fn plans_text(
+    alloc: Global,
+    name: &str,
+    fields: &[Name],
+    plans: &Plans,
+) -> Result<String, AllocError>
+    ensures { IfOk result (λ text. string_bytes text ≡ spec.spelled (spec.plans_lines name.now fields.now (Some plans.now))) }
+{
+    let read = steps_text(alloc, fields, plans.read.as_slice())?;
+    let read = read.as_str();
+    let write = steps_text(alloc, fields, plans.write.as_slice())?;
+    let write = write.as_str();
+    format!(in alloc; "format {name}\nread\n{read}write\n{write}")
+}
+
+fn steps_text(alloc: Global, fields: &[Name], steps: &[Step]) -> Result<String, AllocError>
+    ensures { IfOk result (λ text. string_bytes text ≡ spec.spelled (map (spec.step_line fields.now) steps.now)) }
+{
+    let mut output = String::new(alloc);
+    for step in steps {
+        let line = step_text(alloc, name_at(fields, step.field()), *step)?;
+        output.push_str(line.as_str())?;
+    }
+    Ok(output)
+}
+
+/// A step, by the name of its field.
+#[tactic(auto, using(crate::proofs::Lines::texts_joined))]
+fn step_text(alloc: Global, name: &str, step: Step) -> Result<String, AllocError>
+    ensures { IfOk result (λ text. string_bytes text ≡ spec.ended (spec.step_words name.now step)) }
+{
+    match step {
+        Step::Take(_) => format!(in alloc; "take {name}\n"),
+        Step::Call(_) => format!(in alloc; "call {name}\n"),
+        Step::LibraryUp(_) => format!(in alloc; "library {name} up\n"),
+        Step::LibraryDown(_) => format!(in alloc; "library {name} down\n"),
+        Step::MethodLength(_, side) => method_length(alloc, name, side_word(side)),
+        Step::ConstraintLength(_, side, constraint) => {
+            let side = side_word(side);
+            format!(in alloc; "length {name} {side} {constraint}\n")
+        }
+        Step::Solve(_, constraint) => format!(in alloc; "solve {name} {constraint}\n"),
+        Step::Choose(_) => format!(in alloc; "choose {name}\n"),
+        Step::Ask(_) => format!(in alloc; "ask {name}\n"),
+    }
+}
+
+fn method_length(alloc: Global, name: &str, side: &str) -> Result<String, AllocError>
+    ensures { IfOk result (λ text. string_bytes text ≡ spec.ended (spec.method_length name.now side.now)) }
+{
+    format!(in alloc; "length {name} {side} method\n")
+}
+
+fn side_word(side: Side) -> &'static str
+    ensures { result.now ≡ spec.side_word side }
+{
+    match side {
+        Side::Uncompressed => "U",
+        Side::Compressed => "C",
+    }
+}

@@ -1,3 +1,0 @@
-pub mod Level
-pub mod Coding
-pub mod Ready

@@ -1,0 +1,5 @@
+pub mod Shapes
+pub mod Levels
+pub mod Fields
+pub mod Alike
+pub mod Seeing

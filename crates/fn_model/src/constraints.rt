@@ -1,0 +1,78 @@
+//! Whether brackets and the conjuncts of ENFORCE hold.
+
+ghost use Rattle.std.specs.Prelude.{◌≡◌, ◌↔◌, ℕ, pos, IsTrue, Some, slice_get, length};
+ghost use Rattle.fn_expr.specs.Values.{val};
+ghost use Rattle.fn_expr.specs.Known.{assignment_of};
+ghost use Rattle.fn_expr.specs.declared.expr.Expr.{Expr};
+ghost use Rattle.fn_expr.specs.declared.expr.Subject.TheVariants as subject;
+ghost use Rattle.fn_normal.specs.declared.profile.Constraint.{Constraint};
+ghost use Rattle.fn_filling.specs.Fillings.{level, listing_of};
+ghost use Rattle.fn_fits.specs.Fits.{Holds, side_of};
+ghost use Rattle.fn_fits.specs.Level.{AllRanged, ConstraintRanged};
+
+use crate::seen::{Seen, is_number};
+use fn_expr::{Expr, Side, decide};
+use fn_filling::Filling;
+use fn_normal::{Constraint, Shared};
+
+/// Whether all constraints of a format hold.
+pub(crate) fn constraints_hold(
+    constraints: &[Shared<Constraint>],
+    filling: &Filling,
+    known: &Seen<'_>,
+) -> bool
+    requires { (j : ℕ) (c : Constraint) → slice_get constraints.now j ≡ Some c → ConstraintRanged known.now c }
+    ensures { IsTrue result ↔ ((j : ℕ) (c : Constraint) → slice_get constraints.now j ≡ Some c →
+        Holds (side_of (listing_of filling.now) (level filling.now)) (assignment_of known.now) c) }
+{
+    for constraint in constraints {
+        if !constraint_holds(constraint.get(), filling, known) {
+            return false;
+        }
+    }
+    true
+}
+
+fn constraint_holds(constraint: &Constraint, filling: &Filling, known: &Seen<'_>) -> bool
+    requires { ConstraintRanged known.now constraint.now }
+    ensures { IsTrue result ↔ Holds (side_of (listing_of filling.now) (level filling.now)) (assignment_of known.now) constraint.now }
+{
+    match constraint {
+        Constraint::Bracket {
+            field,
+            side,
+            lengths,
+            place: _,
+        } => is_value_of(length_of(filling, *field, *side), lengths.as_slice(), known),
+        Constraint::Enforce {
+            condition,
+            place: _,
+        } => decide(condition, known) == Some(true),
+    }
+}
+
+/// The length of a side of a field, 0 where there is no such field.
+fn length_of(filling: &Filling, field: usize, side: Side) -> usize
+    ensures { result ≡ length (side_of (listing_of filling.now) (level filling.now) (subject.Field field) side) }
+{
+    let Some(filled) = filling.fields.get(field) else {
+        return 0;
+    };
+    match side {
+        Side::Uncompressed => filled.uncompressed.len(),
+        Side::Compressed => filled.compressed.len(),
+    }
+}
+
+/// Whether the length is the value of one of the expressions.
+fn is_value_of(length: usize, expressions: &[Expr], known: &Seen<'_>) -> bool
+    requires { AllRanged known.now expressions.now }
+    ensures { IsTrue result ↔ ((n : ℕ) × (e : Expr) × (slice_get expressions.now n ≡ Some e) × (val (assignment_of known.now) e ≡ Some (pos length))) }
+{
+    for expression in expressions {
+        if is_number(expression, known, length as i128) {
+            return true;
+        }
+    }
+    false
+}

@@ -1,0 +1,150 @@
+//! The numbers of a level, read off where an expression asks for them.
+
+ghost use Rattle.std.specs.Prelude.{◌≡◌, ◌↔◌, IsTrue, IfOk, Some, map};
+ghost use Rattle.fn_expr.specs.Known.{assignment_of, measured, numbers_at, side_numbers};
+ghost use Rattle.fn_expr.specs.Spread.{IsRanged};
+ghost use Rattle.fn_expr.specs.Values.{val};
+ghost use Rattle.fn_filling.specs.Fillings.{header, packed, level};
+ghost use Rattle.fn_fits.specs.Fits.{vals};
+ghost use Rattle.fn_fits.specs.Numbers as fits;
+ghost use Rattle.fn_fits.specs.Level as spec;
+
+use fn_bits::Bits;
+use fn_expr::{Attribute, Expr, Measure, Side, Subject, Valuation, value};
+use fn_filling::Filling;
+use sqlite_items::Items;
+use std::alloc::{AllocError, Global};
+use std::marker::Model;
+
+/// The numbers of the fields, of the whole and of the arguments.
+#[derive(Drop)]
+pub(crate) struct Seen<'a> {
+    filling: &'a Filling,
+    header: &'a Bits,
+    packed: &'a Bits,
+    arguments: &'a [i128],
+}
+
+// Clauses see the known numbers.
+impl<'a> Model for Seen<'a> {
+    ghost use Rattle.std.specs.Prelude.{◌≡◌};
+    ghost use Rattle.fn_expr.specs.declared.known.Known.{Known};
+    ghost use Rattle.fn_filling.specs.Fillings as sides;
+    ghost use Rattle.fn_fits.specs.Numbers.{known_level};
+
+    ghost Value = { Known };
+
+    ghost view = { λ s. known_level s.filling.now s.arguments.now };
+
+    ghost invariant = { λ s. (s.header.now ≡ sides.header s.filling.now) × (s.packed.now ≡ sides.packed s.filling.now) };
+}
+
+impl<'a> Seen<'a> {
+    /// The numbers of a filling, where its header and its packed bits are these.
+    pub(crate) fn of(
+        filling: &'a Filling,
+        header_bits: &'a Bits,
+        packed_bits: &'a Bits,
+        arguments: &'a [i128],
+    ) -> Seen<'a>
+        requires header { header_bits.now ≡ header filling.now }
+        requires packed { packed_bits.now ≡ packed filling.now }
+        ensures { result ≡ fits.known_level filling.now arguments.now }
+    {
+        Seen {
+            filling,
+            header: header_bits,
+            packed: packed_bits,
+            arguments,
+        }
+    }
+
+    /// That of a side of the whole.
+    fn whole(&self, side: Side, measure: Measure) -> Option<i128>
+        ensures { result ≡ measured (side_numbers self.now.whole side) measure }
+    {
+        match side {
+            Side::Uncompressed => number_of(self.header, measure),
+            Side::Compressed => number_of(self.packed, measure),
+        }
+    }
+}
+
+impl<'a> Valuation for Seen<'a> {
+    ghost assignment = { assignment_of };
+
+    fn parameter(&self, index: usize) -> Option<i128> {
+        self.arguments.get(index).copied()
+    }
+
+    fn attribute(&self, attribute: Attribute) -> Option<i128> {
+        match attribute.subject {
+            Subject::This => self.whole(attribute.side, attribute.measure),
+            Subject::Field(index) => {
+                field_number(self.filling, index, attribute.side, attribute.measure)
+            }
+        }
+    }
+}
+
+/// That of a side of the field, none where there is no such field.
+fn field_number(filling: &Filling, index: usize, side: Side, measure: Measure) -> Option<i128>
+    ensures { result ≡ measured (side_numbers (numbers_at (map fits.numbers_of (level filling.now)) index) side) measure }
+{
+    let filled = filling.fields.get(index)?;
+    match side {
+        Side::Uncompressed => number_of(&filled.uncompressed, measure),
+        Side::Compressed => number_of(&filled.compressed, measure),
+    }
+}
+
+/// The number that bits spell, up to 64 of them, or how many they are.
+fn number_of(bits: &Bits, measure: Measure) -> Option<i128>
+    ensures { result ≡ measured (fits.numbers bits.now) measure }
+{
+    match measure {
+        Measure::Value => bits.value().map(|number| number as i128),
+        Measure::Length => Some(bits.len() as i128),
+    }
+}
+
+/// The value of an expression, where it has one. Most are plain numbers.
+pub(crate) fn number_in(expression: &Expr, seen: &Seen<'_>) -> Option<i128>
+    requires { IsRanged (assignment_of seen.now) expression.now }
+    ensures { result ≡ val (assignment_of seen.now) expression.now }
+{
+    match expression {
+        Expr::Number(_, own) => Some(*own),
+        _ => value(expression, seen),
+    }
+}
+
+/// Whether the expression has that value.
+pub(crate) fn is_number(expression: &Expr, seen: &Seen<'_>, number: i128) -> bool
+    requires { IsRanged (assignment_of seen.now) expression.now }
+    ensures { IsTrue result ↔ (val (assignment_of seen.now) expression.now ≡ Some number) }
+{
+    match expression {
+        Expr::Number(_, own) => *own == number,
+        _ => value(expression, seen) == Some(number),
+    }
+}
+
+/// The values of several expressions, where each has one.
+pub(crate) fn values_in(
+    alloc: Global,
+    expressions: &[Expr],
+    seen: &Seen<'_>,
+) -> Result<Option<Items<i128>>, AllocError>
+    requires { spec.AllRanged seen.now expressions.now }
+    ensures { IfOk result (λ o. o ≡ vals (assignment_of seen.now) expressions.now) }
+{
+    let mut values = Items::new(alloc);
+    for expression in expressions {
+        let Some(number) = number_in(expression, seen) else {
+            return Ok(None);
+        };
+        values.push(number)?;
+    }
+    Ok(Some(values))
+}

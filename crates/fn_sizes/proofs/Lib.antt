@@ -1,0 +1,9 @@
+pub mod Narrowing
+pub mod Totals
+pub mod Tables
+pub mod Calling
+pub mod Earliest
+pub mod Rows
+pub mod Weighing
+pub mod Agreeing
+pub mod Reaching

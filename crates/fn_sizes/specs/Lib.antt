@@ -1,0 +1,4 @@
+pub mod Weights
+pub mod Reach
+pub mod Quiet
+pub mod Callers

@@ -1,3 +1,0 @@
-pub mod Depth
-pub mod Starting
-pub mod Unsent
