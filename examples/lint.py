@@ -1,8 +1,8 @@
 #!/usr/bin/env python3
-"""Through the built program: what `lint` prints. Of the profiles of samples.py, profiles/ and tutorial/, by each format of which something can be packed, it prints nothing, but for one that
-needs a context to begin with. Of drawn small profiles each format that it names has no filling by a slow search over all headers, in contexts that are drawn (searching.py). A format that gets a
-condition above the range of its field is named, at the place of that condition. A format that it says is never used has no filling in the empty context, nor in contexts that fillings lead to from
-there."""
+"""Through the built program: what `lint` prints. Of the profiles of samples.py, profiles/ and tutorial/, by each format of which something can be packed, it
+prints nothing, but for one that needs a context to begin with and one with too many candidates. Of drawn small profiles each format that it names has no
+filling by a slow search over all headers, in contexts that are drawn (searching.py). A format that gets a condition above the range of its field is named, at
+the place of that condition. A format that it says is never used has no filling in the empty context, nor in contexts that fillings lead to from there."""
 import itertools
 import pathlib
 import random
@@ -20,8 +20,11 @@ LINE = re.compile(r"(\d+):(\d+): warning p\.(\w): .*: nothing fits this format")
 USED = re.compile(r"\d+:\d+: warning p\.(\w+) is never used: it needs [\w.]+ in the context, which no format that can come before puts there")
 REACHED = 12  # contexts of a drawn profile that are looked at
 ABOVE = "ENFORCE(x.UVALUE > 3);"  # x has two bits
-# what is due for a profile of samples.py that goes on from a given context alone
-DUE = {"both": "4:1: warning both.- is never used: it needs f.m in the context, which no format that can come before puts there\n"}
+# what is due for a profile of samples.py that goes on from a given context alone, and for one that chooses two times 12 bits, which `check` refuses (V6)
+DUE = {
+    "both": "4:1: warning both.- is never used: it needs f.m in the context, which no format that can come before puts there\n",
+    "vast": "1:1: warning vast: 16777216 candidates an item, and the limit is 65536\n1:1: warning vast.-: 16777216 candidates = a 4096 x b 4096\n",
+}
 METHOD = re.compile(r"^(\w+)(?:\(.*\))?$", re.MULTILINE)
 
 

@@ -556,20 +556,20 @@ fn never_used(
 
 // ---- given paths
 
-/// Those of the paths, by their indices, at which no format has a header or control field.
-pub fn unknown_paths(
+/// Those of the paths at which no format has a header or control field.
+pub fn unknown_paths<'a>(
     alloc: Global,
     profile: &Profile,
-    given: &[&str],
-) -> Result<Items<usize>, AllocError> {
+    given: &[&'a str],
+) -> Result<Items<&'a str>, AllocError> {
     let mut found = Items::new(alloc);
     let methods = profile.methods();
     let Some(sites) = all_sites(alloc, methods, profile.top())? else {
         return Ok(found);
     };
-    for (index, path) in given.iter().enumerate() {
+    for path in given {
         if !is_known(alloc, methods, sites.as_slice(), path)? {
-            found.push(index)?;
+            found.push(*path)?;
         }
     }
     Ok(found)

@@ -86,7 +86,7 @@ fn meant_in(format: &Format, name: &str) -> Option<usize> {
 }
 
 /// Whether two names of three octets or more are one letter apart.
-pub fn is_near(one: &[u8], other: &[u8]) -> bool {
+fn is_near(one: &[u8], other: &[u8]) -> bool {
     if one.len() < SHORTEST || other.len() < SHORTEST {
         return false;
     }

@@ -6,3 +6,4 @@ pub mod Spelled
 pub mod Tables
 pub mod Linted
 pub mod Drawn
+pub mod Warned

@@ -15,7 +15,7 @@ pub profile_linted : (top name octets : List ℕ) (p : Resolved) (r : Result Ans
 profile_linted top name octets p (Err e) n h k = tt
 profile_linted top name octets p (Ok a) n h k =
     let reads : Reads octets top p = let Q : List ℕ → Type 0 = λ x. Reads octets x p in subst Q n h in
-    subst (λ out. LintedBy top octets a.status out) (sym k.4) (subst (λ s. LintedBy top octets s (lint_text octets p k.0 ++ k.3)) (sym k.2) (linted p k.0 k.3 reads k.1))
+    subst (λ out. LintedBy top octets a.status out) (sym k.5) (subst (λ s. LintedBy top octets s (lint_text octets p k.0 ++ k.3)) (sym k.2) (linted p k.0 k.3 reads k.1 k.4))
 
 pub refused_lint : (top name profile text written : List ℕ) (r : Result Answer AllocError) → name ≡ top → IsFaultLine name profile text → written ≡ text → IfOk r (IsRefusal written) → IfOk r (Lints top profile)
 refused_lint top name profile text written r n h e g = refusal_is (LintedBy top profile) text written r (no_lint text (subst (λ x. IsFaultLine x profile text) n h)) e g

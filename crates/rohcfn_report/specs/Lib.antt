@@ -1,5 +1,6 @@
 pub mod Accepting
 pub mod BitTexts
+pub mod Candidates
 pub mod Drawing
 pub mod Fields
 pub mod Linting
@@ -9,3 +10,4 @@ pub mod Reasons
 pub mod Reports
 pub mod Table
 pub mod Verdicts
+pub mod Warnings

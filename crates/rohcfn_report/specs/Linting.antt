@@ -27,6 +27,8 @@ use Rattle.rohcfn_input.specs.declared.status.Status.TheVariants as status
 use Rattle.rohcfn_input.specs.Refusals.{Holds}
 use Rattle.rohcfn_report.specs.ProfileLines.{IsFaultLine}
 use Rattle.rohcfn_report.specs.Verdicts.{format_at, format_name, field_name, method_name}
+use Rattle.rohcfn_report.specs.Warnings.{AreWarnings}
+pub use Rattle.rohcfn_report.specs.Warnings.{method_place}
 
 -- ---- the place of a line
 
@@ -54,9 +56,6 @@ obstacle_place cs at (obstacle.NeverTrue j) = unwrap_or (option_map constraint_p
 
 abbrev pub constraints_at : List Method → ℕ → ℕ → List Constraint
 constraints_at methods k n = unwrap_or (option_map (λ f. f.constraints) (format_at methods k n)) []
-
-abbrev pub method_place : List Method → ℕ → Span
-method_place methods k = unwrap_or (option_map (λ m. m.place) (slice_get methods k)) (record { from = 0; to = 0 })
 
 abbrev pub place_of : List Method → DeadFormat → Span
 place_of methods d = obstacle_place (constraints_at methods d.method d.format) (method_place methods d.method) d.obstacle
@@ -111,12 +110,14 @@ lint_text octets p found = flat_map (lint_line octets p) found
 pub data LintedBy (top octets : List ℕ) : Status → List ℕ → Type 0 where
   -- the profile is at fault
   no_lint : (text : List ℕ) → IsFaultLine top octets text → LintedBy top octets status.Refused (text ++ 10 ∷ [])
-  -- the formats of the normal form by which nothing can be packed, and below them warnings, of which nothing is said here
-  linted : (p : Resolved) (found : List DeadFormat) (warnings : List ℕ) → Reads octets top p → AreDead p 0 0 found → LintedBy top octets status.Done (lint_text octets p found ++ warnings)
+  -- the formats of the normal form by which nothing can be packed, and below them warnings
+  linted : (p : Resolved) (found : List DeadFormat) (warnings : List ℕ) → Reads octets top p → AreDead p 0 0 found → AreWarnings octets p warnings
+      → LintedBy top octets status.Done (lint_text octets p found ++ warnings)
 
 -- the formats of a profile by which nothing can be packed, and warnings
 abbrev pub LintsProfile : List ℕ → Resolved → Answer → Type 0
-LintsProfile octets p a = (found : List DeadFormat) × AreDead p 0 0 found × (a.status ≡ status.Done) × (warnings : List ℕ) × (string_bytes a.output ≡ lint_text octets p found ++ warnings)
+LintsProfile octets p a =
+    (found : List DeadFormat) × AreDead p 0 0 found × (a.status ≡ status.Done) × (warnings : List ℕ) × AreWarnings octets p warnings × (string_bytes a.output ≡ lint_text octets p found ++ warnings)
 
 abbrev pub Lints : List ℕ → List ℕ → Answer → Type 0
 Lints top octets = Holds (LintedBy top octets)

@@ -2,6 +2,7 @@
 #![tactic(auto)]
 
 pub mod accepting;
+pub mod candidates;
 pub mod checking;
 pub mod drawing;
 pub mod fields;

@@ -20,7 +20,8 @@ use std::alloc::{AllocError, Global};
 
 /// A line for each format of the profile by which no header can ever be packed, whatever the context holds: where in the profile the reason stands, and what it is. For a
 /// profile with a fault its line.
-/// Below them stand warnings by the rules of fn_lint, which no clause speaks of. The octets of a context may be given, with which a flow begins.
+/// Below them stand warnings: what the rules of fn_lint find, which are tested, and methods with too many candidates. The octets of a context may be given, with which a flow
+/// begins.
 pub fn answer_lint(
     alloc: Global,
     top: &str,

@@ -5,8 +5,8 @@ ghost use Rattle.std.specs.Option.{option_copied};
 ghost use Rattle.fn_cert_text.specs.Text as text;
 ghost use Rattle.rohcfn_report.specs.Verdicts as spec;
 
-use fn_cert_text::CertificateError;
 use fn_cert::Direction;
+use fn_cert_text::CertificateError;
 use fn_expr::Side;
 use fn_normal::{Field, Format, Method, Name};
 use fn_rules::CheckFault;

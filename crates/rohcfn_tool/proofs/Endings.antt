@@ -129,7 +129,7 @@ lined_ends end order profile parts s output (lined_by_part given is h) = lined_b
 
 linted_ends : (top octets : List ℕ) (s : Status) (output : List ℕ) → LintedBy top octets s output → MayPrint s
 linted_ends top octets _ _ (linted_by_no_lint text h) = tt
-linted_ends top octets _ _ (linted_by_linted p found warnings reads dead) = tt
+linted_ends top octets _ _ (linted_by_linted p found warnings reads dead warned) = tt
 
 drawn_ends : (top octets : List ℕ) (s : Status) (output : List ℕ) → DrawnBy top octets s output → MayPrint s
 drawn_ends top octets _ _ (drawn_by_no_drawing text h) = tt
