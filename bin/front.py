@@ -19,6 +19,7 @@ INPUTS = {
     "unpack": ("packet", "packets", "from_context", "certificate"),
     "fields": ("item", "items", "packet", "packets", "from_context", "certificate", "pcap", "flow"),
     "why": ("item", "items", "packet", "packets", "from_context", "certificate", "pcap", "flow"),
+    "stats": ("item", "items", "from_context", "certificate", "pcap", "flow"),
     "show": (),
     "lint": ("from_context",),
     "draw": (),
@@ -27,10 +28,10 @@ INPUTS = {
     "line": ("events", "octets", "certificate", "pcap"),
 }
 TOLD = ("v2", "context")
-FLAGS = {"pack": TOLD, "unpack": TOLD, "fields": TOLD, "why": TOLD, "show": (), "lint": (), "draw": (), "check": ("v2", "explain"), "prove": ("v2", "explain"), "line": ("v2", "receive", "wide")}
+FLAGS = {"pack": TOLD, "unpack": TOLD, "fields": TOLD, "why": TOLD, "stats": ("v2",), "show": (), "lint": (), "draw": (), "check": ("v2", "explain"), "prove": ("v2", "explain"), "line": ("v2", "receive", "wide")}
 PACKED, READ = ("item", "items", "pcap"), ("packet", "packets")
 # One of these at least is needed.
-NEEDED = {"pack": PACKED, "unpack": READ, "fields": PACKED + READ, "why": PACKED + READ, "line": ("events", "octets", "pcap")}
+NEEDED = {"pack": PACKED, "unpack": READ, "fields": PACKED + READ, "why": PACKED + READ, "stats": PACKED, "line": ("events", "octets", "pcap")}
 VALUED = ("top", "item", "items", "packet", "packets", "from_context", "certificate", "events", "octets", "pcap", "flow")
 PLAIN = ("v2", "context", "explain", "receive", "wide", "diagnose")
 LINES = {"item": "items", "items": "items", "packet": "packets", "packets": "packets"}

@@ -44,7 +44,8 @@ _rohcfn_has_profile() {{
 }}
 
 _rohcfn() {{
-  local word=${{COMP_WORDS[COMP_CWORD]}} before=${{COMP_WORDS[COMP_CWORD - 1]}} commands='{commands}' options=''
+  local word=${{COMP_WORDS[COMP_CWORD]}} before=${{COMP_WORDS[COMP_CWORD - 1]}} options=''
+  local commands='{commands}'
   COMPREPLY=()
   if [[ $before == = ]]; then before=${{COMP_WORDS[COMP_CWORD - 2]}}; fi
   case $word in

@@ -29,7 +29,8 @@ _rohcfn_has_profile() {
 }
 
 _rohcfn() {
-  local word=${COMP_WORDS[COMP_CWORD]} before=${COMP_WORDS[COMP_CWORD - 1]} commands='pack unpack fields why show lint draw check prove line help' options=''
+  local word=${COMP_WORDS[COMP_CWORD]} before=${COMP_WORDS[COMP_CWORD - 1]} options=''
+  local commands='pack unpack fields why stats show lint draw check prove line help'
   COMPREPLY=()
   if [[ $before == = ]]; then before=${COMP_WORDS[COMP_CWORD - 2]}; fi
   case $word in
@@ -53,6 +54,7 @@ _rohcfn() {
     unpack) options='--top --v2 --context --help --packet --packets --from-context --certificate --diagnose' ;;
     fields) options='--top --v2 --context --help --items --item --packet --packets --from-context --certificate --pcap --flow --diagnose' ;;
     why) options='--top --v2 --context --help --items --item --packet --packets --from-context --certificate --pcap --flow --diagnose' ;;
+    stats) options='--top --v2 --help --item --items --from-context --certificate --pcap --flow --diagnose' ;;
     show) options='--top --help --diagnose' ;;
     lint) options='--top --help --from-context --diagnose' ;;
     draw) options='--top --help --diagnose' ;;

@@ -14,7 +14,7 @@ import time
 
 ROOT = pathlib.Path(__file__).resolve().parent.parent
 HEADING = re.compile(r"^=== (\w+)\n", re.MULTILINE)
-COMMANDS = "pack unpack fields why show lint draw check prove line".split()
+COMMANDS = "pack unpack fields why stats show lint draw check prove line".split()
 SIGNALS = (signal.SIGINT, signal.SIGTERM, signal.SIGHUP)
 TOOLS = "bash env sh dirname readlink awk grep sed head tail cat tee mktemp rm nproc sleep touch chmod mkdir".split()
 CALL = "try|--seconds|3600|--"

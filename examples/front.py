@@ -123,6 +123,7 @@ def composed(place):
         (["fields", "a profile.fn", "--packets", "packed", "--packet=9:1280", "--context"], ["fields", *top, "--context"], {"packets": "8:10\n8:11\n9:1280\n"}),
         (["fields", "a profile.fn", "--items", "items", "--item", "8:03", "--from-context", "context"], ["fields", *top, "--items"],
          {"items": "8:01\n8:03\n", "context": "x 8:07\n"}),
+        (["stats", "a profile.fn", "--items", "items", "--item", "8:03", "--v2", "--from-context", "context"], ["stats", *top, "--v2"], {"items": "8:01\n8:03\n", "context": FILES["context"]}),
         (["fields", "--item=8:02", "a profile.fn", "--v2", "--certificate", "certificate"], ["fields", *top, "--v2", "--items"], {"items": "8:02\n", **certificate}),
         (["show", "a profile.fn"], ["show", *top], {}),
         (["lint", "a profile.fn", "--from-context", "context"], ["lint", *top], {"context": "x 8:07\n"}),
@@ -193,6 +194,9 @@ def usage(place):
         ("fields", "a profile.fn", "--pcap", "x", "--packets", "y"): "--pcap and --packets don't go together",
         ("fields", "a profile.fn", "--item", "8:01", "--pcap", "x"): "--item and --pcap don't go together",
         ("fields", "a profile.fn", "--item", "8:01", "--wide"): "--wide is no option of fields",
+        ("stats", "a profile.fn"): "stats needs one of --item, --items, --pcap",
+        ("stats", "a profile.fn", "--packet", "8:01"): "--packet is no option of stats",
+        ("stats", "a profile.fn", "--item", "8:01", "--context"): "--context is no option of stats",
         ("line", "a profile.fn"): "line needs one of --events, --octets, --pcap",
         ("line", "a profile.fn", "--octets", "x", "--events", "y"): "--events and --octets don't go together",
         ("line", "a profile.fn", "--events", "x", "--receive"): "--receive needs --octets",
@@ -213,7 +217,7 @@ def usage(place):
         ("show", "a profile.fn", "--tip"): "unexpected argument '--tip' found",
     }
     for command, names in (("pack", "item items from-context certificate pcap flow"), ("unpack", "packet packets"), ("line", "events octets"),
-                           ("fields", "item items packet packets from-context certificate pcap flow")):
+                           ("fields", "item items packet packets from-context certificate pcap flow"), ("stats", "item items from-context certificate pcap flow")):
         due.update({(command, "--%s=1" % name): "the file of a profile is needed" for name in names.split()})
     due["show", "--diagnose"] = "the file of a profile is needed"
     with open("/dev/zero", "rb") as endless:

@@ -16,7 +16,7 @@ ROOT = pathlib.Path(__file__).resolve().parent.parent
 sys.path.insert(0, str(ROOT / "bin"))  # (before this folder, which has files of the same names)
 manual, front = importlib.import_module("manual"), importlib.import_module("front")
 PAGE, BASH, ZSH = (ROOT / it for it in ("man/rohcfn.1", "completion/rohcfn.bash", "completion/_rohcfn"))
-COMMANDS = "pack unpack fields why show lint draw check prove line help".split()
+COMMANDS = "pack unpack fields why stats show lint draw check prove line help".split()
 EACH = ["--top", "--help", "--diagnose"]  # options of each command
 HERE = ["a file", "folder", "probe.fn"]
 MACRO = re.compile(r'\.(TH ROHCFN 1 "" Tuxabelo "User Commands"|SH [A-Z ]+|TP|PP|nf|fi|br|\\".*)')

@@ -105,6 +105,8 @@ def rows():
     told = "packet 1 - 1 bits\n  ttl      header  8:40  0:    static_or_irreg.static_enc\n"
     told += "    field  header  8:40  0:    static\n  flag     local   1:00  1:00  irregular\n"
     yield "opt told", bundle("fields --top opt", OPT, context="ttl.field 8:40\n", packets="1:00\n"), told, 0
+    counted = "items 1 bits 9 mean 9.0\n  format  items  bits  mean\n  short   0      0     -\n  full    1      9     9.0\n    d     1      1     1.0\n    sn    1      8     8.0\n"
+    yield "tick counted", bundle("stats --top tick", TICK, items="8:01\n9:0000\n"), counted + "item 2: F3 NoFormat\n", 0
     yield "seq packed", bundle("pack --top seq", SEQ, items="8:06 msn=8:03\n"), "4:30\n", 0
     yield "seq unpacked", bundle("unpack --top seq", SEQ, packets="4:30\n"), "8:06 msn=8:03 took 4\n", 0
     yield "seq without what is asked", bundle("pack --top seq", SEQ, items="8:06\n"), "item 1: F2 Asked msn\n", 1

@@ -8,6 +8,7 @@ pub mod ProfileLines
 pub mod Provings
 pub mod Reasons
 pub mod Reports
+pub mod Stats
 pub mod Table
 pub mod Verdicts
 pub mod Warnings

@@ -65,7 +65,7 @@ fn push_profile(alloc: Global, output: &mut String, profile: &Profile) -> Result
     Ok(())
 }
 
-fn formats_of(methods: &[Method], method: usize) -> &[Format]
+pub(crate) fn formats_of(methods: &[Method], method: usize) -> &[Format]
     ensures { result.now ≡ spec.formats_of methods.now method }
 {
     match methods.get(method) {

@@ -1,4 +1,4 @@
-//! What `show`, `prove`, `check`, `lint` and `draw` print, what `fields` prints of a filling, and what `why` prints of reasons.
+//! What `show`, `prove`, `check`, `lint` and `draw` print, what `fields` prints of a filling, what `stats` prints of counts, and what `why` prints of reasons.
 #![tactic(auto)]
 
 pub mod accepting;
@@ -10,6 +10,7 @@ pub mod linting;
 pub mod proving;
 pub mod reasons;
 pub mod showing;
+pub mod stats;
 pub mod table;
 pub mod verdicts;
 mod warning;

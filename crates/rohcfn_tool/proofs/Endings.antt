@@ -38,13 +38,18 @@ use Rattle.rohcfn_words.specs.declared.words.Direction.TheVariants.{Pack, Unpack
 use Rattle.rohcfn_words.specs.declared.words.End.{End}
 use Rattle.rohcfn_words.specs.declared.words.End.TheVariants.{Sending, Receiving}
 use Rattle.rohcfn_words.specs.declared.words.Order.{Order}
-use Rattle.rohcfn_tool.specs.Printed.{Prints, PrintsInput, AnsweredIn, AnsweredFor, AnsweredBy, AnsweredRun, Answered, SaysItem, FaultsItem, stop_of, SaysPacket, FaultsPacket}
+use Rattle.rohcfn_tool.specs.Printed.{Prints, PrintsInput, AnsweredIn, AnsweredFor, AnsweredBy, AnsweredRun, Answered, StatsBy, StatsIn, StatsFor, StatsWith, Stated, SaysItem, FaultsItem, stop_of, SaysPacket, FaultsPacket}
 use Rattle.rohcfn_tool.specs.Printed.Prints.{done as prints_done, fault as prints_fault, line as prints_line}
 use Rattle.rohcfn_tool.specs.Printed.AnsweredIn.{answered as answered_in_answered, bad_line as answered_in_bad_line}
 use Rattle.rohcfn_tool.specs.Printed.AnsweredFor.{bad_context as answered_for_bad_context, from_context as answered_for_from_context}
 use Rattle.rohcfn_tool.specs.Printed.AnsweredBy.{by_profile as answered_by_by_profile, unaccepted as answered_by_unaccepted}
 use Rattle.rohcfn_tool.specs.Printed.AnsweredRun.{both as answered_run_both, no_input as answered_run_no_input}
-use Rattle.rohcfn_tool.specs.Printed.Answered.{check_explained as answers_check_explained, checked as answers_checked, drawn as answers_drawn, lined as answers_lined, linted as answers_linted, no_profile as answers_no_profile, prove_explained as answers_prove_explained, proved as answers_proved, ran as answers_ran, shown as answers_shown, told as answers_told, explained as answers_explained}
+use Rattle.rohcfn_tool.specs.Printed.Answered.{check_explained as answers_check_explained, checked as answers_checked, drawn as answers_drawn, lined as answers_lined, linted as answers_linted, no_profile as answers_no_profile, prove_explained as answers_prove_explained, proved as answers_proved, ran as answers_ran, shown as answers_shown, told as answers_told, explained as answers_explained, stated as answers_stated}
+use Rattle.rohcfn_tool.specs.Printed.StatsBy.{counted_by as stats_by_counted}
+use Rattle.rohcfn_tool.specs.Printed.StatsIn.{bad_item as stats_in_bad_item, items_counted as stats_in_counted}
+use Rattle.rohcfn_tool.specs.Printed.StatsFor.{bad_entry as stats_for_bad_entry, from_entries as stats_for_from_entries}
+use Rattle.rohcfn_tool.specs.Printed.StatsWith.{stats_accepted as stats_with_accepted, stats_refused as stats_with_refused}
+use Rattle.rohcfn_tool.specs.Printed.Stated.{no_items as stated_no_items, with_items as stated_with_items}
 use Rattle.fn_line.specs.declared.flow.LineVersion.{LineVersion}
 use Rattle.rohcfn_tool.specs.Lined.{PrintsSent, PrintsReceived, AnsweredEvents, AnsweredHex, AnsweredEnd, LinedBy, Lined, line_version}
 use Rattle.rohcfn_tool.specs.Lined.PrintsSent.{all_sent as prints_sent_all_sent, one_refused as prints_sent_one_refused}
@@ -127,6 +132,25 @@ lined_ends : (end : End) (order : Order) (profile : List ℕ) (parts : Parts) (s
 lined_ends end order profile parts _ _ (lined_no_part is) = tt
 lined_ends end order profile parts s output (lined_by_part given is h) = lined_by_ends end (line_version order.is_wide) order.top.now profile (origin_of order.version parts.certificate) given.now s output h
 
+stats_by_ends : (a : Accepting) (ctx : Entries) (items : List Item) (s : Status) (output : List ℕ) → StatsBy a ctx items s output → MayPrint s
+stats_by_ends a ctx items _ _ (stats_by_counted fs refused packs) = tt
+
+stats_in_ends : (a : Accepting) (ctx : Entries) (octets : List ℕ) (s : Status) (output : List ℕ) → StatsIn a ctx octets s output → MayPrint s
+stats_in_ends a ctx octets _ _ (stats_in_bad_item n h) = tt
+stats_in_ends a ctx octets s output (stats_in_counted items has h) = stats_by_ends a ctx items s output h
+
+stats_for_ends : (a : Accepting) (context : Option (Bor (List ℕ))) (octets : List ℕ) (s : Status) (output : List ℕ) → StatsFor a context octets s output → MayPrint s
+stats_for_ends a context octets _ _ (stats_for_bad_entry given n is bad) = tt
+stats_for_ends a context octets s output (stats_for_from_entries ctx starts h) = stats_in_ends a ctx octets s output h
+
+stats_with_ends : (order : Order) (profile : List ℕ) (parts : Parts) (octets : List ℕ) (s : Status) (output : List ℕ) → StatsWith order profile parts octets s output → MayPrint s
+stats_with_ends order profile parts octets _ _ (stats_with_refused text h) = tt
+stats_with_ends order profile parts octets s output (stats_with_accepted a accepts h) = stats_for_ends a parts.context octets s output h
+
+stated_ends : (order : Order) (profile : List ℕ) (parts : Parts) (s : Status) (output : List ℕ) → Stated order profile parts s output → MayPrint s
+stated_ends order profile parts _ _ (stated_no_items is) = tt
+stated_ends order profile parts s output (stated_with_items given is h) = stats_with_ends order profile parts given.now s output h
+
 linted_ends : (top octets : List ℕ) (s : Status) (output : List ℕ) → LintedBy top octets s output → MayPrint s
 linted_ends top octets _ _ (linted_by_no_lint text h) = tt
 linted_ends top octets _ _ (linted_by_linted p found warnings reads dead warned) = tt
@@ -168,6 +192,7 @@ answer_ends order parts s output (answers_ran profile direction is asks h) = run
 answer_ends order parts s output (answers_told profile direction is asks h) = run_ends direction Tree order profile.now parts s output h
 answer_ends order parts s output (answers_explained profile direction is asks h) = run_ends direction (Why profile) order profile.now parts s output h
 answer_ends order parts s output (answers_lined profile end is asks h) = lined_ends end order profile.now parts s output h
+answer_ends order parts s output (answers_stated profile is asks h) = stated_ends order profile.now parts s output h
 
 print_ends : (given : List (List ℕ)) (input : List ℕ) (s : Status) (output : List ℕ) → RunPrints given input s output → MayPrint s
 print_ends given input _ _ (run_prints_large h) = tt

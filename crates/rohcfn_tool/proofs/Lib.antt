@@ -7,3 +7,4 @@ pub mod ProgramBytes
 pub mod ProgramReplies
 pub mod Replying
 pub mod Stepping
+pub mod Tallying

@@ -12,7 +12,7 @@ use Rattle.rohcfn_input.specs.OneLine.{IsLine}
 use Rattle.rohcfn_tool.specs.Printed.{bad_line_text, context_line, input_name}
 use Rattle.rohcfn_report.specs.ProfileLines.{IsFaultLine}
 
--- Each fault line is one line: those of items, packets, events and `prove` are so where they are printed (`Prints`, `PrintsSent`, `ProvedBy`); these are the
+-- Each fault line is one line: those of items, packets, events and `prove` are so where they are printed (`Prints`, `Packs`, `PrintsSent`, `ProvedBy`); these are the
 -- others.
 pub record AreOneLine : Type 0 where
   pub profile : (top octets text : List ℕ) → IsFaultLine top octets text → IsLine text

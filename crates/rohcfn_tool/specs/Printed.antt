@@ -1,5 +1,5 @@
 -- What is printed for a profile with a context and items or packets, and what is answered to an order (docs/FORMATS.md).
-use Rattle.std.specs.Prelude.{◌≡◌, ℕ, ◌+◌, Bool, true, false, List, [], ◌∷◌, ◌++◌, length, codes, decimal, Option, Some, None, string_bytes}
+use Rattle.std.specs.Prelude.{◌≡◌, ℕ, ◌+◌, Bool, true, false, List, [], ◌∷◌, ◌++◌, length, map, codes, decimal, Option, Some, None, string_bytes}
 use Rattle.std.specs.Borrow.{Bor}
 use Rattle.fn_bits.specs.Text.{IsText}
 use Rattle.fn_context.specs.Entries.{Entries, bits_at}
@@ -9,6 +9,8 @@ use Rattle.fn_filling.specs.declared.filling.Filling.{Filling, out-Filling}
 use Rattle.fn_filling.specs.declared.filling.Item.{Item}
 use Rattle.fn_filling.specs.Fillings.{packed, item}
 use Rattle.fn_filling.specs.Entries.{next}
+use Rattle.fn_stats.specs.declared.counts.Count.{Count}
+use Rattle.fn_stats.specs.Counts.{counted}
 use Rattle.fn_candidates.specs.Best.{Best}
 use Rattle.fn_reader.specs.declared.fault.Blamed.{Blamed}
 use Rattle.fn_accepted.specs.Accepted.{Accepting}
@@ -41,6 +43,7 @@ use Rattle.fn_reasons.specs.Settings.{Setting}
 use Rattle.fn_reasons.specs.declared.line.Line as reasons
 use Rattle.rohcfn_report.specs.Fields.{fields_text, head_text}
 use Rattle.rohcfn_report.specs.Reasons.{reasons_text}
+use Rattle.rohcfn_report.specs.Stats.{stats_text}
 use Rattle.rohcfn_report.specs.Verdicts.{format_name, format_words, method_name}
 use Rattle.rohcfn_explain.specs.Explained.{Explained}
 use Rattle.rohcfn_report.specs.Drawing.{DrawnBy}
@@ -259,6 +262,42 @@ pub data AnsweredRun (direction : Direction) (shape : Shape) (order : Order) (pr
   no_input : input_of direction parts ≡ None → AnsweredRun direction shape order profile parts status.Refused ((codes "bundle: I4 bad part " ++ input_name direction) ++ 10 ∷ [])
   both : {s : Status} {output : List ℕ} (input : Bor (List ℕ)) → input_of direction parts ≡ Some input → AnsweredBy direction shape order profile parts input.now s output → AnsweredRun direction shape order profile parts s output
 
+-- ---- what is counted of items
+
+-- Items that are packed one after the other, counted from n, from a context on: the fillings of those that are packed, by which the context goes on; and the line
+-- of each that is refused, after a line feed. That one leaves the context as it was.
+pub data Packs (a : Accepting) : Entries → ℕ → List Item → List Filling → List ℕ → Type 0 where
+  packs_none : {ctx : Entries} {n : ℕ} → Packs a ctx n [] [] []
+  packs_one : {ctx : Entries} {n : ℕ} {it : Item} {items : List Item} {fs : List Filling} {refused : List ℕ} (f : Filling)
+      → Best a.profile.methods a.certificate.methods a.profile.top (bits_at ctx) it f → Packs a (next ctx f) (n + 1) items fs refused → Packs a ctx n (it ∷ items) (f ∷ fs) refused
+  refuses_one : {ctx : Entries} {n : ℕ} {it : Item} {items : List Item} {fs : List Filling} {refused : List ℕ} (text : List ℕ)
+      → RefusesItem a ctx n it text → Packs a ctx (n + 1) items fs refused → Packs a ctx n (it ∷ items) fs ((10 ∷ text) ++ refused)
+
+-- What `stats` prints for items: what is counted of the fillings of those that are packed, and the lines of the refused.
+pub data StatsBy (a : Accepting) (ctx : Entries) (items : List Item) : Status → List ℕ → Type 0 where
+  counted_by : (fs : List Filling) (refused : List ℕ) → Packs a ctx 1 items fs refused
+      → StatsBy a ctx items status.Done (stats_text a.profile.methods a.profile.top (map counted fs) ++ refused ++ 10 ∷ [])
+
+-- What is answered to `stats` from a context on, by the octets of items.
+pub data StatsIn (a : Accepting) (ctx : Entries) (input : List ℕ) : Status → List ℕ → Type 0 where
+  bad_item : (n : ℕ) → IsBadLine IsItem input n → StatsIn a ctx input status.Refused (bad_line_text Pack n ++ 10 ∷ [])
+  items_counted : {s : Status} {output : List ℕ} (items : List Item) → HasLines IsItem input items → StatsBy a ctx items s output → StatsIn a ctx input s output
+
+-- The same by the part of the context,
+pub data StatsFor (a : Accepting) (context : Option (Bor (List ℕ))) (input : List ℕ) : Status → List ℕ → Type 0 where
+  bad_entry : (octets : Bor (List ℕ)) (n : ℕ) → context ≡ Some octets → IsBadContext octets.now n → StatsFor a context input status.Refused (context_line n ++ 10 ∷ [])
+  from_entries : {s : Status} {output : List ℕ} (ctx : Entries) → StartsAt context ctx → StatsIn a ctx input s output → StatsFor a context input s output
+
+-- by the octets of a profile,
+pub data StatsWith (order : Order) (profile : List ℕ) (parts : Parts) (input : List ℕ) : Status → List ℕ → Type 0 where
+  stats_refused : (text : List ℕ) → RefusesProfile order.top.now profile (origin_of order.version parts.certificate) text → StatsWith order profile parts input status.Refused (text ++ 10 ∷ [])
+  stats_accepted : {s : Status} {output : List ℕ} (a : Accepting) → AcceptsProfile order.top.now profile (origin_of order.version parts.certificate) a → StatsFor a parts.context input s output → StatsWith order profile parts input s output
+
+-- and by the parts.
+pub data Stated (order : Order) (profile : List ℕ) (parts : Parts) : Status → List ℕ → Type 0 where
+  no_items : parts.items ≡ None → Stated order profile parts status.Refused (codes "bundle: I4 bad part items" ++ 10 ∷ [])
+  with_items : {s : Status} {output : List ℕ} (input : Bor (List ℕ)) → parts.items ≡ Some input → StatsWith order profile parts input.now s output → Stated order profile parts s output
+
 -- What is answered to an order with these parts.
 pub data Answered (order : Order) (parts : Parts) : Status → List ℕ → Type 0 where
   no_profile : parts.profile ≡ None → Answered order parts status.Refused (codes "bundle: I4 bad part profile" ++ 10 ∷ [])
@@ -284,6 +323,8 @@ pub data Answered (order : Order) (parts : Parts) : Status → List ℕ → Type
       → AnsweredRun direction (Why profile) order profile.now parts s output → Answered order parts s output
   lined : {s : Status} {output : List ℕ} (profile : Bor (List ℕ)) (end : End) → parts.profile ≡ Some profile → order.command ≡ command.Line end
       → Lined end order profile.now parts s output → Answered order parts s output
+  stated : {s : Status} {output : List ℕ} (profile : Bor (List ℕ)) → parts.profile ≡ Some profile → order.command ≡ command.Stats
+      → Stated order profile.now parts s output → Answered order parts s output
 
 -- ---- the steps
 
@@ -301,6 +342,37 @@ AnswersFor direction shape shows a context input = Holds (AnsweredFor direction 
 
 abbrev pub AnswersIn : Direction → Shape → Bool → Accepting → Entries → List ℕ → Answer → Type 0
 AnswersIn direction shape shows a ctx input = Holds (AnsweredIn direction shape shows a ctx input)
+
+-- what is answered to `stats`
+abbrev pub AnswersStats : Order → List ℕ → Parts → Answer → Type 0
+AnswersStats order profile parts = Holds (Stated order profile parts)
+
+abbrev pub AnswersStatsBy : Order → List ℕ → Parts → List ℕ → Answer → Type 0
+AnswersStatsBy order profile parts input = Holds (StatsWith order profile parts input)
+
+abbrev pub AnswersStatsFor : Accepting → Option (Bor (List ℕ)) → List ℕ → Answer → Type 0
+AnswersStatsFor a context input = Holds (StatsFor a context input)
+
+abbrev pub AnswersStatsIn : Accepting → Entries → List ℕ → Answer → Type 0
+AnswersStatsIn a ctx input = Holds (StatsIn a ctx input)
+
+abbrev pub CountsItems : Accepting → Entries → List Item → Answer → Type 0
+CountsItems a ctx items = Holds (StatsBy a ctx items)
+
+-- what is counted, and below it the lines of the refused
+pub record IsPrintedStats (a : Accepting) (cs : List Count) (refused : List ℕ) (answer : Answer) : Type 0 where
+  pub status_is : answer.status ≡ status.Done
+  pub output_is : string_bytes answer.output ≡ stats_text a.profile.methods a.profile.top cs ++ refused ++ 10 ∷ []
+
+-- the line of a refused item below those before it, which is one line
+abbrev pub IsRefusedBelow : PackFault → ℕ → List ℕ → List ℕ → Type 0
+IsRefusedBelow e n before after = (text : List ℕ) × IsItemFault e n text × IsLine text × (after ≡ before ++ 10 ∷ text)
+
+-- One item more: it is packed, and counted, and the context goes on; or it is refused, and its line comes below the others.
+pub data CountsItem (a : Accepting) (old new : Entries) (before after : List Count) (above below : List ℕ) (n : ℕ) (it : Item) : Type 0 where
+  counts_packed : (f : Filling) → Best a.profile.methods a.certificate.methods a.profile.top (bits_at old) it f → new ≡ next old f → after ≡ before ++ counted f ∷ [] → below ≡ above
+      → CountsItem a old new before after above below n it
+  counts_refused : (text : List ℕ) → RefusesItem a old n it text → new ≡ old → after ≡ before → below ≡ above ++ 10 ∷ text → CountsItem a old new before after above below n it
 
 -- these lines, and what follows the last
 pub record IsFinished (shows : Bool) (ctx : Entries) (lines : List ℕ) (a : Answer) : Type 0 where

@@ -7,8 +7,8 @@ ghost use Rattle.fn_reasons.specs.Reasons.{Verdicts};
 ghost use Rattle.rohcfn_tool.specs.Printed as spec;
 
 use crate::printing::{item_fault, packet_fault};
-use fn_bits::Bits;
 use fn_accepted::Accepted;
+use fn_bits::Bits;
 use fn_context::Context;
 use fn_engine::{PackFault, UnpackFault};
 use fn_expr::Side;

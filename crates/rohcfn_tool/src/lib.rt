@@ -7,3 +7,4 @@ pub mod lined;
 pub mod printing;
 pub mod program;
 pub mod replies;
+mod stats;

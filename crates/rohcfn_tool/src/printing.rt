@@ -7,8 +7,8 @@ ghost use Rattle.fn_engine.specs.Writing as writing;
 ghost use Rattle.rohcfn_tool.specs.Printed as spec;
 
 use crate::explaining::{explain_item, explain_packet};
-use fn_bits::{Bits, Cursor};
 use fn_accepted::Accepted;
+use fn_bits::{Bits, Cursor};
 use fn_context::Context;
 use fn_engine::{PackFault, Read, UnpackFault, Written, pack, unpack};
 use fn_filling::{Filling, Item};

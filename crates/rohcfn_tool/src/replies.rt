@@ -6,6 +6,7 @@ ghost use Rattle.rohcfn_tool.specs.Printed as spec;
 
 use crate::lined::answer_line;
 use crate::printing::{Shape, pack_all, unpack_all};
+use crate::stats::answer_stats;
 use fn_accepted::Accepted;
 use fn_context::Context;
 use rohcfn_explain::explaining::{explain_check, explain_prove};
@@ -23,7 +24,7 @@ use rohcfn_words::words::{Command, Direction, Order};
 use std::alloc::{AllocError, Global};
 
 /// What is printed for an order: the listing of a profile, the formats by which nothing can be packed, diagrams, the verdict on a certificate, a certificate, a line or the
-/// fields for each item or packet up to the first refusal, what stands against each format where one is refused, the octets and items of a line of flows, or the one line of another fault.
+/// fields for each item or packet up to the first refusal, what stands against each format where one is refused, what is counted of packed items, the octets and items of a line of flows, or the one line of another fault.
 ///
 /// The order of faults: the missing part `profile`, another missing part, the profile, its certificate, a line of the context, a line of the items, packets or events
 /// or octets that are no hex, and then each item, packet or event.
@@ -56,6 +57,7 @@ pub fn answer(alloc: Global, order: &Order<'_>, parts: &Parts<'_>) -> Result<Ans
         Command::Why(direction) => {
             answer_run(alloc, direction, Shape::Why(profile), order, profile, parts)
         }
+        Command::Stats => answer_stats(alloc, order, profile, parts),
         Command::Line(end) => answer_line(alloc, end, order, profile, parts),
     }
 }
@@ -201,7 +203,11 @@ pub fn faults_are_lines()
 {}
 
 /// The line of items or packets that can't be read.
-fn bad_line(alloc: Global, direction: Direction, number: usize) -> Result<String, AllocError>
+pub(crate) fn bad_line(
+    alloc: Global,
+    direction: Direction,
+    number: usize,
+) -> Result<String, AllocError>
     ensures { IfOk result (λ text. string_bytes text ≡ spec.input_name direction ++ codes ":" ++ decimal number ++ spec.bad_line_words direction) }
 {
     match direction {
@@ -211,7 +217,7 @@ fn bad_line(alloc: Global, direction: Direction, number: usize) -> Result<String
 }
 
 /// The line of a context that can't be read.
-fn context_line(alloc: Global, number: usize) -> Result<String, AllocError>
+pub(crate) fn context_line(alloc: Global, number: usize) -> Result<String, AllocError>
     ensures { IfOk result (λ text. string_bytes text ≡ spec.context_line number) }
 {
     format!(in alloc; "context:{number}: C1 bad line")

@@ -2,7 +2,7 @@
 use Rattle.std.proofs.Common.{◌≡◌, [], ◌∷◌, None, Some, true, false, inl, refl, codes}
 use Rattle.clap.proofs.OnLiterals.{clap_on_literals}
 use Rattle.fn_cert.specs.declared.certificate.Version.TheVariants.{One, Two}
-use Rattle.rohcfn_words.specs.declared.words.Command.TheVariants.{Show, Lint, Draw, Check, Prove, ExplainCheck, ExplainProve, Run, Fields, Why, Line}
+use Rattle.rohcfn_words.specs.declared.words.Command.TheVariants.{Show, Lint, Draw, Check, Prove, ExplainCheck, ExplainProve, Run, Fields, Why, Stats, Line}
 use Rattle.rohcfn_words.specs.declared.words.Direction.TheVariants.{Pack, Unpack}
 use Rattle.rohcfn_words.specs.declared.words.End.TheVariants.{Sending, Receiving}
 use Rattle.rohcfn_words.specs.Words.{AskHelp, AskJustHelp, ReadsWords, asked_of, program}
@@ -83,6 +83,14 @@ pub why_items_read : asked_of (codes "why" ∷ codes "--top" ∷ codes "plain" �
 unfolding asked_of program clap_on_literals
 why_items_read = refl
 
+pub stats_read : asked_of (codes "stats" ∷ codes "--top" ∷ codes "plain" ∷ []) ≡ Some (record { command = Stats; top = codes "plain"; shows_context = false; version = One; is_wide = false })
+unfolding asked_of program clap_on_literals
+stats_read = refl
+
+pub stats_context_refused : asked_of (codes "stats" ∷ codes "--top" ∷ codes "plain" ∷ codes "--context" ∷ []) ≡ None
+unfolding asked_of program clap_on_literals
+stats_context_refused = refl
+
 pub lint_read : asked_of (codes "lint" ∷ codes "--top" ∷ codes "plain" ∷ []) ≡ Some (record { command = Lint; top = codes "plain"; shows_context = false; version = One; is_wide = false })
 unfolding asked_of program clap_on_literals
 lint_read = refl
@@ -148,4 +156,4 @@ unfolding AskHelp program clap_on_literals
 help_command_met = inl refl
 
 pub words_are_read : ReadsWords
-words_are_read = record { pack = pack_read; unpack = unpack_read; show = show_read; check = check_read; prove = prove_read; pack_context = pack_context_read; pack_second = pack_second_read; prove_second = prove_second_read; line_second = line_second_read; show_second = show_second_refused; show_context = show_context_refused; line = line_read; line_receive = line_receive_read; line_wide = line_wide_read; line_wide_receive = line_wide_receive_read; fields = fields_read; fields_items = fields_items_read; why = why_read; why_items = why_items_read; lint = lint_read; lint_second = lint_second_refused; draw = draw_read; check_explain = check_explain_read; prove_explain = prove_explain_read; pack_explain = pack_explain_refused; pack_items = pack_items_refused; pack_wide = pack_wide_refused; pack_receive = pack_receive_refused; line_context = line_context_refused; no_top = top_missing; no_command = command_missing; other_flag = flag_unknown; help = help_wanted; command_help = command_help_wanted; help_command = help_command_met }
+words_are_read = record { pack = pack_read; unpack = unpack_read; show = show_read; check = check_read; prove = prove_read; pack_context = pack_context_read; pack_second = pack_second_read; prove_second = prove_second_read; line_second = line_second_read; show_second = show_second_refused; show_context = show_context_refused; line = line_read; line_receive = line_receive_read; line_wide = line_wide_read; line_wide_receive = line_wide_receive_read; fields = fields_read; fields_items = fields_items_read; why = why_read; why_items = why_items_read; stats = stats_read; stats_context = stats_context_refused; lint = lint_read; lint_second = lint_second_refused; draw = draw_read; check_explain = check_explain_read; prove_explain = prove_explain_read; pack_explain = pack_explain_refused; pack_items = pack_items_refused; pack_wide = pack_wide_refused; pack_receive = pack_receive_refused; line_context = line_context_refused; no_top = top_missing; no_command = command_missing; other_flag = flag_unknown; help = help_wanted; command_help = command_help_wanted; help_command = help_command_met }

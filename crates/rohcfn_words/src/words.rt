@@ -33,6 +33,8 @@ pub enum Command {
     Fields(Direction),
     /// Tells for each line that is refused what stands against each format.
     Why(Direction),
+    /// Counts the formats and the packed bits of the items, by the part `profile`.
+    Stats,
     /// Sends or receives packets of several flows on one line, by the part `profile`.
     Line(End),
 }
@@ -87,8 +89,8 @@ impl From<AllocError> for WordsError {
     }
 }
 
-/// Reads the words that follow the program's name: a command, `pack`, `unpack`, `fields`, `why`, `show`, `lint`, `draw`,
-/// `check`, `prove` or `line`, and its flags: `--top NAME`, for all commands but `show`, `lint` and `draw` also `--v2`, for `pack`, `unpack`, `fields` and `why` also
+/// Reads the words that follow the program's name: a command, `pack`, `unpack`, `fields`, `why`, `stats`, `show`, `lint`,
+/// `draw`, `check`, `prove` or `line`, and its flags: `--top NAME`, for all commands but `show`, `lint` and `draw` also `--v2`, for `pack`, `unpack`, `fields` and `why` also
 /// `--context`, for `fields` and `why` also `--items`, for `check` and `prove` also `--explain`, and for `line` also `--receive` and `--wide`.
 ///
 /// The clauses say it by clap's own account of a command line (`asked_of`), on which clap's parse is
@@ -132,6 +134,7 @@ A bundle is read from standard input: parts, each after a line `=== PART`. For e
   rohcfn fields --top plain --items <BUNDLE  profile, items > the fields of each item's packet
   rohcfn why --top plain <BUNDLE             profile, packets > why the first that is refused is
   rohcfn why --top plain --items <BUNDLE     profile, items > the same of the first item that is
+  rohcfn stats --top plain <BUNDLE           profile, items > the items and packed bits of each format
   rohcfn line --top plain <BUNDLE            profile, events > octets in hex, then `FLOW ITEM` lines
   rohcfn line --top plain --receive <BUNDLE  profile, octets > `FLOW ITEM` lines
 
@@ -159,12 +162,14 @@ fn program<'a>(alloc: Global) -> Result<clap::Command<'a>, AllocError>
     let three = two.subcommand(fields)?;
     let why = with_items(alloc, "why", "Tells why one of the part packets is refused")?;
     let reasons = three.subcommand(why)?;
+    let stats = with_version(alloc, "stats", "Counts the packed bits of the part items")?;
+    let counted = reasons.subcommand(stats)?;
     let show = with_top(
         alloc,
         "show",
         "Shows the methods, bounds and constraints of the part profile",
     )?;
-    let four = reasons.subcommand(show)?;
+    let four = counted.subcommand(show)?;
     let lint = with_top(
         alloc,
         "lint",
@@ -355,6 +360,8 @@ fn command_of(name: &str, receives: bool, packs: bool, explains: bool) -> Option
         Some(Command::Fields(direction_of(packs)))
     } else if name == "why" {
         Some(Command::Why(direction_of(packs)))
+    } else if name == "stats" {
+        Some(Command::Stats)
     } else if name == "show" {
         Some(Command::Show)
     } else if name == "lint" {

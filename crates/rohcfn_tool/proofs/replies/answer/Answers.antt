@@ -1,6 +1,6 @@
 use Rattle.std.proofs.Common.{refl, subst}
 use Rattle.rohcfn_tool.specs.Lined.{Lined}
-use Rattle.rohcfn_tool.specs.Printed.{Answered, AnsweredRun, no_profile, shown, linted, drawn, checked, proved, check_explained, prove_explained, ran, told, explained, lined}
+use Rattle.rohcfn_tool.specs.Printed.{Answered, AnsweredRun, no_profile, shown, linted, drawn, checked, proved, check_explained, prove_explained, ran, told, explained, lined, stated, Stated}
 use Rattle.rohcfn_tool.specs.declared.printing.Shape.TheVariants.{Line, Tree, Why}
 use Rattle.rohcfn_explain.specs.Explained.{Explained}
 use Rattle.rohcfn_report.specs.Drawing.{DrawnBy}
@@ -57,3 +57,7 @@ returns-in-Why c =
 pub returns-in-Line : goal.returns-in-Line
 returns-in-Line c =
     passed_on (Lined c.in-Line.end c.args.order.now c.in-Some.profile.now c.args.parts.now) (Answered c.args.order.now c.args.parts.now) c.answer_line.result (λ s out h. lined c.in-Some.profile c.in-Line.end c.in-Some.is c.in-Line.is h) c.answer_line.ensures
+
+pub returns-in-Stats : goal.returns-in-Stats
+returns-in-Stats c =
+    passed_on (Stated c.args.order.now c.in-Some.profile.now c.args.parts.now) (Answered c.args.order.now c.args.parts.now) c.answer_stats.result (λ s out h. stated c.in-Some.profile c.in-Some.is c.in-Stats.is h) c.answer_stats.ensures

@@ -1,0 +1,5 @@
+use Rattle.fn_stats.proofs.Adding.{fields_add_up}
+use Rattle.fn_stats.proofs.laws.fields_add_up.Goals as goal
+
+pub returns : goal.returns
+returns c = fields_add_up

@@ -1,0 +1,182 @@
+//! What is answered to `stats`.
+
+ghost use Rattle.std.specs.Prelude.{◌≡◌, ◌≢◌, ◌++◌, IfOk, OnOk, string_bytes};
+ghost use Rattle.rohcfn_tool.specs.Printed as spec;
+
+use crate::printing::item_fault;
+use crate::replies::{bad_line, context_line};
+use fn_accepted::Accepted;
+use fn_context::Context;
+use fn_engine::{PackFault, Written, pack};
+use fn_filling::Item;
+use fn_stats::{Count, count_of};
+use rohcfn_input::bundle::Parts;
+use rohcfn_input::inputs::{BadLine, read_context, read_items};
+use rohcfn_input::refusals::refusal;
+use rohcfn_input::spelling::push_line;
+use rohcfn_input::status::{Answer, Status};
+use rohcfn_report::accepting::{Judged, Origin, accept};
+use rohcfn_report::stats::stats_text;
+use rohcfn_words::words::{Direction, Order};
+use sqlite_items::Items;
+use std::alloc::{AllocError, Global};
+
+/// The answer to `stats`, by the octets of a profile and the items among the parts: what is counted of the packets, and a line for each item that is refused; or the
+/// line of another fault.
+pub(crate) fn answer_stats(
+    alloc: Global,
+    order: &Order<'_>,
+    profile: &[u8],
+    parts: &Parts<'_>,
+) -> Result<Answer, AllocError>
+    ensures { IfOk result (spec.AnswersStats order.now profile.now parts.now) }
+{
+    match parts.items {
+        Some(items) => stats_by(alloc, order, profile, parts, items),
+        None => refusal(alloc, "bundle: I4 bad part items"),
+    }
+}
+
+/// The answer by the octets of a profile and of items.
+fn stats_by(
+    alloc: Global,
+    order: &Order<'_>,
+    profile: &[u8],
+    parts: &Parts<'_>,
+    input: &[u8],
+) -> Result<Answer, AllocError>
+    ensures { IfOk result (spec.AnswersStatsBy order.now profile.now parts.now input.now) }
+{
+    match accept(alloc, order.top, profile, Origin::of(order.version, parts))? {
+        Judged::Accepted(accepted) => stats_for(alloc, &accepted, parts, input),
+        Judged::Refused(line) => refusal(alloc, line.as_str()),
+    }
+}
+
+/// The answer by an accepted profile and the octets of items.
+fn stats_for(
+    alloc: Global,
+    accepted: &Accepted,
+    parts: &Parts<'_>,
+    input: &[u8],
+) -> Result<Answer, AllocError>
+    ensures { IfOk result (spec.AnswersStatsFor accepted.now parts.now.context input.now) }
+{
+    match read_context(alloc, parts) {
+        Ok(context) => stats_in(alloc, accepted, context, input),
+        Err(BadLine::Number(number)) => {
+            let line = context_line(alloc, number)?;
+            refusal(alloc, line.as_str())
+        }
+        Err(BadLine::OutOfMemory) => Err(AllocError),
+    }
+}
+
+/// The answer in a context, by the octets of items.
+fn stats_in(
+    alloc: Global,
+    accepted: &Accepted,
+    context: Context,
+    input: &[u8],
+) -> Result<Answer, AllocError>
+    ensures { IfOk result (spec.AnswersStatsIn accepted.now context input.now) }
+{
+    match read_items(alloc, input) {
+        Ok(items) => count_all(alloc, accepted, context, items.as_slice()),
+        Err(BadLine::Number(number)) => {
+            let line = bad_line(alloc, Direction::Pack, number)?;
+            refusal(alloc, line.as_str())
+        }
+        Err(BadLine::OutOfMemory) => Err(AllocError),
+    }
+}
+
+/// What is counted of the packets of items, and a line for each item that is refused. After such an item the context is as before it.
+fn count_all(
+    alloc: Global,
+    accepted: &Accepted,
+    start: Context,
+    items: &[Item],
+) -> Result<Answer, AllocError>
+    ensures { IfOk result (spec.CountsItems accepted.now start items.now) }
+{
+    let mut context = start;
+    let mut counts = Items::new(alloc);
+    let mut refused = String::new(alloc);
+    for (i, item) in items.iter().enumerate() {
+        count_one(
+            alloc,
+            accepted,
+            &mut context,
+            &mut counts,
+            &mut refused,
+            i + 1,
+            item,
+        )?;
+    }
+    print_counts(alloc, accepted, counts.as_slice(), refused.as_str())
+}
+
+/// Packs an item, whose number counts from 1. What is counted of its packet is added to the counts, and the context goes on to the next; or its line is added to
+/// those of the refused.
+fn count_one(
+    alloc: Global,
+    accepted: &Accepted,
+    context: &mut Context,
+    counts: &mut Items<Count>,
+    refused: &mut String,
+    number: usize,
+    item: &Item,
+) -> Result<(), AllocError>
+    ensures { OnOk result (spec.CountsItem accepted.now context.old context.new counts.old counts.new (string_bytes refused.old) (string_bytes refused.new) number item.now) }
+{
+    match pack(alloc, accepted, context, item) {
+        Ok(
+            Written {
+                packed: _,
+                filling,
+                entries,
+            },
+        ) => {
+            let count = count_of(alloc, &filling)?;
+            counts.push(count)?;
+            context.replace(entries)
+        }
+        Err(fault) => add_refused(alloc, refused, number, fault),
+    }
+}
+
+/// Adds the line of a refused item, after a line feed.
+#[inline(never)]
+fn add_refused(
+    alloc: Global,
+    refused: &mut String,
+    number: usize,
+    fault: PackFault,
+) -> Result<(), AllocError>
+    requires { fault ≢ PackFault.Flow }
+    ensures { OnOk result (spec.IsRefusedBelow fault number (string_bytes refused.old) (string_bytes refused.new)) }
+{
+    let line = item_fault(alloc, number, fault)?;
+    refused.push('\n')?;
+    refused.push_str(line.as_str())?;
+    Ok(())
+}
+
+/// What is counted, and the lines of the refused below.
+fn print_counts(
+    alloc: Global,
+    accepted: &Accepted,
+    counts: &[Count],
+    refused: &str,
+) -> Result<Answer, AllocError>
+    ensures { IfOk result (spec.IsPrintedStats accepted.now counts.now refused.now) }
+{
+    let profile = accepted.profile();
+    let mut output = stats_text(alloc, profile.methods(), profile.top(), counts)?;
+    push_line(&mut output, refused)?;
+    Ok(Answer {
+        status: Status::Done,
+        output,
+    })
+}
