@@ -28,7 +28,7 @@ use Rattle.fn_normal.specs.declared.profile.Field.{Field}
 use Rattle.fn_normal.specs.declared.profile.Format.{Format}
 use Rattle.fn_normal.specs.declared.fault.ProfileFault.{ProfileFault}
 use Rattle.fn_normal.specs.Judging.{earlier}
-use Rattle.fn_bounds.specs.declared.known.Extent.TheVariants.{Whole}
+use Rattle.fn_bounds.specs.declared.extent.Extent.TheVariants.{Whole}
 use Rattle.fn_normal.specs.Faults.{of_range}
 use Rattle.fn_bounds.specs.Faults.{is_wide, wide_value, wide_in, wide_in_condition, expr_fault, condition_fault, earliest, library_fault, encoding_fault, constraint_fault}
 use Rattle.fn_bounds.specs.Laws.{library_exprs, encoding_exprs, StandsIn, in_encoding, in_bracket, IsSound, ConditionIsSound, FaultlessIsSound}

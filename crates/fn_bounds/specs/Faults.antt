@@ -37,8 +37,8 @@ use Rattle.fn_normal.specs.declared.profile.MethodSizes.{MethodSizes}
 use Rattle.fn_normal.specs.declared.profile.Method.{Method}
 use Rattle.fn_bounds.specs.Formats.{sizes_at}
 use Rattle.fn_bounds.specs.Ranging.{format_ranges}
-use Rattle.fn_bounds.specs.declared.known.Extent.{Extent}
-use Rattle.fn_bounds.specs.Known.{range_fault, condition_range_fault}
+use Rattle.fn_bounds.specs.declared.extent.Extent.{Extent}
+use Rattle.fn_bounds.specs.Extents.{range_fault, condition_range_fault}
 use Rattle.fn_bounds.specs.Passes.{folded}
 
 -- ---- values that may be wider than 64 bits

@@ -18,7 +18,7 @@ use Rattle.fn_normal.specs.declared.profile.Encoding.TheVariants as encoding
 use Rattle.fn_normal.specs.declared.profile.Constraint.TheVariants.{Bracket, Enforce}
 use Rattle.fn_normal.specs.declared.profile.Field.{Field}
 use Rattle.fn_normal.specs.declared.profile.Format.{Format}
-use Rattle.fn_bounds.specs.declared.known.Extent.TheVariants.{Whole}
+use Rattle.fn_bounds.specs.declared.extent.Extent.TheVariants.{Whole}
 use Rattle.fn_bounds.specs.Faults.{is_wide, format_fault}
 
 abbrev pub library_exprs : Library → List Expr

@@ -5,7 +5,7 @@ pub mod Passes
 pub mod Formats
 pub mod Methods
 pub mod Ranging
-pub mod Known
+pub mod Extents
 pub mod Faults
 pub mod Parameters
 pub mod Outcome

@@ -8,8 +8,8 @@ use Rattle.fn_normal.specs.declared.fault.ProfileFault.{ProfileFault}
 use Rattle.fn_normal.specs.declared.fault.ResolveError.{ResolveError}
 use Rattle.fn_normal.specs.declared.fault.ResolveError.TheVariants as errors
 use Rattle.fn_bounds.specs.Methods.{HasSizes, SizedBefore, IsWithinAt, IsWide}
-use Rattle.fn_bounds.specs.declared.known.Extent.{Extent}
-use Rattle.fn_bounds.specs.declared.known.Extent.TheVariants.{Whole, Known}
+use Rattle.fn_bounds.specs.declared.extent.Extent.{Extent}
+use Rattle.fn_bounds.specs.declared.extent.Extent.TheVariants.{Whole, Known}
 use Rattle.fn_bounds.specs.Parameters.{only_zero, beyond, parameter_ranges, RangedFrom}
 use Rattle.fn_bounds.specs.Ranging.{format_ranges}
 use Rattle.fn_bounds.specs.Faults.{format_fault}

@@ -4,11 +4,8 @@ ghost use Rattle.std.specs.Prelude.{◌≡◌, true, IsTrue, IfSome};
 ghost use Rattle.fn_expr.specs.Rules.{is_within};
 ghost use Rattle.fn_bounds.specs.Constants as spec;
 
-use fn_expr::{Expr, Known, Operator, Ranges, range, value};
+use fn_expr::{Expr, Known, Operator, RANGE_LIMIT, Ranges, range, value};
 use std::alloc::Global;
-
-/// The greatest size of an end point of a range that is accepted.
-const LIMIT: i128 = 0x100_0000_0000_0000_0000_0000_0000_0000;
 
 /// A number up to this size is far within the limit of ranges.
 const SMALL: i128 = 0x1_0000_0000_0000_0000;
@@ -23,7 +20,7 @@ fn is_small(number: i128) -> bool
 fn within(number: i128) -> Option<i128>
     ensures { IfSome result (spec.IsWithin number) }
 {
-    if -LIMIT <= number && number <= LIMIT {
+    if -RANGE_LIMIT <= number && number <= RANGE_LIMIT {
         Some(number)
     } else {
         None

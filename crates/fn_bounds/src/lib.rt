@@ -4,6 +4,6 @@
 pub use limits::HEADER_LIMIT;
 
 pub mod constants;
-pub mod known;
+pub mod extent;
 pub mod laws;
 pub mod limits;

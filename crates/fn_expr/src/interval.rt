@@ -7,7 +7,7 @@ ghost use Rattle.fn_expr.specs.Spread.{Gives};
 use crate::expr::Operator;
 
 /// The greatest size of an end point of a range that is accepted.
-const LIMIT: i128 = 0x100_0000_0000_0000_0000_0000_0000_0000;
+pub const RANGE_LIMIT: i128 = 0x100_0000_0000_0000_0000_0000_0000_0000;
 
 /// The greatest exponent of a power.
 const MOST_EXPONENT: i128 = 127;
@@ -21,8 +21,8 @@ pub struct Interval {
 
 /// From `-2^120` to `2^120`.
 pub(crate) const EVERY: Interval = Interval {
-    from: -LIMIT,
-    to: LIMIT,
+    from: -RANGE_LIMIT,
+    to: RANGE_LIMIT,
 };
 
 impl Interval {
@@ -56,7 +56,7 @@ impl Interval {
 fn is_within(number: i128) -> bool
     ensures { result ≡ rules.is_within number }
 {
-    -LIMIT <= number && number <= LIMIT
+    -RANGE_LIMIT <= number && number <= RANGE_LIMIT
 }
 
 /// Whether the operator is refused at these ranges: a power whose base may be negative or whose exponent may pass 127.

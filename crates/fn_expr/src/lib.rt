@@ -4,7 +4,7 @@
 pub use expr::{Attribute, Comparison, Cond, Expr, Measure, Operator, Side, Subject};
 pub use fault::{RangeFault, RangeFaultKind};
 pub use inputs::{Input, condition_inputs, expr_inputs};
-pub use interval::Interval;
+pub use interval::{Interval, RANGE_LIMIT};
 pub use known::{Known, Numbers, SideNumbers};
 pub use ranges::{Intervals, Ranges, SideIntervals, condition_fault, range};
 pub use valuation::Valuation;

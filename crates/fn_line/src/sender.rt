@@ -10,8 +10,8 @@ ghost use Rattle.fn_line.specs.States.{IsNotPut, IsPut};
 ghost use Rattle.fn_line.specs.Steps.{IsPacked};
 
 use crate::flow::{Flow, LineVersion, no_contexts};
-use fn_bits::Bits;
 use fn_accepted::Accepted;
+use fn_bits::Bits;
 use fn_context::Context;
 use fn_engine::{PackFault, pack};
 use fn_filling::Item;

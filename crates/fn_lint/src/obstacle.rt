@@ -8,10 +8,10 @@ ghost use Rattle.fn_lint.specs.Obstacles as spec;
 use crate::lengths::no_length;
 use crate::never::first_untrue;
 use crate::unfit::{sends_more, splits_octets};
-use fn_sizes::ranging::format_ranges;
 use fn_expr::{Interval, Side};
 use fn_normal::{Format, FormatSizes, MethodSizes};
 use fn_profile::Profile;
+use fn_sizes::ranging::format_ranges;
 use std::alloc::{AllocError, Global};
 
 /// What keeps every filling from a format, whatever the context holds and whatever the values of its method's arguments are (docs/NOTATION.md).

@@ -10,7 +10,7 @@ ghost use Rattle.fn_filling.specs.Fillings.{level, listing_of};
 ghost use Rattle.fn_fits.specs.Fits.{Holds, side_of};
 ghost use Rattle.fn_fits.specs.Level.{AllRanged, ConstraintRanged};
 
-use crate::seen::{Seen, is_number};
+use crate::numbers::{Seen, is_number};
 use fn_expr::{Expr, Side, decide};
 use fn_filling::Filling;
 use fn_normal::{Constraint, Shared};

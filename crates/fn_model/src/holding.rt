@@ -10,8 +10,8 @@ ghost use Rattle.fn_fits.specs.Level.{AllRanged};
 
 use crate::constraints::constraints_hold;
 use crate::level::{Level, level_of};
+use crate::numbers::{Seen, values_in};
 use crate::plain::{is_bare, is_coded};
-use crate::seen::{Seen, values_in};
 use fn_bits::Bits;
 use fn_context::Context;
 use fn_expr::Expr;

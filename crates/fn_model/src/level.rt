@@ -7,7 +7,7 @@ ghost use Rattle.fn_fits.specs.Fits.{format_at};
 ghost use Rattle.fn_fits.specs.Bounded.{sizes_at};
 ghost use Rattle.fn_fits.specs.Ready as ready;
 
-use crate::seen::Seen;
+use crate::numbers::Seen;
 use crate::shape::{is_bounded, is_shaped};
 use fn_bits::Bits;
 use fn_filling::Filling;

@@ -21,7 +21,7 @@ ghost use Rattle.fn_fits.specs.Level.{AllRanged};
 ghost use Rattle.fn_fits.specs.Ready.{IsShown, IsCoded};
 
 use crate::level::Level;
-use crate::seen::{Seen, is_number, number_in};
+use crate::numbers::{Seen, is_number, number_in};
 use fn_bits::Bits;
 use fn_context::Context;
 use fn_expr::{Expr, Side, Subject};

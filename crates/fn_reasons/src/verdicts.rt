@@ -26,17 +26,14 @@ use crate::spot::Spot;
 use crate::subjects::joined;
 use crate::undefined::{undefined_argument, undefined_condition};
 use fn_bits::Bits;
-use fn_sizes::ranging::format_ranges;
 use fn_expr::{Expr, Interval, Ranges, Side, range};
 use fn_filling::below;
 use fn_lint::{first_untrue, obstacle_of};
 use fn_normal::{Bounds, Encoding, Field, Format, FormatSizes};
-use fn_profile::Profile;
+use fn_profile::{DEPTH_LIMIT, Profile};
+use fn_sizes::ranging::format_ranges;
 use sqlite_items::Items;
 use std::alloc::{AllocError, Global};
-
-/// How many calls, one in the other, are looked into: as many as a chain of calls can have.
-const DEEPEST: usize = 16;
 
 /// For each format of the spot's method, in the order of the text, what stands against it: a line, or several where that is in the methods that a field calls, or
 /// that nothing is found. The error is want of memory.
@@ -70,7 +67,7 @@ fn add_verdict(
     requires { format < spec.formats_of (setting_of spot.now) }
     ensures { OnOk result (listing.SoFar (setting_of spot.now) format lines.old → listing.SoFar (setting_of spot.now) (format + 1) lines.new) }
 {
-    match told(DEEPEST, alloc, spot, 0, format)? {
+    match told(DEPTH_LIMIT, alloc, spot, 0, format)? {
         Some(more) => lines.append(more),
         None => lines.push(line(spot, 0, format, Reason::Nothing)),
     }

@@ -36,13 +36,13 @@ use Rattle.fn_normal.specs.declared.profile.Format.{Format}
 use Rattle.fn_normal.specs.declared.profile.Method.{Method}
 use Rattle.fn_normal.specs.Faults.{of_range}
 use Rattle.fn_normal.specs.Judging.{earlier}
-use Rattle.fn_bounds.specs.declared.known.Extent.TheVariants.{Whole, Known}
+use Rattle.fn_bounds.specs.declared.extent.Extent.TheVariants.{Whole, Known}
 use Rattle.fn_sizes.specs.Callers.{is_caller, IsCalled, AreCalled}
 use Rattle.fn_bounds.specs.Calling.{IsArgument, ranges_in}
 use Rattle.fn_bounds.specs.Faults.{earliest, wide_in, wide_in_condition, expr_fault, encoding_fault, constraint_fault, format_fault}
 use Rattle.fn_bounds.specs.Fields.{bounds, sides, whole_at}
 use Rattle.fn_bounds.specs.Formats.{format_sizes}
-use Rattle.fn_bounds.specs.Known.{lacks, known_fault, known_condition_fault}
+use Rattle.fn_bounds.specs.Extents.{lacks, known_fault, known_condition_fault}
 use Rattle.fn_bounds.specs.Laws.{encoding_exprs, in_encoding}
 use Rattle.fn_bounds.specs.Methods.{formats_hull, is_short, is_within as bits_within, HasSizes, CallsMethod, IsOrder, SizedBefore}
 use Rattle.fn_bounds.specs.Outcome.{FormatAt, IsFine, IsFaulty, is_wide, in_format}

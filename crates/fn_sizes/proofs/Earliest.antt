@@ -12,8 +12,8 @@ use Rattle.fn_normal.specs.declared.fault.ProfileFault.{ProfileFault}
 use Rattle.fn_normal.specs.Judging.{earlier, Judged}
 use Rattle.fn_bounds.specs.Passes.{folded}
 use Rattle.fn_bounds.specs.Ranging.{format_ranges}
-use Rattle.fn_bounds.specs.declared.known.Extent.{Extent}
-use Rattle.fn_bounds.specs.declared.known.Extent.TheVariants.{Whole}
+use Rattle.fn_bounds.specs.declared.extent.Extent.{Extent}
+use Rattle.fn_bounds.specs.declared.extent.Extent.TheVariants.{Whole}
 use Rattle.fn_bounds.specs.Faults.{sized_fault, method_fault, methods_fault, format_fault}
 use Rattle.fn_bounds.specs.Methods.{IsOrder, SizedBefore, is_short, is_within, IsShortAt, ArePacked, IsWide}
 use Rattle.fn_bounds.specs.Parameters.{only_zero, RangedFrom}

@@ -6,4 +6,4 @@ pub mod Earliest
 pub mod Rows
 pub mod Weighing
 pub mod Agreeing
-pub mod Reaching
+pub mod Magnitudes

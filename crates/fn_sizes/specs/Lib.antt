@@ -1,4 +1,4 @@
 pub mod Weights
-pub mod Reach
-pub mod Quiet
+pub mod Magnitude
+pub mod Glance
 pub mod Callers

@@ -7,9 +7,9 @@ ghost use Rattle.fn_bounds.specs.Faults as spec;
 ghost use Rattle.fn_bounds.specs.Ranging.{format_ranges};
 
 use crate::formats::sizes_at;
-use crate::quiet::format_quiet;
+use crate::glance::format_quiet;
 use crate::ranging::{WIDEST_VALUE, format_ranges};
-use fn_bounds::known::{Extent, condition_range_fault, range_fault};
+use fn_bounds::extent::{Extent, condition_range_fault, range_fault};
 use fn_expr::{Attribute, Cond, Expr, Interval, Measure, Ranges, Side, Subject};
 use fn_normal::{
     Bounds, Constraint, Encoding, Field, Format, FormatSizes, Library, Method, MethodSizes,

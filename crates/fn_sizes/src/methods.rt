@@ -15,7 +15,7 @@ use crate::formats::format_sizes;
 use crate::judging::methods_fault;
 use crate::parameters::{BEYOND, ONLY_ZERO, parameter_ranges, set_parameters};
 use fn_bounds::HEADER_LIMIT;
-use fn_bounds::known::Extent;
+use fn_bounds::extent::Extent;
 use fn_expr::Interval;
 use fn_normal::{
     Bounds, FormatSizes, Method, MethodSizes, ProfileFault, ProfileFaultKind, ResolveError, Sizes,

@@ -1,9 +1,9 @@
 //! What a level begins with.
 
-use crate::desk::Desk;
-use crate::sheet::Sheet;
+use crate::level::Sheet;
+use crate::no_sketch::Stop;
+use crate::place::Desk;
 use crate::steps::{argument_of, reference};
-use crate::stop::Stop;
 use fn_acts::{Beginning, Count, Spelled};
 use fn_bits::{Bits, Cursor};
 use fn_expr::Side;

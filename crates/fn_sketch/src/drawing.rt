@@ -1,10 +1,10 @@
 //! Fillings by the trees and the plans of an accepted profile.
 
 use crate::beginning::begin_level;
-use crate::desk::{Desk, Digits, Goal};
-use crate::sheet::Sheet;
+use crate::level::Sheet;
+use crate::no_sketch::Stop;
+use crate::place::{Desk, Digits, Goal};
 use crate::steps::act;
-use crate::stop::Stop;
 use crate::values::values;
 use fn_accepted::Accepted;
 use fn_acts::Act;
@@ -12,11 +12,9 @@ use fn_bits::Cursor;
 use fn_context::Context;
 use fn_filling::{AskedValue, Filling, Item, below};
 use fn_normal::Encoding;
+use fn_profile::DEPTH_LIMIT;
 use sqlite_items::at;
 use std::alloc::{AllocError, Global};
-
-/// How many methods a chain of calls from the top may have.
-const CALL_DEPTH: usize = 16;
 
 /// A filling of the top that may be the one whose packed bits are at the cursor's place. It is drawn by the tree and the read plans alone, and neither bounds
 /// nor constraints nor what is known already are tested on the way: nothing is promised of it, and who asks for it judges it. None where the plan leads
@@ -71,7 +69,7 @@ fn drawn(
     goal: Goal,
     source: &Cursor<'_>,
 ) -> Result<Option<Filling>, AllocError> {
-    match draw(CALL_DEPTH, alloc, desk, goal, source, 0) {
+    match draw(DEPTH_LIMIT, alloc, desk, goal, source, 0) {
         Ok(filling) => Ok(Some(filling)),
         Err(Stop::Nowhere) => Ok(None),
         Err(Stop::OutOfMemory) => Err(AllocError),

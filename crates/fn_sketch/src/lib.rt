@@ -4,9 +4,9 @@
 pub use drawing::{is_hopeful, sketch, sketch_item};
 
 mod beginning;
-mod desk;
 mod drawing;
-mod sheet;
+mod level;
+mod no_sketch;
+mod place;
 mod steps;
-mod stop;
 mod values;

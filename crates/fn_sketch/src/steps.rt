@@ -1,9 +1,9 @@
 //! The steps of a plan, without a test on the way.
 
 use crate::beginning::spelled;
-use crate::desk::{Desk, Digits};
-use crate::sheet::Sheet;
-use crate::stop::Stop;
+use crate::level::Sheet;
+use crate::no_sketch::Stop;
+use crate::place::{Desk, Digits};
 use crate::values::{number_of, whole_of};
 use fn_acts::{Act, Count};
 use fn_bits::{Bits, Cursor};

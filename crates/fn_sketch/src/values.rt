@@ -1,6 +1,6 @@
 //! The values of expressions by a sketch.
 
-use crate::sheet::Sheet;
+use crate::level::Sheet;
 use fn_bits::Bits;
 use fn_expr::{Attribute, Expr, Measure, Operator, Side, Subject};
 use fn_normal::Part;

@@ -43,9 +43,9 @@ use Rattle.fn_accepted.specs.declared.place.Place.{Place}
 use Rattle.fn_candidates.specs.Writing.{Begins as StandsIn, asked_before}
 use Rattle.fn_candidates.proofs.Steps.{asked_at}
 use Rattle.fn_writer.specs.declared.told.Chosen.{Chosen}
-use Rattle.fn_writer.specs.Foreseeing.{IsAsked, IsAskedFor, HasSeen, StandsBefore, SeesOn, IsRefutedInside, by_values, by_start, AreRefutedInside}
+use Rattle.fn_writer.specs.Foresight.{IsAsked, IsAskedFor, HasSeen, StandsBefore, SeesOn, IsRefutedInside, by_values, by_start, AreRefutedInside}
 use Rattle.fn_writer.specs.Going.{Begins}
-use Rattle.fn_writer.specs.Refuting.{HasFalse, HaveBefore, Differs, operand}
+use Rattle.fn_writer.specs.Refutation.{HasFalse, HaveBefore, Differs, operand}
 use Rattle.fn_writer.specs.Told.{HasChosen, told_numbers}
 use Rattle.fn_writer.specs.Walking.{site_of, Fails}
 use Rattle.fn_writer.proofs.Called.{is_method}

@@ -23,7 +23,7 @@ use Rattle.fn_fits.proofs.Inverted.{FitsParts, length-fields}
 use Rattle.fn_fits.proofs.Sides.{header_splits}
 use Rattle.fn_fits.proofs.Sized.{one_value, and_then_some}
 use Rattle.fn_rules.proofs.Inputs.{joined, header_cons, declared_of, declared_in}
-use Rattle.fn_writer.specs.Refuting.{HaveBefore, none_before, one_header, one_other}
+use Rattle.fn_writer.specs.Refutation.{HaveBefore, none_before, one_header, one_other}
 
 -- the header up to a field and with it
 joined_more : (b : Bool) (u xs ys : List Bool) → joined b u (xs ++ ys) ≡ joined b u xs ++ ys

@@ -27,7 +27,7 @@ use Rattle.fn_fits.specs.Bounded.{sizes_at}
 use Rattle.fn_fits.specs.Fits.{Context, Fits, FieldFits, format_at, assigned, side_of, reference_of, two_values, vals}
 use Rattle.fn_fits.proofs.Inverted.{FitsParts, parts, coded_parts, called_parts}
 use Rattle.fn_fits.proofs.Sized.{one_value, and_then_some}
-use Rattle.fn_writer.specs.Refuting.{operand, IsFalse, HasFalse, IsElse, CallsOnly, Lacks, of_constant, of_constraint, of_field}
+use Rattle.fn_writer.specs.Refutation.{operand, IsFalse, HasFalse, IsElse, CallsOnly, Lacks, of_constant, of_constraint, of_field}
 use Rattle.fn_writer.specs.Told.{told_numbers}
 use Rattle.fn_writer.proofs.Headers.{held}
 use Rattle.fn_writer.proofs.Telling as told

@@ -5,7 +5,7 @@ use Rattle.rohcfn_input.specs.declared.status.Answer.{Answer}
 use Rattle.rohcfn_input.specs.declared.status.Status.{Status}
 use Rattle.rohcfn_input.specs.declared.status.Status.TheVariants as status
 use Rattle.rohcfn_input.specs.Refusals.{Holds}
-use Rattle.rohcfn_report.specs.declared.accepting.Origin.{Origin}
+use Rattle.rohcfn_report.specs.declared.profile_and_certificate.Origin.{Origin}
 use Rattle.rohcfn_report.specs.Reports.{CheckedOctets, ProvedOctets}
 
 -- lines that stand below a refusal alone

@@ -12,9 +12,9 @@ use fn_names::read;
 use fn_profile::Profile;
 use fn_prover::{Unproved, prove};
 use rohcfn_input::status::{Answer, Status};
-use rohcfn_report::accepting::Origin;
-use rohcfn_report::checking::answer_check;
-use rohcfn_report::proving::answer_prove;
+use rohcfn_report::check::answer_check;
+use rohcfn_report::profile_and_certificate::Origin;
+use rohcfn_report::prove::answer_prove;
 use std::alloc::{AllocError, Global};
 
 /// The answer to `prove`, and below the line of what is missing the lines that explain it.

@@ -24,12 +24,12 @@ use Rattle.fn_checker.specs.declared.refusal.CheckError.{CheckError}
 use Rattle.fn_checker.specs.declared.refusal.CheckError.TheVariants.{Fault}
 use Rattle.fn_prover.specs.Proved.{IsProved, IsUnproved}
 use Rattle.fn_prover.specs.declared.unproved.Unproved.{Unproved}
-use Rattle.rohcfn_report.specs.declared.accepting.Found.{Found}
-use Rattle.rohcfn_report.specs.declared.accepting.Found.TheVariants as found
-use Rattle.rohcfn_report.specs.declared.accepting.Judged.{Judged}
-use Rattle.rohcfn_report.specs.declared.accepting.Judged.TheVariants as judged
-use Rattle.rohcfn_report.specs.declared.accepting.Origin.{Origin}
-use Rattle.rohcfn_report.specs.declared.accepting.Origin.TheVariants.{Given, Made}
+use Rattle.rohcfn_report.specs.declared.profile_and_certificate.Found.{Found}
+use Rattle.rohcfn_report.specs.declared.profile_and_certificate.Found.TheVariants as found
+use Rattle.rohcfn_report.specs.declared.profile_and_certificate.Judged.{Judged}
+use Rattle.rohcfn_report.specs.declared.profile_and_certificate.Judged.TheVariants as judged
+use Rattle.rohcfn_report.specs.declared.profile_and_certificate.Origin.{Origin}
+use Rattle.rohcfn_report.specs.declared.profile_and_certificate.Origin.TheVariants.{Given, Made}
 use Rattle.rohcfn_input.specs.OneLine.{IsLine}
 use Rattle.rohcfn_report.specs.ProfileLines.{IsFaultLine}
 use Rattle.rohcfn_report.proofs.FaultLines.{broken as broken_line, errors, unproved_lines, verdicts}
@@ -38,8 +38,8 @@ use Rattle.rohcfn_input.specs.declared.status.Status.{Status}
 use Rattle.rohcfn_input.specs.declared.status.Status.TheVariants as status
 use Rattle.rohcfn_input.specs.Refusals.{IsRefusal}
 use Rattle.rohcfn_report.specs.Reports.{ProvedOctets, ProvesOctets, none_proved, proved_by}
-use Rattle.rohcfn_report.specs.Provings.{IsUnprovedLine, ProvedBy, Proves, printed, unproved}
-use Rattle.rohcfn_report.specs.Verdicts.{IsErrorLine, line_of_certificate, verdict_line}
+use Rattle.rohcfn_report.specs.Prove.{IsUnprovedLine, ProvedBy, Proves, printed, unproved}
+use Rattle.rohcfn_report.specs.CheckFaults.{IsErrorLine, line_of_certificate, verdict_line}
 use Rattle.rohcfn_report.specs.Accepting.{AcceptsProfile, IsCertificate, IsFound, IsGiven, IsJudged, IsMade, IsVerdict, JudgesOctets, LacksCertificate, RefusesCertificate, RefusesProfile, at_fault, broken, broken_text, invalid, lacking, read, unaccepted, unmade, unread}
 use Rattle.rohcfn_input.proofs.AnswersHeld.{done_is}
 

@@ -10,7 +10,7 @@ use Rattle.rohcfn_input.specs.declared.status.Answer.{Answer}
 use Rattle.rohcfn_input.specs.declared.status.Status.TheVariants as status
 use Rattle.rohcfn_input.specs.Refusals.{IsRefusal}
 use Rattle.rohcfn_input.proofs.AnswersHeld.{refusal_is}
-use Rattle.rohcfn_report.specs.Drawing.{DrawnBy, Draws, DrawsProfile, drawn, drawn_by, no_drawing}
+use Rattle.rohcfn_report.specs.Draw.{DrawnBy, Draws, DrawsProfile, drawn, drawn_by, no_drawing}
 use Rattle.rohcfn_report.specs.ProfileLines.{IsFaultLine}
 
 -- the text so far, and what a function gives for each number that is left, are the whole

@@ -30,8 +30,8 @@ use Rattle.fn_source.specs.declared.fault.FaultKind.TheVariants as t
 use Rattle.fn_source.specs.declared.span.Span.{Span}
 use Rattle.rohcfn_input.specs.OneLine.{IsLine}
 use Rattle.rohcfn_report.specs.ProfileLines.{IsFaultLine, profile_line, text_fault, profile_fault}
-use Rattle.rohcfn_report.specs.Provings.{IsUnprovedLine, plan_line, side_words, tree_line}
-use Rattle.rohcfn_report.specs.Verdicts.{IsErrorLine, direction_word, field_name, format_name, line_of_certificate, method_name, names, node_words, verdict_line}
+use Rattle.rohcfn_report.specs.Prove.{IsUnprovedLine, plan_line, side_words, tree_line}
+use Rattle.rohcfn_report.specs.CheckFaults.{IsErrorLine, direction_word, field_name, format_name, line_of_certificate, method_name, names, node_words, verdict_line}
 use Rattle.rohcfn_input.proofs.OneLines.{and_parts, joined, number, name}
 
 -- ---- the names in methods

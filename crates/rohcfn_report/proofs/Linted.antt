@@ -8,7 +8,7 @@ use Rattle.rohcfn_input.specs.declared.status.Answer.{Answer}
 use Rattle.rohcfn_input.specs.declared.status.Status.TheVariants as status
 use Rattle.rohcfn_input.specs.Refusals.{IsRefusal}
 use Rattle.rohcfn_input.proofs.AnswersHeld.{refusal_is}
-use Rattle.rohcfn_report.specs.Linting.{LintedBy, Lints, LintsProfile, lint_text, linted, no_lint}
+use Rattle.rohcfn_report.specs.Lint.{LintedBy, Lints, LintsProfile, lint_text, linted, no_lint}
 use Rattle.rohcfn_report.specs.ProfileLines.{IsFaultLine}
 
 pub profile_linted : (top name octets : List ℕ) (p : Resolved) (r : Result Answer AllocError) → name ≡ top → Reads octets name p → IfOk r (LintsProfile octets p) → IfOk r (Lints top octets)

@@ -15,16 +15,16 @@ use Rattle.fn_rules.specs.Valid.{Valid}
 use Rattle.fn_accepted.specs.Accepted.{Accepting}
 use Rattle.fn_prover.specs.Proved.{IsProved, IsUnproved}
 use Rattle.fn_prover.specs.declared.unproved.Unproved.{Unproved}
-use Rattle.rohcfn_report.specs.declared.accepting.Found.{Found}
-use Rattle.rohcfn_report.specs.declared.accepting.Found.TheVariants as found
-use Rattle.rohcfn_report.specs.declared.accepting.Judged.{Judged}
-use Rattle.rohcfn_report.specs.declared.accepting.Judged.TheVariants as judged
-use Rattle.rohcfn_report.specs.declared.accepting.Origin.{Origin}
-use Rattle.rohcfn_report.specs.declared.accepting.Origin.TheVariants.{Given, Made}
+use Rattle.rohcfn_report.specs.declared.profile_and_certificate.Found.{Found}
+use Rattle.rohcfn_report.specs.declared.profile_and_certificate.Found.TheVariants as found
+use Rattle.rohcfn_report.specs.declared.profile_and_certificate.Judged.{Judged}
+use Rattle.rohcfn_report.specs.declared.profile_and_certificate.Judged.TheVariants as judged
+use Rattle.rohcfn_report.specs.declared.profile_and_certificate.Origin.{Origin}
+use Rattle.rohcfn_report.specs.declared.profile_and_certificate.Origin.TheVariants.{Given, Made}
 use Rattle.rohcfn_input.specs.OneLine.{IsLine}
 use Rattle.rohcfn_report.specs.ProfileLines.{IsFaultLine}
-use Rattle.rohcfn_report.specs.Provings.{IsUnprovedLine}
-use Rattle.rohcfn_report.specs.Verdicts.{IsErrorLine, line_of_certificate, verdict_line}
+use Rattle.rohcfn_report.specs.Prove.{IsUnprovedLine}
+use Rattle.rohcfn_report.specs.CheckFaults.{IsErrorLine, line_of_certificate, verdict_line}
 
 -- where a certificate comes from: the part, or the prover, which makes one of that version
 abbrev pub origin_of : Version → Option (Bor (List ℕ)) → Origin

@@ -14,7 +14,7 @@ use Rattle.fn_normal.specs.declared.profile.Part.{Part}
 use Rattle.fn_normal.specs.declared.profile.Part.TheVariants.{Header, Control, Local}
 use Rattle.rohcfn_report.specs.BitTexts.{bits_text}
 use Rattle.rohcfn_report.specs.Table.{Row, table}
-use Rattle.rohcfn_report.specs.Verdicts.{field_at, format_name, format_words, method_name}
+use Rattle.rohcfn_report.specs.CheckFaults.{field_at, format_name, format_words, method_name}
 
 abbrev pub part_word : Part → List ℕ
 part_word Header = codes "header"

@@ -5,13 +5,13 @@ use Rattle.fn_names.specs.Readings.{Reads}
 use Rattle.fn_show.specs.Shown as listing
 use Rattle.fn_accepted.specs.Accepted.{Accepting}
 use Rattle.fn_cert.specs.declared.certificate.Version.{Version}
-use Rattle.rohcfn_report.specs.declared.accepting.Origin.{Origin}
+use Rattle.rohcfn_report.specs.declared.profile_and_certificate.Origin.{Origin}
 use Rattle.rohcfn_input.specs.declared.status.Answer.{Answer}
 use Rattle.rohcfn_input.specs.declared.status.Status.{Status}
 use Rattle.rohcfn_input.specs.declared.status.Status.TheVariants as status
 use Rattle.rohcfn_report.specs.Accepting.{AcceptsProfile, RefusesProfile}
 use Rattle.rohcfn_report.specs.ProfileLines.{IsFaultLine}
-use Rattle.rohcfn_report.specs.Provings.{ProvedBy}
+use Rattle.rohcfn_report.specs.Prove.{ProvedBy}
 use Rattle.rohcfn_input.specs.Refusals.{Holds}
 
 -- ---- by the octets of a profile

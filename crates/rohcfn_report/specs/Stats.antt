@@ -6,9 +6,9 @@ use Rattle.fn_normal.specs.declared.profile.Method.{Method}
 use Rattle.fn_stats.specs.declared.counts.Count.{Count}
 use Rattle.fn_stats.specs.declared.counts.Tally.{Tally}
 use Rattle.fn_stats.specs.Counts.{tally_all, tally_field, tally_format}
-use Rattle.rohcfn_report.specs.Drawing.{formats_of}
+use Rattle.rohcfn_report.specs.Draw.{formats_of}
 use Rattle.rohcfn_report.specs.Table.{Row, table}
-use Rattle.rohcfn_report.specs.Verdicts.{field_name, format_name}
+use Rattle.rohcfn_report.specs.CheckFaults.{field_name, format_name}
 
 abbrev pub tenths_text : ℕ → List ℕ
 tenths_text tenths = decimal (tenths / 10) ++ codes "." ++ decimal (tenths % 10)

@@ -16,7 +16,7 @@ use Rattle.fn_lint.specs.declared.spelled.Misspelled.{Misspelled}
 use Rattle.rohcfn_report.specs.declared.candidates.Counts.{Counts}
 use Rattle.rohcfn_report.specs.declared.candidates.Factor.{Factor}
 use Rattle.rohcfn_report.specs.Candidates.{AreCounted, factors_of, format_count, method_count, write_steps}
-use Rattle.rohcfn_report.specs.Verdicts.{field_name, format_name, method_name}
+use Rattle.rohcfn_report.specs.CheckFaults.{field_name, format_name, method_name}
 
 -- ---- where a line begins
 

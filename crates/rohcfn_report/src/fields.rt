@@ -6,10 +6,10 @@ ghost use Rattle.fn_filling.specs.Fillings.{inner_of, sides_of};
 ghost use Rattle.fn_filling.specs.declared.filling.Filling.{out-Filling};
 ghost use Rattle.rohcfn_report.specs.BitTexts.{bits_text};
 ghost use Rattle.rohcfn_report.specs.Fields as spec;
-ghost use Rattle.rohcfn_report.specs.Verdicts.{format_name as name_at, format_words, method_name as name_of};
+ghost use Rattle.rohcfn_report.specs.CheckFaults.{format_name as name_at, format_words, method_name as name_of};
 
+use crate::check_faults::{field_at, format_name, method_name};
 use crate::table::{Cell, push_table};
-use crate::verdicts::{field_at, format_name, method_name};
 use fn_bits::Bits;
 use fn_filling::{FilledField, Filling};
 use fn_normal::{Encoding, Library, Method, Part};

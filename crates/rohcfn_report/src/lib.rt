@@ -1,16 +1,16 @@
 //! What `show`, `prove`, `check`, `lint` and `draw` print, what `fields` prints of a filling, what `stats` prints of counts, and what `why` prints of reasons.
 #![tactic(auto)]
 
-pub mod accepting;
 pub mod candidates;
-pub mod checking;
-pub mod drawing;
+pub mod check;
+pub mod check_faults;
+pub mod draw;
 pub mod fields;
-pub mod linting;
-pub mod proving;
-pub mod reasons;
-pub mod showing;
+pub mod lint;
+pub mod profile_and_certificate;
+pub mod prove;
+pub mod show;
 pub mod stats;
 pub mod table;
-pub mod verdicts;
-mod warning;
+mod warnings;
+pub mod why;

@@ -3,9 +3,9 @@
 ghost use Rattle.std.specs.Prelude.{◌≡◌, ◌∷◌, ◌++◌, [], IfOk, OnOk, codes, decimal, string_bytes};
 ghost use Rattle.rohcfn_report.specs.Stats as spec;
 
-use crate::drawing::formats_of;
+use crate::check_faults::{field_name, format_name};
+use crate::draw::formats_of;
 use crate::table::{Cell, push_table};
-use crate::verdicts::{field_name, format_name};
 use fn_normal::{Format, Method};
 use fn_stats::{Count, Tally, tally_all, tally_field, tally_format};
 use itoa::Buffer;

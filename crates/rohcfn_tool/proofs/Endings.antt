@@ -20,15 +20,15 @@ use Rattle.rohcfn_input.specs.declared.status.Failure.TheVariants.{Writing}
 use Rattle.rohcfn_input.specs.declared.status.Status.{Status}
 use Rattle.rohcfn_input.specs.declared.status.Status.TheVariants.{Done, Refused, Usage, Failed}
 use Rattle.rohcfn_report.specs.Accepting.{origin_of}
-use Rattle.rohcfn_report.specs.declared.accepting.Origin.{Origin}
-use Rattle.rohcfn_report.specs.Provings.{ProvedBy}
-use Rattle.rohcfn_report.specs.Provings.ProvedBy.{printed as proved_by_printed, unproved as proved_by_unproved}
+use Rattle.rohcfn_report.specs.declared.profile_and_certificate.Origin.{Origin}
+use Rattle.rohcfn_report.specs.Prove.{ProvedBy}
+use Rattle.rohcfn_report.specs.Prove.ProvedBy.{printed as proved_by_printed, unproved as proved_by_unproved}
 use Rattle.rohcfn_explain.specs.Explained.{Explained}
 use Rattle.rohcfn_explain.specs.Explained.Explained.{explained as explained_plain}
-use Rattle.rohcfn_report.specs.Drawing.{DrawnBy}
-use Rattle.rohcfn_report.specs.Drawing.DrawnBy.{drawn_by as drawn_by_drawn, no_drawing as drawn_by_no_drawing}
-use Rattle.rohcfn_report.specs.Linting.{LintedBy}
-use Rattle.rohcfn_report.specs.Linting.LintedBy.{linted as linted_by_linted, no_lint as linted_by_no_lint}
+use Rattle.rohcfn_report.specs.Draw.{DrawnBy}
+use Rattle.rohcfn_report.specs.Draw.DrawnBy.{drawn_by as drawn_by_drawn, no_drawing as drawn_by_no_drawing}
+use Rattle.rohcfn_report.specs.Lint.{LintedBy}
+use Rattle.rohcfn_report.specs.Lint.LintedBy.{linted as linted_by_linted, no_lint as linted_by_no_lint}
 use Rattle.rohcfn_report.specs.Reports.{ShownBy, CheckedOctets, ProvedOctets}
 use Rattle.rohcfn_report.specs.Reports.ShownBy.{listed as shown_by_listed, no_listing as shown_by_no_listing}
 use Rattle.rohcfn_report.specs.Reports.CheckedOctets.{accepted as checked_octets_accepted, refused as checked_octets_refused}
@@ -51,17 +51,17 @@ use Rattle.rohcfn_tool.specs.Printed.StatsFor.{bad_entry as stats_for_bad_entry,
 use Rattle.rohcfn_tool.specs.Printed.StatsWith.{stats_accepted as stats_with_accepted, stats_refused as stats_with_refused}
 use Rattle.rohcfn_tool.specs.Printed.Stated.{no_items as stated_no_items, with_items as stated_with_items}
 use Rattle.fn_line.specs.declared.flow.LineVersion.{LineVersion}
-use Rattle.rohcfn_tool.specs.Lined.{PrintsSent, PrintsReceived, AnsweredEvents, AnsweredHex, AnsweredEnd, LinedBy, Lined, line_version}
-use Rattle.rohcfn_tool.specs.Lined.PrintsSent.{all_sent as prints_sent_all_sent, one_refused as prints_sent_one_refused}
-use Rattle.rohcfn_tool.specs.Lined.PrintsReceived.{all_received as prints_received_all_received, up_to_fault as prints_received_up_to_fault}
-use Rattle.rohcfn_tool.specs.Lined.AnsweredEvents.{bad_event as answered_events_bad_event, sent_events as answered_events_sent_events}
-use Rattle.rohcfn_tool.specs.Lined.AnsweredHex.{bad_hex as answered_hex_bad_hex, received_octets as answered_hex_received_octets}
-use Rattle.rohcfn_tool.specs.Lined.LinedBy.{not_accepted as lined_by_not_accepted, with_profile as lined_by_with_profile}
-use Rattle.rohcfn_tool.specs.Lined.Lined.{by_part as lined_by_part, no_part as lined_no_part}
+use Rattle.rohcfn_tool.specs.Line.{PrintsSent, PrintsReceived, AnsweredEvents, AnsweredHex, AnsweredEnd, LinedBy, Lined, line_version}
+use Rattle.rohcfn_tool.specs.Line.PrintsSent.{all_sent as prints_sent_all_sent, one_refused as prints_sent_one_refused}
+use Rattle.rohcfn_tool.specs.Line.PrintsReceived.{all_received as prints_received_all_received, up_to_fault as prints_received_up_to_fault}
+use Rattle.rohcfn_tool.specs.Line.AnsweredEvents.{bad_event as answered_events_bad_event, sent_events as answered_events_sent_events}
+use Rattle.rohcfn_tool.specs.Line.AnsweredHex.{bad_hex as answered_hex_bad_hex, received_octets as answered_hex_received_octets}
+use Rattle.rohcfn_tool.specs.Line.LinedBy.{not_accepted as lined_by_not_accepted, with_profile as lined_by_with_profile}
+use Rattle.rohcfn_tool.specs.Line.Lined.{by_part as lined_by_part, no_part as lined_no_part}
 use Rattle.rohcfn_tool.specs.Program.{Fails, ForInput, Gives, RefusesBy, Replies, RunPrints, large_line}
 use Rattle.rohcfn_tool.specs.Program.RunPrints.{answered as run_prints_answered, bad_part as run_prints_bad_part, large as run_prints_large, no_words as run_prints_no_words}
-use Rattle.rohcfn_tool.specs.declared.printing.Shape.{Shape}
-use Rattle.rohcfn_tool.specs.declared.printing.Shape.TheVariants.{Line, Tree, Why}
+use Rattle.rohcfn_tool.specs.declared.packets.Shape.{Shape}
+use Rattle.rohcfn_tool.specs.declared.packets.Shape.TheVariants.{Line, Tree, Why}
 use Rattle.rohcfn_tool.specs.declared.program.Reply.{Reply}
 use Rattle.rohcfn_tool.specs.declared.program.Reply.TheVariants.{Print, Tell}
 use Rattle.rohcfn_tool.proofs.ProgramReplies.{large_refused}

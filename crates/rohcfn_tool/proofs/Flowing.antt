@@ -23,7 +23,7 @@ use Rattle.rohcfn_input.specs.declared.status.Status.{Status}
 use Rattle.rohcfn_input.specs.declared.status.Status.TheVariants as status
 use Rattle.rohcfn_tool.specs.Events.{IsEvent}
 use Rattle.rohcfn_input.specs.Inputs.{IsBadLine}
-use Rattle.rohcfn_tool.specs.Lined.{AnsweredEvents, AreItemLines, IsEventFault, IsItemPushed, IsPushed, IsRefusedBy, IsSentPrinted, PrintsReceived, PrintsSent, all_received, all_sent, bad_event, bad_event_text, one_refused, up_to_fault}
+use Rattle.rohcfn_tool.specs.Line.{AnsweredEvents, AreItemLines, IsEventFault, IsItemPushed, IsPushed, IsRefusedBy, IsSentPrinted, PrintsReceived, PrintsSent, all_received, all_sent, bad_event, bad_event_text, one_refused, up_to_fault}
 use Rattle.rohcfn_input.specs.OneLine.{IsLine}
 use Rattle.rohcfn_input.specs.Refusals.{Holds, IsRefusal}
 use Rattle.rohcfn_input.proofs.AnswersHeld.{refusal_is}

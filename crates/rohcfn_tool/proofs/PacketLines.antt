@@ -10,10 +10,10 @@ use Rattle.fn_profile.specs.Named.{AreWords}
 use Rattle.fn_reader.specs.declared.fault.Blamed.{Blamed}
 use Rattle.rohcfn_words.specs.declared.words.End.{End}
 use Rattle.rohcfn_words.specs.declared.words.End.TheVariants.{Sending, Receiving}
-use Rattle.rohcfn_tool.specs.Lined.{IsLineFault, bad_event_text, line_part_name}
+use Rattle.rohcfn_tool.specs.Line.{IsLineFault, bad_event_text, line_part_name}
 use Rattle.rohcfn_input.specs.OneLine.{IsLine}
 use Rattle.rohcfn_tool.specs.Printed.{IsPacketFault, refused_packet}
-use Rattle.rohcfn_report.specs.Verdicts.{format_words}
+use Rattle.rohcfn_report.specs.CheckFaults.{format_words}
 use Rattle.rohcfn_input.proofs.OneLines.{joined, number}
 use Rattle.rohcfn_report.proofs.FaultLines.{method, format}
 

@@ -4,10 +4,10 @@ use Rattle.fn_line.specs.declared.fault.LineFault.{LineFault}
 use Rattle.rohcfn_input.specs.declared.bundle.BadPart.{BadPart}
 use Rattle.rohcfn_words.specs.declared.words.Direction.{Direction}
 use Rattle.rohcfn_words.specs.declared.words.End.{End}
-use Rattle.rohcfn_report.specs.declared.accepting.Origin.{Origin}
+use Rattle.rohcfn_report.specs.declared.profile_and_certificate.Origin.{Origin}
 use Rattle.rohcfn_report.specs.Accepting.{RefusesProfile}
 use Rattle.rohcfn_input.specs.Bundle.{BlamesPart, shown_name}
-use Rattle.rohcfn_tool.specs.Lined.{IsLineFault, bad_event_text, bad_hex_text, line_part_name}
+use Rattle.rohcfn_tool.specs.Line.{IsLineFault, bad_event_text, bad_hex_text, line_part_name}
 use Rattle.rohcfn_input.specs.OneLine.{IsLine}
 use Rattle.rohcfn_tool.specs.Printed.{bad_line_text, context_line, input_name}
 use Rattle.rohcfn_report.specs.ProfileLines.{IsFaultLine}

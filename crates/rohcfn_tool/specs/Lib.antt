@@ -1,5 +1,5 @@
 pub mod Events
 pub mod FaultLaws
-pub mod Lined
+pub mod Line
 pub mod Printed
 pub mod Program

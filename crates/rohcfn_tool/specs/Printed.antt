@@ -34,20 +34,20 @@ use Rattle.rohcfn_report.specs.Accepting.{AcceptsProfile, RefusesProfile, origin
 use Rattle.rohcfn_input.specs.Inputs.{HasLines, IsBadContext, IsBadLine, IsBits, IsItem, StartsAt}
 use Rattle.rohcfn_input.specs.OneLine.{IsLine}
 use Rattle.rohcfn_input.specs.ItemTexts.{IsItemText}
-use Rattle.rohcfn_tool.specs.Lined.{Lined}
-use Rattle.rohcfn_tool.specs.declared.printing.Shape.{Shape}
-use Rattle.rohcfn_tool.specs.declared.printing.Shape.TheVariants.{Line, Tree, Why}
+use Rattle.rohcfn_tool.specs.Line.{Lined}
+use Rattle.rohcfn_tool.specs.declared.packets.Shape.{Shape}
+use Rattle.rohcfn_tool.specs.declared.packets.Shape.TheVariants.{Line, Tree, Why}
 use Rattle.fn_expr.specs.declared.expr.Side.TheVariants.{Uncompressed, Compressed}
 use Rattle.fn_reasons.specs.Reasons.{Verdicts}
 use Rattle.fn_reasons.specs.Settings.{Setting}
 use Rattle.fn_reasons.specs.declared.line.Line as reasons
 use Rattle.rohcfn_report.specs.Fields.{fields_text, head_text}
-use Rattle.rohcfn_report.specs.Reasons.{reasons_text}
+use Rattle.rohcfn_report.specs.Why.{reasons_text}
 use Rattle.rohcfn_report.specs.Stats.{stats_text}
-use Rattle.rohcfn_report.specs.Verdicts.{format_name, format_words, method_name}
+use Rattle.rohcfn_report.specs.CheckFaults.{format_name, format_words, method_name}
 use Rattle.rohcfn_explain.specs.Explained.{Explained}
-use Rattle.rohcfn_report.specs.Drawing.{DrawnBy}
-use Rattle.rohcfn_report.specs.Linting.{LintedBy}
+use Rattle.rohcfn_report.specs.Draw.{DrawnBy}
+use Rattle.rohcfn_report.specs.Lint.{LintedBy}
 use Rattle.rohcfn_report.specs.Reports.{ShownBy, CheckedOctets, ProvedOctets}
 use Rattle.rohcfn_input.specs.Refusals.{Holds}
 

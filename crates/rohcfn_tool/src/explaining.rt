@@ -6,7 +6,7 @@ ghost use Rattle.fn_engine.specs.Writing as writing;
 ghost use Rattle.fn_reasons.specs.Reasons.{Verdicts};
 ghost use Rattle.rohcfn_tool.specs.Printed as spec;
 
-use crate::printing::{item_fault, packet_fault};
+use crate::packets::{item_fault, packet_fault};
 use fn_accepted::Accepted;
 use fn_bits::Bits;
 use fn_context::Context;
@@ -15,7 +15,7 @@ use fn_expr::Side;
 use fn_filling::Item;
 use fn_reasons::{Line, Spot, reasons};
 use rohcfn_input::spelling::push_line;
-use rohcfn_report::reasons::push_reasons;
+use rohcfn_report::why::push_reasons;
 use sqlite_items::Items;
 use std::alloc::{AllocError, Global};
 

@@ -1,10 +1,10 @@
 //! The program, octets in to octets out.
 #![tactic(auto)]
 
+pub mod answers;
 pub mod events;
 mod explaining;
-pub mod lined;
-pub mod printing;
+pub mod line;
+pub mod packets;
 pub mod program;
-pub mod replies;
 mod stats;

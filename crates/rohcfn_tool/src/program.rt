@@ -6,7 +6,7 @@ ghost use Rattle.rohcfn_input.specs.Counted.{HasStopped, IsSoFar, MayTake, most_
 ghost use Rattle.rohcfn_input.specs.Reading.{BlamesRead};
 ghost use Rattle.rohcfn_tool.specs.Program.{Fails, ForInput, RefusesBy, Replies, RepliesBy, RunGives, bad_part_line, large_line};
 
-use crate::replies::answer;
+use crate::answers::answer;
 use rohcfn_input::bundle::{BadPart, Parts, name_shown, split};
 use rohcfn_input::counted::{CountedRead, CountedWrite};
 use rohcfn_input::part_words::words_at;

@@ -3,8 +3,8 @@
 ghost use Rattle.std.specs.Prelude.{◌≡◌, ◌≢◌, ◌++◌, IfOk, OnOk, string_bytes};
 ghost use Rattle.rohcfn_tool.specs.Printed as spec;
 
-use crate::printing::item_fault;
-use crate::replies::{bad_line, context_line};
+use crate::answers::{bad_line, context_line};
+use crate::packets::item_fault;
 use fn_accepted::Accepted;
 use fn_context::Context;
 use fn_engine::{PackFault, Written, pack};
@@ -15,7 +15,7 @@ use rohcfn_input::inputs::{BadLine, read_context, read_items};
 use rohcfn_input::refusals::refusal;
 use rohcfn_input::spelling::push_line;
 use rohcfn_input::status::{Answer, Status};
-use rohcfn_report::accepting::{Judged, Origin, accept};
+use rohcfn_report::profile_and_certificate::{Judged, Origin, accept};
 use rohcfn_report::stats::stats_text;
 use rohcfn_words::words::{Direction, Order};
 use sqlite_items::Items;

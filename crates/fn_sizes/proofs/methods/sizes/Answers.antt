@@ -1,7 +1,7 @@
 use Rattle.std.proofs.Common.{List, subst, sym}
 use Rattle.fn_normal.specs.Judging.{Judged}
 use Rattle.fn_normal.specs.declared.profile.MethodSizes.{MethodSizes}
-use Rattle.fn_bounds.specs.declared.known.Extent.TheVariants.{Whole, Known}
+use Rattle.fn_bounds.specs.declared.extent.Extent.TheVariants.{Whole, Known}
 use Rattle.fn_bounds.specs.Methods.{ArePacked}
 use Rattle.fn_bounds.specs.Outcome.{IsFine, IsFaulty}
 use Rattle.fn_sizes.proofs.Earliest.{are-sizes}

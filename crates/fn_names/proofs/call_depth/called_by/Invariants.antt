@@ -1,0 +1,5 @@
+use Rattle.fn_names.proofs.Ends.{CalledSo}
+use Rattle.fn_names.proofs.call_depth.called_by.Given as goal
+
+abbrev pub invariant-loop-caller : goal.invariant-loop-caller
+invariant-loop-caller l = CalledSo l.calls l.callers l.caller l.called

@@ -1,0 +1,14 @@
+use Rattle.fn_profile.specs.Uses.{used_graph}
+use Rattle.fn_names.proofs.Shallow.{callees_within}
+use Rattle.fn_names.proofs.Using.{order_of_graph}
+use Rattle.fn_names.proofs.Weighing.{judged_limits}
+use Rattle.fn_names.proofs.profile_limits.too_large.Goals as goal
+
+pub deep_call-requires-clause-within : goal.deep_call-requires-clause-within
+deep_call-requires-clause-within c = rw c.requires.graph (callees_within (used_graph c.args.methods.now) c.args.order.now (order_of_graph c.args.methods.now c.args.order.now c.requires.order))
+
+pub returns : goal.returns
+returns c =
+    let deep = rw c.requires.graph at c.in_ok-deep.ensures in
+    rw (c.earlier-2.ensures, c.earlier.ensures)
+    (judged_limits c.args.parts.now c.args.methods.now c.args.top c.in_ok-deep.deep c.first_long.result c.in_ok-heavy.heavy deep c.first_long.ensures c.in_ok-heavy.ensures)

@@ -1,0 +1,84 @@
+//! How deep calls go from the top.
+
+ghost use Rattle.std.specs.Prelude.{◌≡◌, ◌<◌, ◌+◌, length, IfOk};
+ghost use Rattle.fn_calls.specs.Calls.{Within};
+ghost use Rattle.fn_normal.specs.Judging.{Judged};
+ghost use Rattle.fn_profile.specs.Limits as limits;
+ghost use Rattle.fn_names.specs.CallDepth as spec;
+ghost use Rattle.fn_names.specs.Parts.{methods_of};
+
+use crate::reached::is_marked_at;
+use fn_calls::marks::{mark, no_marks};
+use fn_normal::{ProfileFault, ProfileFaultKind};
+use fn_profile::DEPTH_LIMIT;
+use fn_tree::Part;
+use sqlite_items::Items;
+use std::alloc::{AllocError, Global};
+
+/// The fault of the first method in the text to which some chain of one method more than the limit leads. Where there is none, no
+/// chain of calls is longer than the limit.
+pub(crate) fn deep_call(
+    alloc: Global,
+    parts: &[Part],
+    calls: &[Items<usize>],
+    top: usize,
+) -> Result<Option<ProfileFault>, AllocError>
+    requires within { Within calls.now }
+    requires top { top < length calls.now }
+    requires methods { length calls.now ≡ length (methods_of parts.now) }
+    ensures { IfOk result (Judged (limits.IsShallow calls.now top) (spec.IsTooDeep calls.now top parts.now)) }
+{
+    let ends = ends_of_chains(alloc, calls, top)?;
+    Ok(first_deep(parts, ends.as_slice()))
+}
+
+/// A mark for each method to which some chain of one method more than the limit leads from the top.
+fn ends_of_chains(
+    alloc: Global,
+    calls: &[Items<usize>],
+    top: usize,
+) -> Result<Items<bool>, AllocError>
+    requires within { Within calls.now }
+    requires top { top < length calls.now }
+    ensures { IfOk result (spec.AreEnds calls.now top (limits.depth_limit + 1)) }
+{
+    let mut ends = no_marks(alloc, calls.len())?;
+    ends.set(top, true);
+    for _call in 0..DEPTH_LIMIT {
+        ends = called_by(alloc, calls, ends.as_slice())?;
+    }
+    Ok(ends)
+}
+
+/// A mark for each method that a marked one calls.
+fn called_by(
+    alloc: Global,
+    calls: &[Items<usize>],
+    callers: &[bool],
+) -> Result<Items<bool>, AllocError>
+    requires { Within calls.now }
+    ensures { IfOk result (spec.AreCalled calls.now callers.now) }
+{
+    let mut called = no_marks(alloc, calls.len())?;
+    for (caller, callees) in calls.iter().enumerate() {
+        if is_marked_at(callers, caller) {
+            mark(&mut called, callees.as_slice());
+        }
+    }
+    Ok(called)
+}
+
+fn first_deep(parts: &[Part], ends: &[bool]) -> Option<ProfileFault>
+    ensures { result ≡ spec.first_deep ends.now 0 (methods_of parts.now) }
+{
+    let mut place = 0;
+    for part in parts {
+        if let Part::Method(method) = part {
+            if is_marked_at(ends, place) {
+                return Some(ProfileFault::about(ProfileFaultKind::TooLarge, method.name));
+            }
+            place += 1;
+        }
+    }
+    None
+}

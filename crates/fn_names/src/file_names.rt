@@ -1,0 +1,59 @@
+//! The names of a file, the values of its constants, and how many parameters its methods have.
+
+ghost use Rattle.std.specs.Prelude.{◌≡◌, IfOk, IfErr};
+ghost use Rattle.fn_normal.specs.Judging.{Blames};
+ghost use Rattle.fn_terms.specs.Constants.{AreValues};
+ghost use Rattle.fn_names.specs.FileNames as spec;
+ghost use Rattle.fn_names.specs.Parts.{constants_of, constant_names};
+ghost use Rattle.fn_names.specs.Twice.{AreTables};
+
+use crate::parts::{FileNames, tables};
+use fn_normal::ResolveError;
+use fn_terms::Constants;
+use fn_tree::Part;
+use sqlite_items::Items;
+use std::alloc::{AllocError, Global};
+
+/// What is known of a file before its methods are read.
+#[derive(Drop)]
+pub struct Head<'a> {
+    pub names: FileNames<'a>,
+    pub constants: Constants<'a>,
+    /// For each method how many parameters it has.
+    pub arities: Items<usize>,
+}
+
+/// The head of a file, or the fault of the first name that is defined twice; where none is, that of the first constant without
+/// a value.
+pub(crate) fn head_of<'a>(
+    alloc: Global,
+    text: &'a [u8],
+    parts: &[Part],
+) -> Result<Head<'a>, ResolveError>
+    ensures tables { IfOk result (λ h. AreTables text.now parts.now h.names.constants h.names.methods) }
+    ensures names { IfOk result (λ h. h.constants.names ≡ constant_names text.now parts.now) }
+    ensures values { IfOk result (λ h. AreValues text.now (constant_names text.now parts.now) (constants_of parts.now) h.constants.values) }
+    ensures arities { IfOk result (λ h. h.arities ≡ spec.arities_of parts.now) }
+    ensures refused { IfErr result (Blames (spec.HeadCause text.now parts.now)) }
+{
+    let names = tables(alloc, text, parts)?;
+    let constants = Constants::of_parts(alloc, text, parts)?;
+    let arities = arities(alloc, parts)?;
+    Ok(Head {
+        names,
+        constants,
+        arities,
+    })
+}
+
+fn arities(alloc: Global, parts: &[Part]) -> Result<Items<usize>, AllocError>
+    ensures { IfOk result (λ arities. arities ≡ spec.arities_of parts.now) }
+{
+    let mut arities = Items::new(alloc);
+    for part in parts {
+        if let Part::Method(method) = part {
+            arities.push(method.parameters.len())?;
+        }
+    }
+    Ok(arities)
+}

@@ -1,0 +1,138 @@
+//! How far from 0 an expression may reach, where its range is seen to be within the limit at a glance.
+
+ghost use Rattle.std.specs.Prelude.{◌≡◌, ◌+◌, ◌*◌, ◌≤◌, ◌^◌, false, IfSome};
+ghost use Rattle.fn_expr.specs.Bounds.{interval_of};
+ghost use Rattle.fn_bounds.specs.Faults.{is_wide_by};
+ghost use Rattle.fn_bounds.specs.Ranging.{intervals_of};
+ghost use Rattle.fn_sizes.specs.Magnitude as spec;
+
+use crate::judging::side_bounds;
+use crate::ranging::WIDEST_VALUE;
+use fn_expr::{Attribute, Expr, Interval, Measure, Operator, RANGE_LIMIT, Subject};
+use fn_normal::{Bounds, FormatSizes, Sizes};
+
+/// The greatest size of an end point of a range that is accepted.
+pub(crate) const LIMIT: u128 = RANGE_LIMIT as u128;
+
+/// No value of 64 bits and no length is above this.
+const GREATEST: u128 = 0x1_0000_0000_0000_0000;
+
+/// The greatest exponent of a power.
+const MOST_EXPONENT: i128 = 127;
+
+fn limited(size: u128) -> Option<u128>
+    ensures { IfSome result (λ m. (m ≡ size) × (m ≤ 2 ^ 120)) }
+{
+    if size <= LIMIT { Some(size) } else { None }
+}
+
+fn sum(left: u128, right: u128) -> Option<u128>
+    ensures { IfSome result (λ m. (m ≡ left + right) × (m ≤ 2 ^ 120)) }
+{
+    limited(left.checked_add(right)?)
+}
+
+fn product(left: u128, right: u128) -> Option<u128>
+    ensures { IfSome result (λ m. (m ≡ left * right) × (m ≤ 2 ^ 120)) }
+{
+    limited(left.checked_mul(right)?)
+}
+
+fn combined(operator: Operator, left: u128, right: u128) -> Option<u128>
+    ensures { IfSome result (spec.Combines operator left right) }
+{
+    match operator {
+        Operator::Add => sum(left, right),
+        Operator::Subtract => sum(left, right),
+        Operator::Multiply => product(left, right),
+        Operator::Divide => Some(left),
+        Operator::Remainder => Some(right),
+        Operator::Power => None,
+    }
+}
+
+fn interval_reach(interval: Interval) -> Option<u128>
+    ensures { IfSome result (spec.IsUpTo interval) }
+{
+    limited(interval.from.unsigned_abs().max(interval.to.unsigned_abs()))
+}
+
+fn parameter_reach(sizes: &FormatSizes, parameters: &[Interval], index: usize) -> Option<u128>
+    ensures { IfSome result (spec.IsUpTo ((spec.bounding sizes.now parameters.now).parameter index)) }
+{
+    interval_reach(*parameters.get(index)?)
+}
+
+fn found(sizes: &FormatSizes, subject: Subject) -> Option<Sizes>
+    ensures { IfSome result (spec.IsFound sizes.now subject) }
+{
+    match subject {
+        Subject::Field(index) => Some(*sizes.fields.get(index)?),
+        Subject::This => Some(sizes.whole),
+    }
+}
+
+fn measured(measure: Measure, bounds: Bounds) -> Option<u128>
+    ensures { IfSome result (λ m. (is_wide_by measure bounds ≡ false) × spec.IsUpTo (interval_of (intervals_of bounds) measure) m) }
+{
+    match measure {
+        Measure::Value => {
+            if WIDEST_VALUE < bounds.most {
+                None
+            } else {
+                Some(GREATEST)
+            }
+        }
+        Measure::Length => Some(GREATEST),
+    }
+}
+
+fn attribute_reach(sizes: &FormatSizes, attribute: Attribute) -> Option<u128>
+    ensures { IfSome result (spec.IsNarrow sizes.now attribute) }
+{
+    let sides = found(sizes, attribute.subject)?;
+    measured(attribute.measure, side_bounds(attribute.side, sides))
+}
+
+/// The power of two numbers, the first of which is above 0.
+fn power(base: i128, exponent: i128) -> Option<u128>
+    ensures { IfSome result (spec.IsPower base exponent) }
+{
+    if base < 1 || exponent < 0 || MOST_EXPONENT < exponent {
+        return None;
+    }
+    let base = limited(base as u128)?;
+    limited(base.checked_pow(exponent as u32)?)
+}
+
+/// The same of two expressions that are numbers.
+fn power_reach(base: &Expr, exponent: &Expr) -> Option<u128>
+    ensures { IfSome result (spec.PowerReaches base.now exponent.now) }
+{
+    let Expr::Number(_, base) = base else {
+        return None;
+    };
+    let Expr::Number(_, exponent) = exponent else {
+        return None;
+    };
+    power(*base, *exponent)
+}
+
+/// How far from 0 the values of an expression may be, by its parts. None where that is not seen, or where it may have a fault.
+pub(crate) fn reach(sizes: &FormatSizes, parameters: &[Interval], expr: &Expr) -> Option<u128>
+    ensures { IfSome result (spec.Reaches sizes.now parameters.now expr.now) }
+{
+    match expr {
+        Expr::Number(_, number) => limited(number.unsigned_abs()),
+        Expr::Parameter(_, index) => parameter_reach(sizes, parameters, *index),
+        Expr::Attribute(_, attribute) => attribute_reach(sizes, *attribute),
+        Expr::Binary(_, operator, left, right) => match operator {
+            Operator::Power => power_reach(left, right),
+            _ => {
+                let left = reach(sizes, parameters, left)?;
+                let right = reach(sizes, parameters, right)?;
+                combined(*operator, left, right)
+            }
+        },
+    }
+}

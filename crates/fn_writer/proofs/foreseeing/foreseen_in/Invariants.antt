@@ -1,6 +1,0 @@
-use Rattle.std.proofs.Common.{drop}
-use Rattle.fn_writer.specs.Foreseeing.{HasSeen}
-use Rattle.fn_writer.proofs.foreseeing.foreseen_in.Given as goal
-
-abbrev pub invariant-loop-step : goal.invariant-loop-step
-invariant-loop-step l = HasSeen l.place l.index l.format l.asked (drop l.step-index l.plan) l.number l.digits l.choices.items

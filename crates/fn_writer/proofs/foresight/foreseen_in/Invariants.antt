@@ -1,0 +1,6 @@
+use Rattle.std.proofs.Common.{drop}
+use Rattle.fn_writer.specs.Foresight.{HasSeen}
+use Rattle.fn_writer.proofs.foresight.foreseen_in.Given as goal
+
+abbrev pub invariant-loop-step : goal.invariant-loop-step
+invariant-loop-step l = HasSeen l.place l.index l.format l.asked (drop l.step-index l.plan) l.number l.digits l.choices.items

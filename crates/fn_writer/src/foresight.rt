@@ -1,0 +1,458 @@
+//! What the choices, the asked values and the calls of a plan tell, before the plan is followed: often the header has other bits than the chosen values give
+//! it, or a filling inside can't have its digit.
+
+ghost use Rattle.std.specs.Prelude.{◌≡◌, ◌<◌, ◌≤◌, [], Some, ℕ, drop, length, IsTrue, IfOk, IfSome, IfNone, OnOk, slice_get};
+ghost use Rattle.fn_cert.specs.declared.certificate.Step.TheVariants as steps;
+ghost use Rattle.fn_rules.specs.Counts.{ways};
+ghost use Rattle.fn_writer.specs.Foresight as spec;
+ghost use Rattle.fn_writer.specs.Going as going;
+ghost use Rattle.fn_writer.specs.Refutation.{HaveBefore};
+ghost use Rattle.fn_writer.specs.Walking as walking;
+
+use crate::beginning::start_at;
+use crate::calling::radix_of;
+use crate::ending::plans_of;
+use crate::refutation::{differs, has_false, is_header, is_refuted, only_length};
+use crate::taking::asked_before;
+use crate::told::{Chosen, Told, values_of};
+use fn_accepted::place::{format_of, sizes_of};
+use fn_accepted::{Accepted, Place};
+use fn_bits::Cursor;
+use fn_candidates::{Digits, Start};
+use fn_cert::Step;
+use fn_filling::{AskedValue, FieldPath};
+use fn_normal::{Encoding, Field, Format, Sizes};
+use fn_rules::choice_of;
+use smallvec::SmallVec;
+use sqlite_items::at;
+use std::alloc::{AllocError, Global};
+
+/// What is chosen and asked for before a step of a plan. Most are few: these take no memory of their own.
+type Choices = SmallVec<Chosen, 8>;
+
+/// How many candidates fail with this one, where the choices, the asked values or the calls of its plan tell that it fails. They don't tell it always. The
+/// error is want of memory.
+pub(crate) fn foreseen(
+    alloc: Global,
+    place: &Place<'_>,
+    start: Start,
+    source: &Cursor<'_>,
+    from: usize,
+    asked: &[AskedValue],
+    number: u64,
+) -> Result<Option<u64>, AllocError>
+    requires within { from ≤ length source.now.left }
+    requires begins { going.Begins place.now number start }
+    ensures { IfOk result (λ o. IfSome o (walking.Fails place.now (drop from source.now.left) asked.now number)) }
+{
+    let Some(plans) = plans_of(place.accepted, place.method, start.format) else {
+        return Ok(None);
+    };
+    if !branches(plans.write.as_slice()) {
+        return Ok(None);
+    }
+    let Some(format) = format_of(place.accepted, place.method, start.format) else {
+        return Ok(None);
+    };
+    let Some(sizes) = sizes_of(place.accepted, place.method, start.format) else {
+        return Ok(None);
+    };
+    foreseen_in(
+        alloc,
+        place,
+        start.format,
+        format,
+        sizes.fields.as_slice(),
+        plans.write.as_slice(),
+        start.digits,
+        source,
+        from,
+        asked,
+        number,
+    )
+}
+
+/// Whether a step of the plan is a call or a choice.
+fn branches(plan: &[Step]) -> bool {
+    plan.iter()
+        .any(|step| matches!(step, Step::Call(_) | Step::Choose(_)))
+}
+
+/// The same for the plan of a format that has a call or a choice.
+#[inline(never)]
+fn foreseen_in(
+    alloc: Global,
+    place: &Place<'_>,
+    index: usize,
+    format: &Format,
+    sizes: &[Sizes],
+    plan: &[Step],
+    start: Digits,
+    source: &Cursor<'_>,
+    from: usize,
+    asked: &[AskedValue],
+    number: u64,
+) -> Result<Option<u64>, AllocError>
+    requires within { from ≤ length source.now.left }
+    requires sized { spec.HasSizes place.now index sizes.now }
+    requires seen { spec.HasSeen place.now index format.now asked.now plan.now number start [] }
+    ensures { IfOk result (λ o. IfSome o (walking.Fails place.now (drop from source.now.left) asked.now number)) }
+{
+    let mut digits = start;
+    let mut choices = SmallVec::new(alloc);
+    for step in plan {
+        match foreseen_step(
+            alloc,
+            place,
+            index,
+            format,
+            sizes,
+            *step,
+            &mut digits,
+            &mut choices,
+            source,
+            from,
+            asked,
+            number,
+        )? {
+            Some(many) => return Ok(Some(many)),
+            None => {}
+        }
+    }
+    Ok(None)
+}
+
+/// Reads the digit of a step, if it has one, and looks at what is told then: how many candidates fail with this one, where that is told.
+fn foreseen_step(
+    alloc: Global,
+    place: &Place<'_>,
+    index: usize,
+    format: &Format,
+    sizes: &[Sizes],
+    step: Step,
+    digits: &mut Digits,
+    choices: &mut Choices,
+    source: &Cursor<'_>,
+    from: usize,
+    asked: &[AskedValue],
+    number: u64,
+) -> Result<Option<u64>, AllocError>
+    requires within { from ≤ length source.now.left }
+    requires sized { spec.HasSizes place.now index sizes.now }
+    requires stands { spec.StandsBefore place.now index format.now asked.now step number digits.old choices.old.items }
+    ensures found { IfOk result (λ o. IfSome o (walking.Fails place.now (drop from source.now.left) asked.now number)) }
+    ensures on { IfOk result (λ o. IfNone o (spec.SeesOn place.now index format.now asked.now step number digits.old choices.old.items digits.new choices.new.items)) }
+{
+    match step {
+        Step::Call(field) => {
+            let told = foreseen_call(
+                alloc,
+                place,
+                index,
+                format,
+                field,
+                *digits,
+                choices.as_slice(),
+                source,
+                from,
+                asked,
+                number,
+            )?;
+            read_call(
+                place,
+                index,
+                format,
+                field,
+                digits,
+                choices.as_slice(),
+                asked,
+                number,
+            );
+            Ok(told)
+        }
+        Step::Choose(field) => {
+            read_choice(
+                alloc, place, index, format, field, digits, choices, asked, number,
+            )?;
+            let told = Told {
+                format,
+                arguments: place.arguments,
+                choices: choices.as_slice(),
+            };
+            let has_other = differs(alloc, place, &told, sizes, source, from)?;
+            if has_other {
+                Ok(Some(digits.alike()))
+            } else {
+                Ok(None)
+            }
+        }
+        Step::Ask(field) => {
+            note_asked(place, index, format, field, *digits, choices, asked, number)?;
+            Ok(None)
+        }
+        _ => Ok(None),
+    }
+}
+
+/// Notes the number of an asked field's value, where that is told.
+fn note_asked(
+    place: &Place<'_>,
+    index: usize,
+    format: &Format,
+    field: usize,
+    digits: Digits,
+    choices: &mut Choices,
+    asked: &[AskedValue],
+    number: u64,
+) -> Result<(), AllocError>
+    requires stands { spec.StandsBefore place.now index format.now asked.now (steps.Ask field) number digits choices.old.items }
+    ensures { OnOk result (spec.SeesOn place.now index format.now asked.now (steps.Ask field) number digits choices.old.items digits choices.new.items) }
+{
+    let Some(digit) = asked_digit(format, field, asked) else {
+        return Ok(());
+    };
+    choices.push(Chosen { field, digit })?;
+    Ok(())
+}
+
+/// The number of the value that the field is asked for, where it has at most 64 bits.
+fn asked_digit(format: &Format, field: usize, asked: &[AskedValue]) -> Option<u64>
+    ensures { IfSome result (spec.IsAskedFor format.now asked.now field) }
+{
+    let found = at(format.fields.as_slice(), field)?;
+    if !found.declared.asked {
+        return None;
+    }
+    at(asked, asked_before(format, field))?.bits.value()
+}
+
+/// Reads the digit of a choice.
+fn read_choice(
+    alloc: Global,
+    place: &Place<'_>,
+    index: usize,
+    format: &Format,
+    field: usize,
+    digits: &mut Digits,
+    choices: &mut Choices,
+    asked: &[AskedValue],
+    number: u64,
+) -> Result<(), AllocError>
+    requires stands { spec.StandsBefore place.now index format.now asked.now (steps.Choose field) number digits.old choices.old.items }
+    ensures { OnOk result (spec.SeesOn place.now index format.now asked.now (steps.Choose field) number digits.old choices.old.items digits.new choices.new.items) }
+{
+    let Some(width) = choice_of(alloc, format, field) else {
+        return Ok(());
+    };
+    let digit = digits.next(1 << width);
+    choices.push(Chosen { field, digit })?;
+    Ok(())
+}
+
+/// Reads the digit of a call.
+fn read_call(
+    place: &Place<'_>,
+    index: usize,
+    format: &Format,
+    field: usize,
+    digits: &mut Digits,
+    choices: &[Chosen],
+    asked: &[AskedValue],
+    number: u64,
+)
+    requires stands { spec.StandsBefore place.now index format.now asked.now (steps.Call field) number digits.old choices.now }
+    ensures { spec.SeesOn place.now index format.now asked.now (steps.Call field) number digits.old choices.now digits.new choices.now }
+{
+    let _digit = digits.next(ways_of(place.accepted, format, field));
+}
+
+/// In how many ways the call of a field goes on, 1 where it calls nothing.
+fn ways_of(accepted: &Accepted, format: &Format, field: usize) -> u64
+    ensures { result ≡ ways accepted.now.counts format.now (steps.Call field) }
+{
+    let Some(called) = at(format.fields.as_slice(), field) else {
+        return 1;
+    };
+    match called.encoding.get() {
+        Encoding::Call { method, .. } => match at(accepted.counts(), *method) {
+            Some(count) => *count,
+            None => 1,
+        },
+        Encoding::Bare => 1,
+        Encoding::Library(_) => 1,
+    }
+}
+
+/// How many candidates fail with this one, where the call that comes next tells it.
+fn foreseen_call(
+    alloc: Global,
+    place: &Place<'_>,
+    index: usize,
+    format: &Format,
+    field: usize,
+    before: Digits,
+    choices: &[Chosen],
+    source: &Cursor<'_>,
+    from: usize,
+    asked: &[AskedValue],
+    number: u64,
+) -> Result<Option<u64>, AllocError>
+    requires within { from ≤ length source.now.left }
+    requires stands { spec.StandsBefore place.now index format.now asked.now (steps.Call field) number before choices.now }
+    ensures { IfOk result (λ o. IfSome o (walking.Fails place.now (drop from source.now.left) asked.now number)) }
+{
+    let Some(called) = at(format.fields.as_slice(), field) else {
+        return Ok(None);
+    };
+    let Encoding::Call { method, arguments } = called.encoding.get() else {
+        return Ok(None);
+    };
+    let told = Told {
+        format,
+        arguments: place.arguments,
+        choices,
+    };
+    let Some(values) = values_of(alloc, &told, arguments.as_slice())? else {
+        return Ok(None);
+    };
+    let mut digits = before;
+    let digit = digits.next(radix_of(place.accepted, *method));
+    let Some(many) = alike_inside(
+        alloc,
+        place,
+        index,
+        format,
+        field,
+        called,
+        *method,
+        values.as_slice(),
+        digit,
+        source,
+        from,
+    )?
+    else {
+        return Ok(None);
+    };
+    Ok(Some(digits.alike_up_to(many)))
+}
+
+/// How many candidates of the called method from this one on are of its format, where no filling of that is inside the field.
+fn alike_inside(
+    alloc: Global,
+    place: &Place<'_>,
+    index: usize,
+    format: &Format,
+    field: usize,
+    called: &Field,
+    method: usize,
+    arguments: &[i128],
+    number: u64,
+    source: &Cursor<'_>,
+    from: usize,
+) -> Result<Option<u64>, AllocError>
+    requires within { from ≤ length source.now.left }
+    requires there { method < length place.now.accepted.now.profile.methods }
+    requires below { (n : ℕ) → slice_get place.now.accepted.now.counts method ≡ Some n → number < n }
+    ensures { IfOk result (λ o. IfSome o (λ many. spec.AreRefutedInside place.now index format.now field called.now method arguments.now number many (drop from source.now.left))) }
+{
+    // Its path is that of the field, which is made where it is looked at.
+    let inner = Place {
+        accepted: place.accepted,
+        context: place.context,
+        method,
+        arguments,
+        path: place.path,
+    };
+    let Some(start) = start_at(&inner, number) else {
+        return Ok(None);
+    };
+    let is_told = is_refuted_inside(
+        alloc,
+        place,
+        index,
+        format,
+        field,
+        called,
+        method,
+        arguments,
+        start.format,
+        source,
+        from,
+    )?;
+    if is_told {
+        Ok(Some(start.digits.alike()))
+    } else {
+        Ok(None)
+    }
+}
+
+/// Whether the arguments or the header tell that no filling of this format of the called method is inside the field. They don't tell it always.
+fn is_refuted_inside(
+    alloc: Global,
+    place: &Place<'_>,
+    index: usize,
+    format: &Format,
+    field: usize,
+    called: &Field,
+    method: usize,
+    arguments: &[i128],
+    inside: usize,
+    source: &Cursor<'_>,
+    from: usize,
+) -> Result<bool, AllocError>
+    requires within { from ≤ length source.now.left }
+    ensures { IfOk result (λ told. IsTrue told → spec.IsRefutedInside place.now index format.now field called.now method arguments.now inside (drop from source.now.left)) }
+{
+    let Some(found) = format_of(place.accepted, method, inside) else {
+        return Ok(false);
+    };
+    if has_false(found.constraints.as_slice(), arguments) {
+        return Ok(true);
+    }
+    if !is_header(called) {
+        return Ok(false);
+    }
+    let Some(sizes) = sizes_of(place.accepted, place.method, index) else {
+        return Ok(false);
+    };
+    let Some(offset) = offset_of(
+        format.fields.as_slice(),
+        sizes.fields.as_slice(),
+        field,
+        source.rest() - from,
+    ) else {
+        return Ok(false);
+    };
+    let path = FieldPath::of(alloc, place.path, called.declared.name.as_str())?;
+    let there = Place {
+        accepted: place.accepted,
+        context: place.context,
+        method,
+        arguments,
+        path: path.as_str(),
+    };
+    is_refuted(alloc, &there, inside, source, from + offset)
+}
+
+/// How many bits the header fields before this one have, where each has one length by its bounds, and they are no more than so many.
+fn offset_of(fields: &[Field], sizes: &[Sizes], field: usize, most: usize) -> Option<usize>
+    ensures { IfSome result (λ n. (n ≤ most) × HaveBefore fields.now sizes.now field n) }
+{
+    let mut offset = 0;
+    for index in 0..field {
+        let Some(earlier) = at(fields, index) else {
+            return None;
+        };
+        if !is_header(earlier) {
+            continue;
+        }
+        let Some(bounds) = at(sizes, index) else {
+            return None;
+        };
+        let Some(count) = only_length(bounds.uncompressed, most - offset) else {
+            return None;
+        };
+        offset += count;
+    }
+    Some(offset)
+}

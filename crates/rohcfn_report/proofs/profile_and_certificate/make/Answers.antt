@@ -1,0 +1,10 @@
+use Rattle.std.proofs.Common.{refl}
+use Rattle.rohcfn_report.specs.Accepting.{made}
+use Rattle.rohcfn_report.proofs.Certificates.{none_made}
+use Rattle.rohcfn_report.proofs.profile_and_certificate.make.Goals as goal
+
+pub returns-in-Ok : goal.returns-in-Ok
+returns-in-Ok c = made c.args.version refl c.in-Ok.ensures.proved c.keeps.ensures
+
+pub returns-in_ok-unproved_line-in-Err : goal.returns-in_ok-unproved_line-in-Err
+returns-in_ok-unproved_line-in-Err c = none_made c.args.version _ c.in-Err.unproved _ _ c.in-Err.ensures.unproved c.methods.ensures c.in_ok-unproved_line-in-Err.ensures c.keeps-in-Err.ensures

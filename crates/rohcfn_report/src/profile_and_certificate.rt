@@ -1,0 +1,163 @@
+//! A profile with its certificate, or the line of what is wrong with them.
+
+ghost use Rattle.std.specs.Prelude.{◌≡◌, IfOk, string_bytes};
+ghost use Rattle.std.specs.Str.{IsUtf8};
+ghost use Rattle.fn_cert_text.specs.Faults.{Blames};
+ghost use Rattle.fn_profile.specs.Resolved.{Resolved};
+ghost use Rattle.rohcfn_report.specs.Accepting as spec;
+ghost use Rattle.rohcfn_report.specs.CheckFaults as verdicts;
+
+use crate::check_faults::{error_text, unread_line, verdict_line};
+use crate::prove::unproved_line;
+use crate::show::error_line;
+use fn_accepted::Accepted;
+use fn_bits::LinesError;
+use fn_bits::lines::lines;
+use fn_cert::{Certificate, Version};
+use fn_cert_text::CertificateError;
+use fn_checker::{CheckError, check};
+use fn_names::read;
+use fn_profile::Profile;
+use fn_prover::prove;
+use rohcfn_input::bundle::Parts;
+use std::alloc::{AllocError, Global};
+
+/// Where the certificate of a profile comes from: the octets that are given, or the prover, which makes one of that version.
+#[derive(Clone, Copy)]
+pub enum Origin<'a> {
+    Given(&'a [u8]),
+    Made(Version),
+}
+
+impl<'a> Origin<'a> {
+    /// By the version that is asked for, and the parts: a certificate that is among them is taken.
+    pub fn of(version: Version, parts: &Parts<'a>) -> Origin<'a>
+        ensures { result ≡ spec.origin_of version parts.now.certificate }
+    {
+        match parts.certificate {
+            Some(octets) => Origin::Given(octets),
+            None => Origin::Made(version),
+        }
+    }
+}
+
+/// What is found of a profile and its certificate: both, or the line that refuses them.
+#[derive(Drop)]
+pub enum Judged {
+    Accepted(Accepted),
+    Refused(String),
+}
+
+/// The certificate of a profile, or the line of why there is none.
+#[derive(Drop)]
+pub(crate) enum Found {
+    Certificate(Certificate),
+    Line(String),
+}
+
+/// The profile that octets stand for with its certificate, which is given or made; or the line of the first fault: of the profile, of the certificate's text, or of
+/// the certificate.
+pub fn accept(
+    alloc: Global,
+    top: &str,
+    octets: &[u8],
+    origin: Origin<'_>,
+) -> Result<Judged, AllocError>
+    ensures { IfOk result (spec.JudgesOctets top.now octets.now origin.entry) }
+{
+    match read(alloc, octets, top.as_bytes()) {
+        Ok(profile) => judge(alloc, profile, origin),
+        Err(error) => Ok(Judged::Refused(error_line(alloc, octets, error)?)),
+    }
+}
+
+/// The verdict on a profile with its certificate.
+fn judge(alloc: Global, profile: Profile, origin: Origin<'_>) -> Result<Judged, AllocError>
+    ensures { IfOk result (spec.IsJudged profile origin.entry) }
+{
+    match find(alloc, &profile, origin)? {
+        Found::Certificate(certificate) => verdict(alloc, profile, certificate),
+        Found::Line(line) => Ok(Judged::Refused(line)),
+    }
+}
+
+/// The certificate that is given for a profile, or the one that is made.
+fn find(alloc: Global, profile: &Profile, origin: Origin<'_>) -> Result<Found, AllocError>
+    ensures { IfOk result (spec.IsFound profile.now origin.entry) }
+{
+    match origin {
+        Origin::Given(octets) => read_octets(alloc, profile, octets),
+        Origin::Made(version) => make(alloc, profile, version),
+    }
+}
+
+/// The certificate that octets stand for.
+fn read_octets(alloc: Global, profile: &Profile, octets: &[u8]) -> Result<Found, AllocError>
+    ensures { IfOk result (spec.IsGiven profile.now octets.now) }
+{
+    match str::from_utf8(octets) {
+        Ok(text) => read_text(alloc, profile, text),
+        Err(_) => Ok(Found::Line(broken(alloc, octets)?)),
+    }
+}
+
+/// The certificate of that version that is made for a profile.
+fn make(alloc: Global, profile: &Profile, version: Version) -> Result<Found, AllocError>
+    ensures { IfOk result (spec.IsMade profile.now version) }
+{
+    match prove(alloc, profile, version) {
+        Ok(certificate) => {
+            certificate.keeps();
+            Ok(Found::Certificate(certificate))
+        }
+        Err(unproved) => {
+            profile.keeps();
+            Ok(Found::Line(unproved_line(alloc, profile.methods(), unproved)?))
+        }
+    }
+}
+
+/// The line of octets that are no UTF-8, by their first line that isn't.
+fn broken(alloc: Global, octets: &[u8]) -> Result<String, AllocError>
+    requires { IsUtf8 octets.now → ⊥ }
+    ensures { IfOk result (λ text. string_bytes text ≡ spec.broken_text octets.now) }
+{
+    match lines(alloc, octets) {
+        Ok(_) => unreachable!(),
+        Err(LinesError::NotText { line }) => error_text(alloc, "K1 bad word", line),
+        Err(LinesError::OutOfMemory) => Err(AllocError),
+    }
+}
+
+/// The certificate of a text.
+fn read_text(alloc: Global, profile: &Profile, text: &str) -> Result<Found, AllocError>
+    ensures { IfOk result (spec.IsGiven profile.now text.now) }
+{
+    match fn_cert_text::read(alloc, profile, text) {
+        Ok(certificate) => {
+            certificate.keeps();
+            Ok(Found::Certificate(certificate))
+        }
+        Err(error) => Ok(Found::Line(unread_line(alloc, error)?)),
+    }
+}
+
+/// The verdict on a profile with this certificate.
+fn verdict(alloc: Global, profile: Profile, certificate: Certificate) -> Result<Judged, AllocError>
+    ensures { IfOk result (spec.IsVerdict profile certificate) }
+{
+    match check(alloc, profile, certificate) {
+        Ok(accepted) => {
+            accepted.keeps();
+            Ok(Judged::Accepted(accepted))
+        }
+        Err(refused) => match refused.error {
+            CheckError::Fault(fault) => {
+                refused.profile.keeps();
+                let methods = refused.profile.methods();
+                Ok(Judged::Refused(verdict_line(alloc, methods, fault)?))
+            }
+            CheckError::OutOfMemory => Err(AllocError),
+        },
+    }
+}

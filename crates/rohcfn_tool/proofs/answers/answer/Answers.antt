@@ -1,0 +1,63 @@
+use Rattle.std.proofs.Common.{refl, subst}
+use Rattle.rohcfn_tool.specs.Line.{Lined}
+use Rattle.rohcfn_tool.specs.Printed.{Answered, AnsweredRun, no_profile, shown, linted, drawn, checked, proved, check_explained, prove_explained, ran, told, explained, lined, stated, Stated}
+use Rattle.rohcfn_tool.specs.declared.packets.Shape.TheVariants.{Line, Tree, Why}
+use Rattle.rohcfn_explain.specs.Explained.{Explained}
+use Rattle.rohcfn_report.specs.Draw.{DrawnBy}
+use Rattle.rohcfn_report.specs.Lint.{LintedBy}
+use Rattle.rohcfn_report.specs.Reports.{CheckedOctets, ProvedOctets, ShownBy}
+use Rattle.rohcfn_input.proofs.AnswersHeld.{passed_on, refusal_is}
+use Rattle.rohcfn_tool.proofs.answers.answer.Goals as goal
+
+pub returns-in_default : goal.returns-in_default
+returns-in_default c = refusal_is (Answered c.args.order.now c.args.parts.now) _ _ c.refusal.result (no_profile c.in_default.is) refl c.refusal.ensures
+
+pub returns-in-Show : goal.returns-in-Show
+returns-in-Show c =
+    passed_on (ShownBy c.args.order.now.top.now c.in-Some.profile.now) (Answered c.args.order.now c.args.parts.now) c.answer_listing.result (λ s out h. shown c.in-Some.profile c.in-Some.is c.in-Show.is h) c.answer_listing.ensures
+
+pub returns-in-Lint : goal.returns-in-Lint
+returns-in-Lint c =
+    passed_on (LintedBy c.args.order.now.top.now c.in-Some.profile.now) (Answered c.args.order.now c.args.parts.now) c.answer_lint.result (λ s out h. linted c.in-Some.profile c.in-Some.is c.in-Lint.is h) c.answer_lint.ensures
+
+pub returns-in-Draw : goal.returns-in-Draw
+returns-in-Draw c =
+    passed_on (DrawnBy c.args.order.now.top.now c.in-Some.profile.now) (Answered c.args.order.now c.args.parts.now) c.answer_draw.result (λ s out h. drawn c.in-Some.profile c.in-Some.is c.in-Draw.is h) c.answer_draw.ensures
+
+pub returns-in-Check : goal.returns-in-Check
+returns-in-Check c =
+    passed_on (CheckedOctets c.args.order.now.top.now c.in-Some.profile.now c.of-origin.result) (Answered c.args.order.now c.args.parts.now) c.answer_check.result
+    (λ s out h. checked c.in-Some.profile c.in-Some.is c.in-Check.is (subst (λ o. CheckedOctets c.args.order.now.top.now c.in-Some.profile.now o s out) c.of-origin.ensures h)) c.answer_check.ensures
+
+pub returns-in-Prove : goal.returns-in-Prove
+returns-in-Prove c =
+    passed_on (ProvedOctets c.args.order.now.version c.args.order.now.top.now c.in-Some.profile.now) (Answered c.args.order.now c.args.parts.now) c.answer_prove.result (λ s out h. proved c.in-Some.profile c.in-Some.is c.in-Prove.is h) c.answer_prove.ensures
+
+pub returns-in-ExplainCheck : goal.returns-in-ExplainCheck
+returns-in-ExplainCheck c =
+    passed_on (Explained (CheckedOctets c.args.order.now.top.now c.in-Some.profile.now c.of-origin-in-ExplainCheck.result)) (Answered c.args.order.now c.args.parts.now) c.explain_check.result
+    (λ s out h. check_explained c.in-Some.profile c.in-Some.is c.in-ExplainCheck.is (subst (λ o. Explained (CheckedOctets c.args.order.now.top.now c.in-Some.profile.now o) s out) c.of-origin-in-ExplainCheck.ensures h)) c.explain_check.ensures
+
+pub returns-in-ExplainProve : goal.returns-in-ExplainProve
+returns-in-ExplainProve c =
+    passed_on (Explained (ProvedOctets c.args.order.now.version c.args.order.now.top.now c.in-Some.profile.now)) (Answered c.args.order.now c.args.parts.now) c.explain_prove.result (λ s out h. prove_explained c.in-Some.profile c.in-Some.is c.in-ExplainProve.is h) c.explain_prove.ensures
+
+pub returns-in-Run : goal.returns-in-Run
+returns-in-Run c =
+    passed_on (AnsweredRun c.in-Run.direction Line c.args.order.now c.in-Some.profile.now c.args.parts.now) (Answered c.args.order.now c.args.parts.now) c.answer_run.result (λ s out h. ran c.in-Some.profile c.in-Run.direction c.in-Some.is c.in-Run.is h) c.answer_run.ensures
+
+pub returns-in-Fields : goal.returns-in-Fields
+returns-in-Fields c =
+    passed_on (AnsweredRun c.in-Fields.direction Tree c.args.order.now c.in-Some.profile.now c.args.parts.now) (Answered c.args.order.now c.args.parts.now) c.answer_run-in-Fields.result (λ s out h. told c.in-Some.profile c.in-Fields.direction c.in-Some.is c.in-Fields.is h) c.answer_run-in-Fields.ensures
+
+pub returns-in-Why : goal.returns-in-Why
+returns-in-Why c =
+    passed_on (AnsweredRun c.in-Why.direction (Why c.in-Some.profile) c.args.order.now c.in-Some.profile.now c.args.parts.now) (Answered c.args.order.now c.args.parts.now) c.answer_run-in-Why.result (λ s out h. explained c.in-Some.profile c.in-Why.direction c.in-Some.is c.in-Why.is h) c.answer_run-in-Why.ensures
+
+pub returns-in-Line : goal.returns-in-Line
+returns-in-Line c =
+    passed_on (Lined c.in-Line.end c.args.order.now c.in-Some.profile.now c.args.parts.now) (Answered c.args.order.now c.args.parts.now) c.answer_line.result (λ s out h. lined c.in-Some.profile c.in-Line.end c.in-Some.is c.in-Line.is h) c.answer_line.ensures
+
+pub returns-in-Stats : goal.returns-in-Stats
+returns-in-Stats c =
+    passed_on (Stated c.args.order.now c.in-Some.profile.now c.args.parts.now) (Answered c.args.order.now c.args.parts.now) c.answer_stats.result (λ s out h. stated c.in-Some.profile c.in-Some.is c.in-Stats.is h) c.answer_stats.ensures

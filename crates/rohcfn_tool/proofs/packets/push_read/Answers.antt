@@ -1,0 +1,5 @@
+use Rattle.rohcfn_tool.proofs.Stepping.{took_line}
+use Rattle.rohcfn_tool.proofs.packets.push_read.Goals as goal
+
+pub returns : goal.returns
+returns c = took_line c.args.item.now c.args.bits _ _ _ c.in_ok-push_item_text.ensures c.in_ok-push_took.ensures

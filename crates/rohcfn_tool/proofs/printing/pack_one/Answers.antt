@@ -1,9 +1,0 @@
-use Rattle.rohcfn_tool.proofs.Stepping.{no_flow_blamed, packed_step}
-use Rattle.rohcfn_tool.proofs.printing.pack_one.Goals as goal
-
-pub returns-in_ok-replace-in-Ok : goal.returns-in_ok-replace-in-Ok
-returns-in_ok-replace-in-Ok c =
-    packed_step c.args.shape c.args.accepted.now c.args.context.now _ _ _ c.args.number c.args.item.now c.in-Ok.field-0 c.in-Ok.ensures.written c.in_ok-push_written-in-Ok.ensures c.in_ok-replace-in-Ok.ensures.ok
-
-pub stop_item-requires : goal.stop_item-requires
-stop_item-requires c = record { flow = no_flow_blamed c.args.accepted.now c.args.context.now c.args.item.now c.in-Err.fault c.in-Err.ensures.fault; blames = c.in-Err.ensures.fault }

@@ -1,0 +1,224 @@
+//! What is printed for an order and the parts of the input.
+
+ghost use Rattle.std.specs.Prelude.{◌≡◌, ◌++◌, IfOk, codes, decimal, string_bytes};
+ghost use Rattle.rohcfn_tool.specs.FaultLaws.{AreOneLine};
+ghost use Rattle.rohcfn_tool.specs.Printed as spec;
+
+use crate::line::answer_line;
+use crate::packets::{Shape, pack_all, unpack_all};
+use crate::stats::answer_stats;
+use fn_accepted::Accepted;
+use fn_context::Context;
+use rohcfn_explain::explaining::{explain_check, explain_prove};
+use rohcfn_input::bundle::Parts;
+use rohcfn_input::inputs::{BadLine, read_context, read_items, read_packets};
+use rohcfn_input::refusals::refusal;
+use rohcfn_input::status::Answer;
+use rohcfn_report::check::answer_check;
+use rohcfn_report::draw::answer_draw;
+use rohcfn_report::lint::answer_lint;
+use rohcfn_report::profile_and_certificate::{Judged, Origin, accept};
+use rohcfn_report::prove::answer_prove;
+use rohcfn_report::show::answer_listing;
+use rohcfn_words::words::{Command, Direction, Order};
+use std::alloc::{AllocError, Global};
+
+/// What is printed for an order: the listing of a profile, the formats by which nothing can be packed, diagrams, the verdict on a certificate, a certificate, a line or the
+/// fields for each item or packet up to the first refusal, what stands against each format where one is refused, what is counted of packed items, the octets and items of a line of flows, or the one line of another fault.
+///
+/// The order of faults: the missing part `profile`, another missing part, the profile, its certificate, a line of the context, a line of the items, packets or events
+/// or octets that are no hex, and then each item, packet or event.
+pub fn answer(alloc: Global, order: &Order<'_>, parts: &Parts<'_>) -> Result<Answer, AllocError>
+    ensures { IfOk result (spec.Answers order.now parts.now) }
+{
+    let Some(profile) = parts.profile else {
+        return refusal(alloc, "bundle: I4 bad part profile");
+    };
+    match order.command {
+        Command::Show => answer_listing(alloc, order.top, profile),
+        Command::Lint => answer_lint(alloc, order.top, profile, parts.context),
+        Command::Draw => answer_draw(alloc, order.top, profile),
+        Command::Check => {
+            let origin = Origin::of(order.version, parts);
+            answer_check(alloc, order.top, profile, origin)
+        }
+        Command::Prove => answer_prove(alloc, order.version, order.top, profile),
+        Command::ExplainCheck => {
+            let origin = Origin::of(order.version, parts);
+            explain_check(alloc, order.top, profile, origin)
+        }
+        Command::ExplainProve => explain_prove(alloc, order.version, order.top, profile),
+        Command::Run(direction) => {
+            answer_run(alloc, direction, Shape::Line, order, profile, parts)
+        }
+        Command::Fields(direction) => {
+            answer_run(alloc, direction, Shape::Tree, order, profile, parts)
+        }
+        Command::Why(direction) => {
+            answer_run(alloc, direction, Shape::Why(profile), order, profile, parts)
+        }
+        Command::Stats => answer_stats(alloc, order, profile, parts),
+        Command::Line(end) => answer_line(alloc, end, order, profile, parts),
+    }
+}
+
+/// The answer by the octets of a profile, and the items or packets among the parts.
+fn answer_run(
+    alloc: Global,
+    direction: Direction,
+    shape: Shape<'_>,
+    order: &Order<'_>,
+    profile: &[u8],
+    parts: &Parts<'_>,
+) -> Result<Answer, AllocError>
+    ensures { IfOk result (spec.AnswersRun direction shape.entry order.now profile.now parts.now) }
+{
+    match direction {
+        Direction::Pack => match parts.items {
+            Some(items) => answer_by(alloc, Direction::Pack, shape, order, profile, parts, items),
+            None => refusal(alloc, "bundle: I4 bad part items"),
+        },
+        Direction::Unpack => match parts.packets {
+            Some(packets) => answer_by(
+                alloc,
+                Direction::Unpack,
+                shape,
+                order,
+                profile,
+                parts,
+                packets,
+            ),
+            None => refusal(alloc, "bundle: I4 bad part packets"),
+        },
+    }
+}
+
+/// The answer in a direction, by the octets of a profile and of items or packets.
+fn answer_by(
+    alloc: Global,
+    direction: Direction,
+    shape: Shape<'_>,
+    order: &Order<'_>,
+    profile: &[u8],
+    parts: &Parts<'_>,
+    input: &[u8],
+) -> Result<Answer, AllocError>
+    ensures { IfOk result (spec.AnswersBy direction shape.entry order.now profile.now parts.now input.now) }
+{
+    match accept(alloc, order.top, profile, Origin::of(order.version, parts))? {
+        Judged::Accepted(accepted) => {
+            let shows = order.shows_context;
+            answer_for(alloc, direction, shape, shows, &accepted, parts, input)
+        }
+        Judged::Refused(line) => refusal(alloc, line.as_str()),
+    }
+}
+
+/// The answer in a direction, by an accepted profile and the octets of items or packets.
+fn answer_for(
+    alloc: Global,
+    direction: Direction,
+    shape: Shape<'_>,
+    shows: bool,
+    accepted: &Accepted,
+    parts: &Parts<'_>,
+    input: &[u8],
+) -> Result<Answer, AllocError>
+    ensures { IfOk result (spec.AnswersFor direction shape.entry shows accepted.now parts.now.context input.now) }
+{
+    match read_context(alloc, parts) {
+        Ok(context) => answer_lines(alloc, direction, shape, shows, accepted, context, input),
+        Err(BadLine::Number(number)) => {
+            let line = context_line(alloc, number)?;
+            refusal(alloc, line.as_str())
+        }
+        Err(BadLine::OutOfMemory) => Err(AllocError),
+    }
+}
+
+/// The answer in a direction and a context.
+fn answer_lines(
+    alloc: Global,
+    direction: Direction,
+    shape: Shape<'_>,
+    shows: bool,
+    accepted: &Accepted,
+    context: Context,
+    input: &[u8],
+) -> Result<Answer, AllocError>
+    ensures { IfOk result (spec.AnswersIn direction shape.entry shows accepted.now context input.now) }
+{
+    match direction {
+        Direction::Pack => answer_items(alloc, shape, shows, accepted, context, input),
+        Direction::Unpack => answer_packets(alloc, shape, shows, accepted, context, input),
+    }
+}
+
+/// The answer to the octets of items.
+fn answer_items(
+    alloc: Global,
+    shape: Shape<'_>,
+    shows: bool,
+    accepted: &Accepted,
+    context: Context,
+    input: &[u8],
+) -> Result<Answer, AllocError>
+    ensures { IfOk result (spec.AnswersIn Direction.Pack shape.entry shows accepted.now context input.now) }
+{
+    match read_items(alloc, input) {
+        Ok(items) => pack_all(alloc, shape, shows, accepted, context, items.as_slice()),
+        Err(BadLine::Number(number)) => {
+            let line = bad_line(alloc, Direction::Pack, number)?;
+            refusal(alloc, line.as_str())
+        }
+        Err(BadLine::OutOfMemory) => Err(AllocError),
+    }
+}
+
+/// The answer to the octets of packets.
+fn answer_packets(
+    alloc: Global,
+    shape: Shape<'_>,
+    shows: bool,
+    accepted: &Accepted,
+    context: Context,
+    input: &[u8],
+) -> Result<Answer, AllocError>
+    ensures { IfOk result (spec.AnswersIn Direction.Unpack shape.entry shows accepted.now context input.now) }
+{
+    match read_packets(alloc, input) {
+        Ok(packets) => unpack_all(alloc, shape, shows, accepted, context, packets.as_slice()),
+        Err(BadLine::Number(number)) => {
+            let line = bad_line(alloc, Direction::Unpack, number)?;
+            refusal(alloc, line.as_str())
+        }
+        Err(BadLine::OutOfMemory) => Err(AllocError),
+    }
+}
+
+/// A law of fault lines: each is one line, without a line feed.
+#[tactic(auto, using(crate::proofs::OtherLines::are_one_line))]
+pub fn faults_are_lines()
+    ensures { AreOneLine }
+{}
+
+/// The line of items or packets that can't be read.
+pub(crate) fn bad_line(
+    alloc: Global,
+    direction: Direction,
+    number: usize,
+) -> Result<String, AllocError>
+    ensures { IfOk result (λ text. string_bytes text ≡ spec.input_name direction ++ codes ":" ++ decimal number ++ spec.bad_line_words direction) }
+{
+    match direction {
+        Direction::Pack => format!(in alloc; "items:{number}: I1 bad item"),
+        Direction::Unpack => format!(in alloc; "packets:{number}: I2 bad packet"),
+    }
+}
+
+/// The line of a context that can't be read.
+pub(crate) fn context_line(alloc: Global, number: usize) -> Result<String, AllocError>
+    ensures { IfOk result (λ text. string_bytes text ≡ spec.context_line number) }
+{
+    format!(in alloc; "context:{number}: C1 bad line")
+}
