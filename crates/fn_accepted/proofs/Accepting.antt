@@ -6,7 +6,7 @@ use Rattle.fn_filling.specs.Entries.{Path}
 use Rattle.fn_fits.specs.Fronts.{DetAt}
 use Rattle.fn_profile.specs.Alike.{AreAlike}
 use Rattle.fn_profile.specs.Resolved.{Resolved}
-use Rattle.fn_rules.proofs.Determinate.{determinate}
+use Rattle.fn_rules.proofs.ViewsDeterminate.{determinate}
 use Rattle.fn_accepted.specs.Accepted.{Accepting, IsAccepted, IsDeterminate}
 
 pub determined : (a : Accepting) (p : Resolved) → a.profile ≡ p → AreSizes p.methods p.sizes → AreAlike p.methods → IsAccepted a → IsDeterminate a

@@ -1,4 +1,4 @@
 pub mod Accepting
-pub mod Depth
-pub mod Starting
-pub mod Unsent
+pub mod StandingDepth
+pub mod StandingStart
+pub mod PlaceUnsent

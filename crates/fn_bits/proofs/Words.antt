@@ -16,8 +16,8 @@ use Rattle.fn_bits.specs.Number.{num, enc}
 use Rattle.fn_bits.specs.Octets.{bits_of, Holds}
 use Rattle.fn_bits.specs.Forms.{bits_in, IsForm}
 use Rattle.fn_bits.proofs.Numbers.{length-enc, num-enc, enc-num, num-below, enc_nil, num_join}
-use Rattle.fn_bits.proofs.Lists.{length_part}
-use Rattle.fn_bits.proofs.Windows.{window, num_low, enc_split, enc_join, enc_zero, part_padded, take_zeros, count_held, octet_whole, take_bits}
+use Rattle.fn_bits.proofs.CursorLists.{length_part}
+use Rattle.fn_bits.proofs.NumberWindows.{window, num_low, enc_split, enc_join, enc_zero, part_padded, take_zeros, count_held, octet_whole, take_bits}
 use Rattle.fn_bits.proofs.Octets.{length-bits_of}
 
 -- ---- what the forms say

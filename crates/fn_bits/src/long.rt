@@ -43,7 +43,7 @@ impl Model for Long {
 
 impl Long {
     /// How many bits there are.
-    #[tactic(auto, using(crate::proofs::Kept::keeping))]
+    #[tactic(auto, using(crate::proofs::OctetsKept::keeping))]
     pub(crate) fn len(&self) -> usize
         ensures value { result ≡ length self.now }
         ensures limit { length self.now < 2 ^ 31 }
@@ -53,7 +53,7 @@ impl Long {
 
     /// The bit at a place, the first at 0, or `None` past the end.
     #[inline(never)]
-    #[tactic(auto, using(crate::proofs::Kept::reading))]
+    #[tactic(auto, using(crate::proofs::OctetsKept::reading))]
     pub(crate) fn get(&self, place: usize) -> Option<bool>
         ensures { result ≡ slice_get self.now place }
     {
@@ -65,7 +65,7 @@ impl Long {
     }
 
     /// Adds other bits at the end, all or none.
-    #[tactic(auto, using(crate::proofs::Kept::pushing))]
+    #[tactic(auto, using(crate::proofs::OctetsKept::pushing))]
     pub(crate) fn append(&mut self, other: &Long) -> Result<(), AllocError>
         requires { length self.old + length other.now < 2 ^ 31 }
         ensures ok { OnOk result (self.new ≡ self.old ++ other.now) }
@@ -84,7 +84,7 @@ impl Long {
 
     /// The octet of the eight bits from eight times a place on, filled with zero bits, or `None` where no bit is there.
     #[inline(never)]
-    #[tactic(auto, using(crate::proofs::Kept::reading))]
+    #[tactic(auto, using(crate::proofs::OctetsKept::reading))]
     pub(crate) fn octet(&self, place: usize) -> Option<u8>
         ensures { SomeIff result (8 * place < length self.now) (num (take 8 (drop (8 * place) (self.now ++ replicate 8 false)))) }
     {
@@ -93,7 +93,7 @@ impl Long {
 
     /// That count of bits, read from octets, each with its highest bit first. It is `None` where there are more or fewer
     /// octets than the bits fill, a bit after them in the last octet is one, or the count is 2 ^ 31 or more.
-    #[tactic(auto, using(crate::proofs::Kept::reading_in))]
+    #[tactic(auto, using(crate::proofs::OctetsKept::reading_in))]
     pub(crate) fn from_octets(
         alloc: Global,
         octets: &[u8],
@@ -116,7 +116,7 @@ impl Long {
     }
 
     /// The same bits again.
-    #[tactic(auto, using(crate::proofs::Kept::keeping))]
+    #[tactic(auto, using(crate::proofs::OctetsKept::keeping))]
     pub(crate) fn copy(&self, alloc: Global) -> Result<Long, AllocError>
         ensures { IfOk result (λ b. b ≡ self.now) }
     {
@@ -128,7 +128,7 @@ impl Long {
     }
 
     /// The octets that hold the bits, borrowed.
-    #[tactic(auto, using(crate::proofs::Kept::keeping))]
+    #[tactic(auto, using(crate::proofs::OctetsKept::keeping))]
     pub(crate) fn as_octets(&self) -> &[u8]
         ensures { Holds result.now self.now }
     {
@@ -149,7 +149,7 @@ impl Long {
 
     /// The number of so many bits from a place on, or `None` where they are more than 64 or not there.
     #[inline(never)]
-    #[tactic(auto, using(crate::proofs::Kept::numbers))]
+    #[tactic(auto, using(crate::proofs::OctetsKept::numbers))]
     pub(crate) fn number_at(&self, place: usize, count: usize) -> Option<u64>
         requires { place ≤ length self.now }
         ensures { SomeIff result ((count ≤ 64) × (place + count ≤ length self.now)) (num (slice_range self.now place (place + count))) }
@@ -161,7 +161,7 @@ impl Long {
     }
 
     /// The number of up to eight bits from a place on.
-    #[tactic(auto, using(crate::proofs::Kept::numbers))]
+    #[tactic(auto, using(crate::proofs::OctetsKept::numbers))]
     pub(crate) fn narrow_number_at(&self, place: usize, count: usize) -> u64
         requires most { count ≤ 8 }
         requires within { place + count ≤ length self.now }
@@ -172,7 +172,7 @@ impl Long {
 
     /// The bits from one place up to another, which is left out, or `None` where the first is above the second or the
     /// second is above the count of bits.
-    #[tactic(auto, using(crate::proofs::Kept::cutting))]
+    #[tactic(auto, using(crate::proofs::OctetsKept::cutting))]
     pub(crate) fn slice(
         &self,
         alloc: Global,
@@ -212,7 +212,7 @@ impl PartialEq for Long {
 
 /// Adds octets after the first bits of the last octet, up to so many octets, or changes nothing; `used` is how many these
 /// bits are, or 0 where the last octet is full.
-#[tactic(auto, using(crate::proofs::Windows::join_even))]
+#[tactic(auto, using(crate::proofs::NumberWindows::join_even))]
 fn join(
     into: &mut SmallVec<u8, 8>,
     used: usize,
@@ -240,7 +240,7 @@ fn join(
 }
 
 /// Whether zero bits alone follow so many bits.
-#[tactic(auto, using(crate::proofs::Kept::ends_even))]
+#[tactic(auto, using(crate::proofs::OctetsKept::ends_even))]
 fn ends_in_zeros(octets: &[u8], count: usize) -> bool
     requires { length octets.now ≡ (count + 7) / 8 }
     ensures { IsTrue result ↔ Holds octets.now (take count (bits_of octets.now)) }
@@ -274,7 +274,7 @@ fn cut(
 }
 
 /// The first bits of an octet, zero bits after them.
-#[tactic(auto, using(crate::proofs::Windows::octets))]
+#[tactic(auto, using(crate::proofs::NumberWindows::octets))]
 fn front_of(octet: u8, over: usize) -> u8
     requires { over ≤ 8 }
     ensures { enc 8 result ≡ take over (enc 8 octet) ++ replicate (8 - over) false }
@@ -304,7 +304,7 @@ fn gather(into: &mut SmallVec<u8, 8>, octets: &[u8], start: usize, many: usize)
 }
 
 /// The octet of the eight bits from a place on, where zero bits follow the last.
-#[tactic(auto, using(crate::proofs::Windows::octets))]
+#[tactic(auto, using(crate::proofs::NumberWindows::octets))]
 fn octet_at(octets: &[u8], start: usize) -> u8
     requires within { start ≤ 8 * length octets.now }
     requires small { start < 2 ^ 32 }
@@ -327,7 +327,7 @@ fn octet_or_zero(octets: &[u8], place: usize) -> u8
 }
 
 /// The octets of the bits of that count which spell the number.
-#[tactic(auto, using(crate::proofs::Windows::spelling))]
+#[tactic(auto, using(crate::proofs::NumberWindows::spelling))]
 fn spell(alloc: Global, len: usize, value: u64) -> SmallVec<u8, 8>
     requires most { len ≤ 64 }
     requires below { value < 2 ^ len }
@@ -343,7 +343,7 @@ fn spell(alloc: Global, len: usize, value: u64) -> SmallVec<u8, 8>
 }
 
 /// The number of up to eight bits from a place on: two octets are looked at, whatever the place.
-#[tactic(auto, using(crate::proofs::Windows::octets))]
+#[tactic(auto, using(crate::proofs::NumberWindows::octets))]
 fn narrow_number(octets: &[u8], place: usize, count: usize) -> u64
     requires most { count ≤ 8 }
     requires within { place + count ≤ 8 * length octets.now }
@@ -354,7 +354,7 @@ fn narrow_number(octets: &[u8], place: usize, count: usize) -> u64
 }
 
 /// The number of so many bits from a place on.
-#[tactic(auto, using(crate::proofs::Windows::numbering))]
+#[tactic(auto, using(crate::proofs::NumberWindows::numbering))]
 fn number(octets: &[u8], place: usize, count: usize) -> u64
     requires most { count ≤ 64 }
     requires within { place + count ≤ 8 * length octets.now }
@@ -372,7 +372,7 @@ fn number(octets: &[u8], place: usize, count: usize) -> u64
 }
 
 /// The number that up to nine octets spell, first octet highest.
-#[tactic(auto, using(crate::proofs::Windows::numbering))]
+#[tactic(auto, using(crate::proofs::NumberWindows::numbering))]
 fn wide_word_of(octets: &[u8]) -> u128
     requires { length octets.now ≤ 9 }
     ensures value { result ≡ num (bits_of octets.now) }

@@ -43,7 +43,7 @@ pub(crate) fn octet_of(word: u64, count: usize, place: usize) -> u8
 }
 
 /// The octets of the bits, with zero bits after them.
-pub(crate) fn octets_of(word: u64, count: usize) -> [u8; 8]
+pub fn octets_of(word: u64, count: usize) -> [u8; 8]
     requires most { count ≤ 64 }
     requires below { word < 2 ^ count }
     ensures { Holds (take ((count + 7) / 8) result) (enc count word) }
@@ -73,7 +73,7 @@ pub(crate) fn low_bits(word: u64, count: usize) -> u64
 }
 
 /// The number that up to eight octets spell, first octet highest.
-#[tactic(auto, using(crate::proofs::Windows::numbering))]
+#[tactic(auto, using(crate::proofs::NumberWindows::numbering))]
 pub(crate) fn word_of(octets: &[u8]) -> u64
     requires { length octets.now ≤ 8 }
     ensures { result ≡ num (bits_of octets.now) }

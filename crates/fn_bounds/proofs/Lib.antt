@@ -1,5 +1,5 @@
-pub mod Places
-pub mod Folding
-pub mod Faultless
-pub mod Ruling
-pub mod Widening
+pub mod PassesPlaces
+pub mod FaultsFolding
+pub mod FaultsFaultless
+pub mod FieldsRuling
+pub mod ParametersWidening

@@ -1,8 +1,8 @@
 pub mod Marking
-pub mod Work
-pub mod Ranks
-pub mod Pushing
-pub mod Backward
+pub mod CallsWork
+pub mod CallsRanks
+pub mod OrderPushing
+pub mod OrderBackward
 pub mod Ordered
-pub mod Filling
+pub mod MeasuresFilling
 pub mod Measuring

@@ -5,7 +5,7 @@ use Rattle.std.proofs.lemmas.List.Sums.{sum_by-cons}
 use Rattle.std.proofs.lemmas.Grind.{common_steps}
 use Rattle.fn_calls.specs.Order.{IsOrder}
 use Rattle.fn_calls.specs.Measures.{number_at, greatest_by, field_weight, format_weight, weight_by, weight_cap, FieldCalls, AreWeights}
-use Rattle.fn_calls.proofs.Filling.{IsLocal, Filled, filled_more, filled_all, filled_none}
+use Rattle.fn_calls.proofs.MeasuresFilling.{IsLocal, Filled, filled_more, filled_all, filled_none}
 
 pub greatest_same : {X : Type 0} (f g : X → ℕ) (xs : List X) → ((k : ℕ) (x : X) → slice_get xs k ≡ Some x → f x ≡ g x) → greatest_by f xs ≡ greatest_by g xs
 greatest_same f g [] same = refl

@@ -10,7 +10,7 @@ use Rattle.fn_rules.specs.Counts.{entry_ways, entry_at}
 use Rattle.fn_candidates.specs.Codes.{Shown, show, code, number, plan_code, plan_number, ways_before, write_plan}
 use Rattle.fn_candidates.specs.Example as e
 use Rattle.fn_candidates.specs.Example.{ExampleIsNumbered}
-use Rattle.fn_candidates.proofs.Levels.{code_is, number_is}
+use Rattle.fn_candidates.proofs.CodesLevels.{code_is, number_is}
 
 given : {A : Type 0} (P : A → Type 0) (x d : A) → Some x ≡ Some d → P x → P d
 given P x d e p = let same : x ≡ d = cc in subst P same p

@@ -21,7 +21,7 @@ use Rattle.fn_filling.specs.declared.filling.Filling.{Filling}
 use Rattle.fn_filling.specs.Fillings.{is_header}
 use Rattle.fn_bounds.specs.Fields.{lists}
 use Rattle.fn_bounds.specs.HasBounds.{size_of}
-use Rattle.fn_fits.proofs.Sized.{and_then_some, map_some}
+use Rattle.fn_fits.proofs.FitsSized.{and_then_some, map_some}
 use Rattle.fn_cert.specs.declared.certificate.Step.{Step}
 use Rattle.fn_cert.specs.declared.certificate.Step.TheVariants.{Take, Call, LibraryUp, LibraryDown, MethodLength, ConstraintLength, Solve, Choose, Ask}
 use Rattle.fn_cert.specs.declared.rule.Fact.{Fact}
@@ -34,11 +34,11 @@ use Rattle.fn_rules.specs.Reading.{start_slots}
 use Rattle.fn_cert.specs.declared.certificate.Version.TheVariants.{Two}
 use Rattle.fn_normal.specs.declared.profile.FormatSizes.{FormatSizes}
 use Rattle.fn_expr.specs.declared.expr.Expr.{Expr}
-use Rattle.fn_rules.proofs.Constraints.{given_cases}
+use Rattle.fn_rules.proofs.RulesConstraints.{given_cases}
 use Rattle.fn_rules.specs.Rules.{up_needs, down_needs, size_inputs, length_needs, by_library, length_given, value_given, rule, Congruence, remainder_given, by_equation, by_remainder, by_value, common_rule}
 use Rattle.fn_rules.specs.Slots.{has_bits, learnt_at, calls_at, is_there, slot_inner, knows, knows_all, Grows}
-use Rattle.fn_rules.proofs.Agree.{and_true, same_is}
-use Rattle.fn_rules.proofs.Growing.{grown_know, start_knows}
+use Rattle.fn_rules.proofs.ViewsAgree.{and_true, same_is}
+use Rattle.fn_rules.proofs.SlotsGrowing.{grown_know, start_knows}
 use Rattle.fn_candidates.specs.Knowing.{writer_knows, writer_knows_all, StartKnown, NeedsKnown, GrownKnow, CommonKnown}
 
 pub both_true : (a b : Bool) → a ≡ true → b ≡ true → (a && b) ≡ true

@@ -18,9 +18,9 @@ use Rattle.fn_candidates.specs.Codes.{number}
 use Rattle.fn_candidates.specs.Best.{Best}
 use Rattle.fn_candidates.specs.Packing.{NoneBelow}
 use Rattle.fn_candidates.specs.Laws.{PackStarts, PackPasses}
-use Rattle.fn_candidates.proofs.Bounds.{below}
-use Rattle.fn_candidates.proofs.Compares.{first_is_best}
-use Rattle.fn_candidates.proofs.Fitting.{is_candidate}
+use Rattle.fn_candidates.proofs.CodesBounds.{below}
+use Rattle.fn_candidates.proofs.CodesCompares.{first_is_best}
+use Rattle.fn_candidates.proofs.CodesFitting.{is_candidate}
 
 pub starts : PackStarts
 starts methods cert counts top ctx it g fitting has = omega arith

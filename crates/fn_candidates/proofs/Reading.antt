@@ -14,10 +14,10 @@ use Rattle.fn_cert.specs.Kept.{Entries}
 use Rattle.fn_rules.specs.Counts.{ways, plan_ways, AreCounts}
 use Rattle.fn_candidates.specs.Codes.{Shown, step_digit, place, write_plan, ways_before, number, numbers_in, called_at, IsCandidate}
 use Rattle.fn_candidates.specs.Digits.{HasRead, InSpan, AllRead}
-use Rattle.fn_candidates.proofs.Sums.{before_next, place_below}
-use Rattle.fn_candidates.proofs.Bounds.{parts, digits, number_by, shown_is}
-use Rattle.fn_candidates.proofs.Levels.{inner_shown}
-use Rattle.fn_candidates.proofs.Fitting.{bits_are}
+use Rattle.fn_candidates.proofs.CodesSums.{before_next, place_below}
+use Rattle.fn_candidates.proofs.CodesBounds.{parts, digits, number_by, shown_is}
+use Rattle.fn_candidates.proofs.CodesLevels.{inner_shown}
+use Rattle.fn_candidates.proofs.CodesFitting.{bits_are}
 use Rattle.fn_bits.specs.Number.{num}
 use Rattle.fn_expr.specs.declared.expr.Side.TheVariants.{Uncompressed}
 use Rattle.fn_filling.specs.Fillings.{fields_of, inner_at, level}

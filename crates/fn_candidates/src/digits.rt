@@ -41,7 +41,7 @@ pub fn start_of(spans: &[u64], number: u64) -> Option<Start>
 
 impl Digits {
     /// The digit of the next step, which goes on in `radix` ways. The first digit is the slowest.
-    #[tactic(auto, using(crate::proofs::Splitting::next_carries))]
+    #[tactic(auto, using(crate::proofs::ReadingSplitting::next_carries))]
     pub fn next(&mut self, radix: u64) -> u64
         requires within { self.old.rest < self.old.span }
         requires divides { Divides radix self.old.span }

@@ -29,9 +29,9 @@ use Rattle.fn_cert.specs.Kept.{Entries, Certified, IsNodeKept, IsStepKept, ArePl
 use Rattle.fn_cert.specs.Of.{field_names, IsStepOf, IsNodeOf, IsFormatOf, IsMethodOf, IsEntryOf, IsWord}
 use Rattle.fn_cert_text.specs.Text.{name_of, name_at, first_names, version_word, format_name, side_word, step_words, step_line, node_line, plans_lines, format_lines, method_lines, certificate_lines, spelled}
 use Rattle.fn_cert.specs.Steps.{field_of}
-use Rattle.fn_cert_text.proofs.Numerals.{both_true}
-use Rattle.fn_cert_text.proofs.Spaces.{Lacks, Lacks-append, All-Lacks, word_lacks, decimal_lacks, signed_lacks}
-use Rattle.fn_cert_text.proofs.Accepting.{IsReadable, IsReadableMethod, AreReadable, first_field, first_named, found_at, zip_at}
+use Rattle.fn_cert_text.proofs.DraftsNumerals.{both_true}
+use Rattle.fn_cert_text.proofs.DraftsSpaces.{Lacks, Lacks-append, All-Lacks, word_lacks, decimal_lacks, signed_lacks}
+use Rattle.fn_cert_text.proofs.DraftsAccepting.{IsReadable, IsReadableMethod, AreReadable, first_field, first_named, found_at, zip_at}
 use Rattle.fn_cert_text.proofs.Telling.{all_append}
 
 -- an octet below those of a text is not in it

@@ -15,7 +15,7 @@ use Rattle.fn_cert_text.specs.Drafts.{number_below, constant_of}
 use Rattle.fn_cert.specs.Kept.{offset_limit}
 use Rattle.fn_cert_text.specs.Shapes.{line_fault, number_fault, referring_fault, reference_fault}
 use Rattle.fn_cert_text.specs.Table.{Kind, exactly, either, an_offset, a_constant, a_constraint, a_method, a_format, a_parameter, a_reference, a_field, Row, first_row, method_row, bit_row, param_row, ref_row, leaf_row, none_row, format_row, read_row, write_row, take_row, call_row, library_row, length_row, length_by_row, solve_row, choose_row, ask_row, end_row, kinds, has_leading_zero, is_number, is_signed, LooksLike, IsBelow, IsConstant, IsInRange, HasShape}
-use Rattle.fn_cert_text.proofs.Numerals.{both_true, below_some, below_means, constant_some, constant_means}
+use Rattle.fn_cert_text.proofs.DraftsNumerals.{both_true, below_some, below_means, constant_some, constant_means}
 
 -- ---- words by their kinds
 

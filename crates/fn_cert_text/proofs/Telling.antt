@@ -21,7 +21,7 @@ use Rattle.fn_cert_text.specs.Drafts.{blank, blanks, at, close_format_at, close_
 use Rattle.fn_cert.specs.Kept.{Entries, IsNodeKept, IsNodeIn, IsStepKept, ArePlansKept, AreFormatsKept, IsMethodKept, are_trees, depths, node_limit, depth_limit, step_limit}
 use Rattle.fn_cert.specs.Of.{field_names, IsStepOf, IsNodeOf, IsFormatOf, ArePlansOf, IsMethodOf, IsEntryOf, IsOf}
 use Rattle.fn_cert_text.specs.Text.{name_of, name_at, first_names, version_word, format_name, step_line, node_line, format_lines, method_lines}
-use Rattle.fn_cert_text.proofs.Accepting.{st, take_front, drop_front}
+use Rattle.fn_cert_text.proofs.DraftsAccepting.{st, take_front, drop_front}
 
 -- ---- lists
 

@@ -10,7 +10,7 @@ use std::alloc::{AllocError, Global};
 
 /// The text of a certificate: its version, of each method that it names the tree and of each format that it names there the plans, and `end`, each
 /// line with a line feed. A name that the certificate doesn't have is printed as `-`.
-#[tactic(auto, using(crate::proofs::Lines::whole_spelled))]
+#[tactic(auto, using(crate::proofs::TextLines::whole_spelled))]
 pub fn print(alloc: Global, certificate: &Certificate) -> Result<String, AllocError>
     ensures { IfOk result (λ text. string_bytes text ≡ spec.certificate_text certificate.now) }
 {
@@ -50,7 +50,7 @@ fn entry_text(alloc: Global, method: &Option<MethodPlans>) -> Result<String, All
     }
 }
 
-#[tactic(auto, using(crate::proofs::Lines::method_spelled))]
+#[tactic(auto, using(crate::proofs::TextLines::method_spelled))]
 fn method_text(alloc: Global, method: &MethodPlans) -> Result<String, AllocError>
     ensures { IfOk result (λ text. string_bytes text ≡ spec.spelled (spec.method_lines (Some method.now))) }
 {
@@ -74,7 +74,7 @@ fn nodes_text(alloc: Global, method: &MethodPlans) -> Result<String, AllocError>
     Ok(output)
 }
 
-#[tactic(auto, using(crate::proofs::Lines::texts_joined))]
+#[tactic(auto, using(crate::proofs::TextLines::texts_joined))]
 fn node_text(alloc: Global, method: &MethodPlans, node: Node) -> Result<String, AllocError>
     ensures { IfOk result (λ text. string_bytes text ≡ spec.ended (spec.node_line method.now node)) }
 {
@@ -162,7 +162,7 @@ fn format_text(alloc: Global, format: &FormatPlans) -> Result<String, AllocError
     }
 }
 
-#[tactic(auto, using(crate::proofs::Lines::plans_spelled))]
+#[tactic(auto, using(crate::proofs::TextLines::plans_spelled))]
 fn plans_text(
     alloc: Global,
     name: &str,
@@ -190,7 +190,7 @@ fn steps_text(alloc: Global, fields: &[Name], steps: &[Step]) -> Result<String, 
 }
 
 /// A step, by the name of its field.
-#[tactic(auto, using(crate::proofs::Lines::texts_joined))]
+#[tactic(auto, using(crate::proofs::TextLines::texts_joined))]
 fn step_text(alloc: Global, name: &str, step: Step) -> Result<String, AllocError>
     ensures { IfOk result (λ text. string_bytes text ≡ spec.ended (spec.step_words name.now step)) }
 {

@@ -1,4 +1,4 @@
-pub mod Overrides
-pub mod Lines
+pub mod EntriesOverrides
+pub mod TextLines
 pub mod Paths
-pub mod Readings
+pub mod EntriesReadings

@@ -11,7 +11,7 @@ use Rattle.fn_expr.specs.Rules.{from_to, is_limited, rule, refuses}
 use Rattle.fn_expr.specs.Ranged.{Bounding, ranged, limited, joined, both_ranged, above_limit, refused_power}
 use Rattle.fn_expr.specs.Laws.{HasRange, number_range, parameter_range, attribute_range, operator_range}
 use Rattle.fn_expr.specs.Laws.{HasFault, number_fault, parameter_fault, attribute_fault, left_fault, right_fault, power_fault, limit_fault}
-use Rattle.fn_expr.proofs.Parts.{Outcome, both_are_ranged, limited_is, limited_ok, limited_err, joined_is, joined_ok, joined_err, joined_refused}
+use Rattle.fn_expr.proofs.RulesParts.{Outcome, both_are_ranged, limited_is, limited_ok, limited_err, joined_is, joined_ok, joined_err, joined_refused}
 
 leaf_fault : (b : Bool) (s : Span) (i : Interval) (f : RangeFault) → is_limited i ≡ b → limited s i ≡ Err f → (is_limited i ≡ false) × (above_limit s ≡ f)
 leaf_fault true s i f e h = let own = limited_ok s i e in absurd (cc)

@@ -1,4 +1,4 @@
-pub mod Levels
-pub mod Unique
-pub mod Induction
-pub mod Packed
+pub mod EntriesLevels
+pub mod FillingsUnique
+pub mod FillingsInduction
+pub mod FillingsPacked

@@ -35,19 +35,19 @@ use Rattle.fn_bounds.specs.Fields.{lists, field_sizes}
 use Rattle.fn_bounds.specs.Formats.{format_sizes}
 use Rattle.fn_bounds.specs.HasBounds.{Lower, Upper, least_of_all, least_sized, least_called, least_bracket, most_unlisted, most_bare, most_unsent, most_missing, most_empty, most_of_all, most_sized, most_called, most_bracket, HasBounds}
 use Rattle.fn_bounds.specs.Outcome.{AreSizes, FormatAt}
-use Rattle.fn_bounds.proofs.Ruling.{there, format-is, by-rules}
-use Rattle.fn_bounds.proofs.Places.{indexed-length}
+use Rattle.fn_bounds.proofs.FieldsRuling.{there, format-is, by-rules}
+use Rattle.fn_bounds.proofs.PassesPlaces.{indexed-length}
 use Rattle.fn_filling.specs.declared.filling.Filling.{Filling, out-Filling}
 use Rattle.fn_filling.specs.declared.filling.FilledField.{FilledField}
 use Rattle.fn_filling.specs.Fillings.{Sides, sides_of, fields_of, level, header, packed, packed_bits}
 use Rattle.fn_filling.specs.Entries.{Path, below}
-use Rattle.fn_filling.proofs.Unique.{also_at}
+use Rattle.fn_filling.proofs.FillingsUnique.{also_at}
 use Rattle.fn_fits.specs.Fits.{Context, Fits, FieldFits, LevelFits, format_at, side_of, field_side, assigned, reference_of}
 use Rattle.fn_fits.specs.Fits as fit
 use Rattle.fn_fits.specs.Bounded.{LiesBetween, SidesLie, LengthsLie, LengthsLieInBounds}
-use Rattle.fn_fits.proofs.Sized.{end_of, one_value, Sized, sized, and_then_some}
-use Rattle.fn_fits.proofs.Inverted.{bare_parts, coded_parts, length-level, length-fields}
-use Rattle.fn_fits.proofs.Sums.{header_low, header_high, piece, bound_at, packed_low, packed_high}
+use Rattle.fn_fits.proofs.FitsSized.{end_of, one_value, Sized, sized, and_then_some}
+use Rattle.fn_fits.proofs.FitsInverted.{bare_parts, coded_parts, length-level, length-fields}
+use Rattle.fn_fits.proofs.BoundedSums.{header_low, header_high, piece, bound_at, packed_low, packed_high}
 
 -- ---- constants
 

@@ -9,7 +9,7 @@ use Rattle.fn_filling.specs.Fillings.{packed}
 use Rattle.fn_fits.specs.Bounded.{SidesAreShort}
 use Rattle.fn_fits.specs.Laws.{ReadsBack}
 use Rattle.fn_fits.proofs.Bounding.{placed, lie-in-bounds}
-use Rattle.fn_fits.proofs.Inverted.{parts}
+use Rattle.fn_fits.proofs.FitsInverted.{parts}
 
 pub reads_back : ReadsBack
 reads_back methods k args path d ctx f g rest fit h = d ctx (packed f ++ rest) g f h (record { fits = fit; rest = rest; front = refl })

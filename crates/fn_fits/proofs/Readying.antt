@@ -21,7 +21,7 @@ use Rattle.fn_expr.specs.Bounds.{every}
 use Rattle.fn_expr.specs.Rules.{IsIn}
 use Rattle.std.specs.Option.{unwrap_or}
 use Rattle.fn_bits.specs.Number.{num}
-use Rattle.fn_expr.proofs.Agreement.{same_value, same_truth}
+use Rattle.fn_expr.proofs.InputsAgreement.{same_value, same_truth}
 use Rattle.fn_normal.specs.declared.profile.Bounds.{Bounds}
 use Rattle.fn_normal.specs.declared.profile.Sizes.{Sizes}
 use Rattle.fn_normal.specs.declared.profile.FormatSizes.{FormatSizes}
@@ -42,7 +42,7 @@ use Rattle.fn_filling.specs.Fillings.{Sides, level, listing_of, header, packed, 
 use Rattle.fn_fits.specs.Fits.{side_of, field_side, assigned, IsShaped, vals}
 use Rattle.fn_fits.specs.Fits as fits
 use Rattle.fn_fits.specs.Bounded.{LiesBetween, SidesLie, LengthsLie, ArgumentsLie}
-use Rattle.fn_fits.proofs.Values.{vals_length, vals_at}
+use Rattle.fn_fits.proofs.FitsValues.{vals_length, vals_at}
 use Rattle.fn_fits.specs.Numbers.{numbers, numbers_of, known_level}
 use Rattle.fn_fits.specs.Level.{Evaluates}
 

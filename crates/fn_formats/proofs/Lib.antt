@@ -1,7 +1,7 @@
-pub mod Gathering
-pub mod Numbering
+pub mod EncodingsGathering
+pub mod ConstraintsNumbering
 pub mod Wording
-pub mod Staying
-pub mod Keeping
-pub mod Hiding
-pub mod Joining
+pub mod KeptStaying
+pub mod KeptLemmas
+pub mod ConstraintsHiding
+pub mod FieldsJoining

@@ -10,7 +10,7 @@ use Rattle.fn_tree.specs.declared.tree.Section.{Section}
 use Rattle.fn_normal.specs.Words.{word, with_word}
 use Rattle.fn_terms.specs.Names.{Names}
 use Rattle.fn_given.specs.Asked.{only_length, IsAsked, is_asked, IsNotAsked, no_constant, enforced, AreAsked, asks, asks_none, Asks, FieldAsks, field_asked, field_valueless, field_enforced, AskedOn, control_items, control_part, is_control}
-use Rattle.fn_given.proofs.Fronts.{lists_taken}
+use Rattle.fn_given.proofs.InitialFronts.{lists_taken}
 use Rattle.fn_normal.proofs.Loops.{taken}
 
 -- what is found for a field is found for its statement

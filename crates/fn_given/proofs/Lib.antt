@@ -1,5 +1,5 @@
-pub mod Lookups
-pub mod Fronts
-pub mod BoundsRead
+pub mod AskingLookups
+pub mod InitialFronts
+pub mod InitialsBoundsRead
 pub mod ItemsAsked
-pub mod FaultOrder
+pub mod InitialsFaultOrder

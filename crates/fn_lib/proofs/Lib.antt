@@ -1,6 +1,6 @@
-pub mod Spelling
-pub mod Moduli
-pub mod Starts
-pub mod Lasts
-pub mod Registers
-pub mod Solutions
+pub mod MethodsSpelling
+pub mod LsbModuli
+pub mod LsbStarts
+pub mod MethodsLasts
+pub mod CrcRegisters
+pub mod MethodsSolutions

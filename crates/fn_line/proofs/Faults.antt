@@ -5,11 +5,11 @@ use Rattle.std.proofs.lemmas.List.{append_cancel_left}
 use Rattle.std.proofs.lemmas.Option.{slice_get_within}
 use Rattle.fn_bits.specs.Octets.{bits_of}
 use Rattle.fn_bits.proofs.Octets.{length-bits_of}
-use Rattle.fn_bits.proofs.Held.{split_same}
+use Rattle.fn_bits.proofs.OctetsHeld.{split_same}
 use Rattle.fn_context.specs.Entries.{Entries, bits_at}
 use Rattle.fn_filling.specs.Fillings.{packed}
 use Rattle.fn_fits.specs.Fronts.{Det}
-use Rattle.fn_fits.proofs.Sized.{one_value}
+use Rattle.fn_fits.proofs.FitsSized.{one_value}
 use Rattle.fn_accepted.specs.Accepted.{Accepting}
 use Rattle.fn_engine.specs.Reading.{Fronts}
 use Rattle.fn_line.specs.Lines.{Contexts}
@@ -17,8 +17,8 @@ use Rattle.fn_line.specs.Hearing.{Found, Whole, Heard, IsRefused, IsBadlyFilled,
 use Rattle.fn_line.specs.Laws.{NoFault}
 use Rattle.fn_line.specs.declared.fault.LineFault.{LineFault}
 use Rattle.fn_line.specs.declared.fault.LineFault.TheVariants.{FlowOctet, RefusedPacket, Padding, Ended, OutOfMemory}
-use Rattle.fn_line.proofs.Octets.{bits_of-append, count_held, front_held}
-use Rattle.fn_line.proofs.Cases.{PacketParts, ResetParts, whole_parts, whole_once}
+use Rattle.fn_line.proofs.HearingOctets.{bits_of-append, count_held, front_held}
+use Rattle.fn_line.proofs.HearingCases.{PacketParts, ResetParts, whole_parts, whole_once}
 
 -- the first octet of a whole packet or reset is below twice the number of flows
 first_below : (p : Accepting) (s t : Contexts) (one x : List ℕ) (here : Found) (octet : ℕ) (after : List ℕ) → Whole p s one here t → one ++ x ≡ octet ∷ after → octet < length s + length s

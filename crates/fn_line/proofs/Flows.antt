@@ -4,15 +4,15 @@ use Rattle.std.specs.Prelude.{slice_get, slice_set, Some, None, filter, ◌==◌
 use Rattle.std.proofs.lemmas.List.{length-set}
 use Rattle.std.proofs.lemmas.Bool.Decides.{eqb_tells}
 use Rattle.fn_bits.specs.Octets.{Holds}
-use Rattle.fn_bits.proofs.Held.{octets_same}
+use Rattle.fn_bits.proofs.OctetsHeld.{octets_same}
 use Rattle.fn_context.specs.Entries.{Entries, bits_at}
 use Rattle.fn_filling.specs.declared.filling.Filling.{Filling}
 use Rattle.fn_filling.specs.declared.filling.Item.{Item}
 use Rattle.fn_filling.specs.Fillings.{packed}
 use Rattle.fn_filling.specs.Entries.{next}
-use Rattle.fn_fits.proofs.Sized.{one_value}
+use Rattle.fn_fits.proofs.FitsSized.{one_value}
 use Rattle.fn_accepted.specs.Accepted.{Accepting}
-use Rattle.fn_candidates.proofs.Order.{best_is_one}
+use Rattle.fn_candidates.proofs.BestOrder.{best_is_one}
 use Rattle.fn_line.specs.Lines.{Contexts, IsBest, Act, Event, Packet, Puts, Line, Alone, sent, emptied, ended, puts_on, stopped, acts_on, octets_of, acts_of, packets_of}
 use Rattle.fn_line.specs.Lines.Act.{Send, Reset}
 use Rattle.fn_line.specs.Hearing.{Whole, packet, reset, nothing, waits, goes_on}

@@ -6,7 +6,7 @@ use Rattle.fn_accepted.specs.Accepted.{Accepting}
 use Rattle.fn_line.specs.Lines.{Contexts}
 use Rattle.fn_line.specs.Hearing.{Found, Heard, waits, goes_on}
 use Rattle.fn_line.specs.Laws.{HeardJoin, HeardOnce, IsSame}
-use Rattle.fn_line.proofs.Cases.{whole_once, never_part}
+use Rattle.fn_line.proofs.HearingCases.{whole_once, never_part}
 
 pub heard_join : HeardJoin
 heard_join p s t u all more rest last found later (waits part) h = h

@@ -1,6 +1,6 @@
-pub mod Fitting
-pub mod Dead
-pub mod First
-pub mod Apart
-pub mod Standing
+pub mod ObstaclesFitting
+pub mod ObstaclesDead
+pub mod LengthsFirst
+pub mod NeverApart
+pub mod ObstaclesStanding
 pub mod Listed

@@ -1,3 +1,3 @@
-pub mod Leading
-pub mod Sections
-pub mod Parts
+pub mod ListingLeading
+pub mod DefaultsSections
+pub mod ListingParts

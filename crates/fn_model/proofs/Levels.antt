@@ -20,10 +20,10 @@ use Rattle.fn_bounds.specs.Fields.{lists, where_listed, encoding_sizes, encoded_
 use Rattle.fn_bounds.specs.Ranging.{format_ranges}
 use Rattle.fn_bounds.specs.Laws.{in_bracket}
 use Rattle.fn_bounds.specs.Outcome.{FormatAt}
-use Rattle.fn_bounds.proofs.Places.{indexed-length}
-use Rattle.fn_bounds.proofs.Ruling.{by-rules, there, field-is, format-is}
-use Rattle.fn_bounds.proofs.Faultless.{faultless}
-use Rattle.fn_bounds.proofs.Widening.{lie-in-parameters}
+use Rattle.fn_bounds.proofs.PassesPlaces.{indexed-length}
+use Rattle.fn_bounds.proofs.FieldsRuling.{by-rules, there, field-is, format-is}
+use Rattle.fn_bounds.proofs.FaultsFaultless.{faultless}
+use Rattle.fn_bounds.proofs.ParametersWidening.{lie-in-parameters}
 use Rattle.fn_profile.specs.Resolved.{Resolved, IsSound}
 use Rattle.fn_filling.specs.declared.filling.Filling.{Filling, out-Filling}
 use Rattle.fn_filling.specs.Fillings.{Sides, level, listing_of}
@@ -32,10 +32,10 @@ use Rattle.fn_fits.specs.Bounded.{LengthsLie}
 use Rattle.fn_fits.specs.Numbers.{known_level}
 use Rattle.fn_fits.specs.Level.{Evaluates, ConstraintRanged}
 use Rattle.fn_fits.specs.Ready.{IsReady, IsPlace, HasLevel, ArgumentsLieAt}
-use Rattle.fn_fits.proofs.Lying.{AreSmall, known_lies}
+use Rattle.fn_fits.proofs.NumbersLying.{AreSmall, known_lies}
 use Rattle.fn_fits.proofs.Readying.{evaluates, call_lies}
-use Rattle.fn_fits.proofs.Judged.{Placed, placed, Sized, sized}
-use Rattle.fn_fits.proofs.Limits.{at_level, whole_small}
+use Rattle.fn_fits.proofs.FitsJudged.{Placed, placed, Sized, sized}
+use Rattle.fn_fits.proofs.FitsLimits.{at_level, whole_small}
 
 length_of_map : {A B : Type 0} (g : A → B) (xs : List A) → length (map g xs) ≡ length xs
 length_of_map g [] = refl

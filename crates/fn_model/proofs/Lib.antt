@@ -1,5 +1,5 @@
-pub mod Shapes
+pub mod ShapeLemmas
 pub mod Levels
-pub mod Fields
-pub mod Alike
-pub mod Seeing
+pub mod HoldingFields
+pub mod HoldingAlike
+pub mod NumbersSeeing

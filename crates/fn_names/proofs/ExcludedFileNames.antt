@@ -37,9 +37,9 @@ use Rattle.fn_names.specs.FileNames.{HeadCause}
 use Rattle.fn_names.specs.Parts.{as_constant, as_method, constants_of, methods_of, constant_names, method_names}
 use Rattle.fn_names.specs.Twice.{AreDistinct, Twice, constant_twice, method_twice, library_twice}
 use Rattle.fn_names.proofs.KnownParts.{both_right}
-use Rattle.fn_names.proofs.Mentioned.{get_left, once_distinct}
+use Rattle.fn_names.proofs.MethodsMentioned.{get_left, once_distinct}
 use Rattle.fn_names.proofs.PlainForms.{front, front_of, same_front, same_last, values_one, wanted_none, owner_known, both_none}
-use Rattle.fn_names.proofs.TreeValues.{Outcome, meant}
+use Rattle.fn_names.proofs.MethodsTreeValues.{Outcome, meant}
 
 -- ---- names
 

@@ -1,4 +1,4 @@
-pub mod Judgements
+pub mod JudgingLemmas
 pub mod Loops
-pub mod Tables
-pub mod Spelled
+pub mod WordsTables
+pub mod NameSpelled

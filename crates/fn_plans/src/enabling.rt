@@ -67,7 +67,7 @@ fn lacking_one(known: &Knowledge, fact: Fact) -> Option<Fact>
 }
 
 /// What of the inputs of the expression isn't known.
-#[tactic(auto, using(crate::proofs::Unknown::joined_some, crate::proofs::Unknown::joined_none))]
+#[tactic(auto, using(crate::proofs::NeedingUnknown::joined_some, crate::proofs::NeedingUnknown::joined_none))]
 fn lacking_inputs(
     known: &Knowledge,
     format: &Format,

@@ -1,9 +1,9 @@
-pub mod Ordered
-pub mod Pinned
-pub mod Known
+pub mod PlacesOrdered
+pub mod ToldPinned
+pub mod ToldKnown
 pub mod Numbered
-pub mod True
-pub mod Making
-pub mod Arms
-pub mod Valueless
-pub mod Measured
+pub mod ReasonsTrue
+pub mod ReasonsMaking
+pub mod AcrossArms
+pub mod UndefinedValueless
+pub mod ToldMeasured

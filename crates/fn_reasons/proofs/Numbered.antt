@@ -16,10 +16,10 @@ use Rattle.fn_expr.specs.Rules.{IsIn}
 use Rattle.fn_filling.specs.Fillings.{Sides}
 use Rattle.fn_fits.specs.Fits.{field_side}
 use Rattle.fn_fits.specs.Numbers.{numbers, numbers_of}
-use Rattle.fn_fits.proofs.Sized.{map_some, and_then_some}
+use Rattle.fn_fits.proofs.FitsSized.{map_some, and_then_some}
 use Rattle.fn_reasons.specs.Told.{fields_from, joined, seen_at, seen_intervals, seen_numbers, only_number}
 use Rattle.fn_reasons.specs.declared.sight.Sight.{Sight}
-use Rattle.fn_reasons.proofs.Ordered.{piece}
+use Rattle.fn_reasons.proofs.PlacesOrdered.{piece}
 
 itself : (v : ℤ) → IsIn (record { from = v; to = v }) v
 itself v = record { above = omega (arith, ints); below = omega (arith, ints) }

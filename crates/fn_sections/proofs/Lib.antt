@@ -1,7 +1,7 @@
 pub mod Tabled
-pub mod Inserting
-pub mod Seconds
-pub mod Folding
+pub mod TablesInserting
+pub mod CausesSeconds
+pub mod CausesFolding
 pub mod Naming
-pub mod Whole
-pub mod Pointing
+pub mod NamesWhole
+pub mod MentionsPointing

@@ -19,7 +19,7 @@ use Rattle.fn_sections.specs.Mentions.{first_of, encoded, listed, is_in, mention
 use Rattle.fn_sections.specs.Tables.{IsTable, find_in}
 use Rattle.fn_sections.specs.Causes.{Answers, IsSecond, IsOneOf, is_one_of, defined_before, encoded_before, unknown, not_encoded, not_kept, look_in, earliest}
 use Rattle.fn_sections.specs.Names.{ParameterCause, second_parameter, constant_too, EncodingCause, in_format_too, in_default_too, KnownCause, unknown_initial, unknown_default, ContextCause, local_in_format, local_in_default, SectionCause, second_in_section, unencoded_in_format, SectionsCause, in_section}
-use Rattle.fn_sections.proofs.Folding.{answers_as, answers_join, one_answers, finds, nothing}
+use Rattle.fn_sections.proofs.CausesFolding.{answers_as, answers_join, one_answers, finds, nothing}
 
 pub both_looks : (text : List ℕ) (first more : List Mention) (table other : Table) → IsTable text first table → IsTable text more other → look_in (find_in table) (find_in other) ≡ look_in (first_of text first) (first_of text more)
 both_looks text first more table other is also = λ i name. option_or (is.finds name i) (also.finds name i)

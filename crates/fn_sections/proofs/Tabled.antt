@@ -9,7 +9,7 @@ use Rattle.std.proofs.lemmas.List.Folds.{find-append, find_at}
 use Rattle.std.proofs.lemmas.Bool.{ltb-false}
 use Rattle.std.proofs.lemmas.Slice.Eq.{bytes_eq-Decides}
 use Rattle.fn_normal.specs.Words.{word, with_word}
-use Rattle.fn_normal.proofs.Tables.{any-position}
+use Rattle.fn_normal.proofs.WordsTables.{any-position}
 use Rattle.fn_sections.specs.declared.mention.Mention.{Mention}
 use Rattle.fn_sections.specs.declared.table.Table.{Table}
 use Rattle.fn_sections.specs.Mentions.{first_of, firsts, names_of}

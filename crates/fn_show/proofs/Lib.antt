@@ -1,2 +1,2 @@
-pub mod Walks
-pub mod Steps
+pub mod KnownWalks
+pub mod PlacesSteps

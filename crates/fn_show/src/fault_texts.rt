@@ -57,7 +57,7 @@ fn shown_name(alloc: Global, octets: &[u8]) -> Result<String, AllocError>
     }
 }
 
-#[tactic(auto, using(crate::proofs::Walks::texts_joined))]
+#[tactic(auto, using(crate::proofs::KnownWalks::texts_joined))]
 fn words(
     alloc: Global,
     kind: ProfileFaultKind,

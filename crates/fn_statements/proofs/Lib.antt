@@ -1,2 +1,2 @@
-pub mod Counted
-pub mod Valueless
+pub mod InitialCounted
+pub mod InitialValueless

@@ -1,1 +1,1 @@
-pub mod Adding
+pub mod CountsAdding

@@ -49,7 +49,7 @@ fn field_lengths(alloc: Global, filling: &Filling) -> Result<Items<usize>, Alloc
 }
 
 /// How many packed bits there are.
-#[tactic(auto, using(crate::proofs::Adding::bits_more))]
+#[tactic(auto, using(crate::proofs::CountsAdding::bits_more))]
 fn packed_length(filling: &Filling) -> Result<usize, AllocError>
     ensures { IfOk result (λ bits. bits ≡ length (packed filling.now)) }
 {

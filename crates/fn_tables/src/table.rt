@@ -91,7 +91,7 @@ impl Tables {
     }
 
     /// How many entries all tables have together.
-    #[tactic(auto, using(crate::proofs::Counted::few_entries))]
+    #[tactic(auto, using(crate::proofs::TablesCounted::few_entries))]
     pub fn count(&self, certificate: &Certificate) -> u32
         requires { AreTables certificate.now.methods self.now }
         ensures { result ≡ length (entries_of certificate.now.methods) }

@@ -1,7 +1,7 @@
 pub mod CrcDataLaws
-pub mod Evaluating
-pub mod Leaves
-pub mod Listing
-pub mod Parts
-pub mod Walks
-pub mod Staying
+pub mod ConstantsEvaluated
+pub mod JudgedLeaves
+pub mod ConstantsListing
+pub mod MeansParts
+pub mod JudgedWalks
+pub mod NamesStaying

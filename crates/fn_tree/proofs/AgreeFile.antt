@@ -15,9 +15,9 @@ use Rattle.fn_tree.specs.Rules.{Rules, all, most_parameters, most_statements, mo
 use Rattle.fn_tree.specs.Grammar.{holds_bound}
 use Rattle.fn_tree.specs.Reading.{Reader, ◌>>=◌, pure, stops, stops_at, peek, take, expect, either, is_next, is_there}
 use Rattle.fn_tree.specs.File.{name, gather, many, limited, is_name, begins_expr, before, begins_statement, begins_method, call_of, repeats, next_expr, exprs, variable, lengths, filled, bracket_of, bracket, given, arguments_of, arguments, encoding_by, encoding, field, binding, bound, named_item, enforce, item_by, item, any_statement, statement, statements, called_by, called, format, plain, heading_by, heading, section_of, section, sections, next_name, names, declared, parameters_of, parameters, constant_of, constant, stop, method_of, method, part, parts}
-use Rattle.fn_tree.proofs.Many.{Consumes, gather_advances}
-use Rattle.fn_tree.proofs.Files.{consumes_next_expr, consumes_statement, consumes_section, consumes_next_name, consumes_part}
-use Rattle.fn_tree.proofs.Agree.{Agree, agree_same, agree_bind, agree_then, agree_map, agree_either, agree_test, agree_repeat, agree_whole}
+use Rattle.fn_tree.proofs.ReadingMany.{Consumes, gather_advances}
+use Rattle.fn_tree.proofs.FileLemmas.{consumes_next_expr, consumes_statement, consumes_section, consumes_next_name, consumes_part}
+use Rattle.fn_tree.proofs.ReadingAgree.{Agree, agree_same, agree_bind, agree_then, agree_map, agree_either, agree_test, agree_repeat, agree_whole}
 
 module _ (r : Rules) where
   agree_many : {A : Type 0} (goes : Option Kind → Bool) {x y : List A → Reader A} (cx : (found : List A) → Consumes (x found)) (cy : (found : List A) → Consumes (y found)) (a : (found : List A) → Agree r (x found) (y found))

@@ -29,9 +29,9 @@ use Rattle.fn_tree.specs.Grammar.{IsExpr, IsWhole, mark, name_at, number_at, att
 use Rattle.fn_tree.specs.Refused.{Stands, IsOperand, EndsIn, LastOperator, is_plain, is_remainder, follows_name}
 use Rattle.fn_tree.specs.Reading.{Outcome, Reader, ◌>>=◌, pure, kind_at, stops, take, either, repeat}
 use Rattle.fn_tree.specs.Expr.{counted, joined, grouped, denied, mixed, attribute_as, attribute_by, attribute, named, this, negative_by, negative, leaf_by, leaf, admit, operation, turn_by, turn, power_by, power, tiers, group, denial, prim_by, flat, nested, prim, whole}
-use Rattle.fn_tree.proofs.Local.{IsLocal}
+use Rattle.fn_tree.proofs.ReadingLocal.{IsLocal}
 use Rattle.fn_tree.proofs.Exprs.{turn_advances, local_tiers, local_prim}
-use Rattle.fn_tree.proofs.Begun.{Relation, Begun, After, Sees, Reads, Any, AnyOf, IsToken, it, nowhere, sees_bind, reads_bind, reads_pure, reads_map, reads_as, sees_refuse, sees_stops, sees_stops_at, sees_peek, reads_peek, sees_take_as, sees_taken, reads_mark, reads_expect, reads_repeat, Turn, Turned}
+use Rattle.fn_tree.proofs.ReadingBegun.{Relation, Begun, After, Sees, Reads, Any, AnyOf, IsToken, it, nowhere, sees_bind, reads_bind, reads_pure, reads_map, reads_as, sees_refuse, sees_stops, sees_stops_at, sees_peek, reads_peek, sees_take_as, sees_taken, reads_mark, reads_expect, reads_repeat, Turn, Turned}
 
 -- ---- what has no other expression in it
 

@@ -35,8 +35,8 @@ use Rattle.fn_tree.specs.Grammar.{Many, IsWhole, IsNext, IsExprs, IsBracket, IsA
 use Rattle.fn_tree.specs.Refused.{Stands, begins, begins_by, stands_once, follows_name}
 use Rattle.fn_tree.specs.Reading.{Reader, kind_at, stops, stops_at, is_next, is_there, either}
 use Rattle.fn_tree.specs.File.{name_by, name, limited, is_name, begins_expr, before, begins_statement, begins_method, call_of, variable_of, lengths_of, head_at, repeats, next_expr, exprs, variable, lengths, filled, bracket_of, bracket, given, arguments_of, arguments, encoding_by, encoding, field, binding, bound, named_item, enforce, item_by, item, any_statement, statement, statements, called_by, called, format, plain, heading_by, heading, section_of, section, sections, next_name, names, declared, parameters_of, parameters, constant_of, constant, stop, method_of, method, part, parts}
-use Rattle.fn_tree.proofs.Files.{once_of, consumes_next_expr, consumes_statement, consumes_section, consumes_next_name, consumes_part}
-use Rattle.fn_tree.proofs.Begun.{Relation, Begun, After, Sees, Reads, Any, AnyOf, IsToken, it, Last, nowhere, mark_is, reads_bind, reads_pure, reads_map, reads_as, sees_refuse, sees_stops, sees_stops_at, reads_peek, sees_take, sees_taken, reads_test, reads_mark, reads_expect, begun_token, reads_many}
+use Rattle.fn_tree.proofs.FileLemmas.{once_of, consumes_next_expr, consumes_statement, consumes_section, consumes_next_name, consumes_part}
+use Rattle.fn_tree.proofs.ReadingBegun.{Relation, Begun, After, Sees, Reads, Any, AnyOf, IsToken, it, Last, nowhere, mark_is, reads_bind, reads_pure, reads_map, reads_as, sees_refuse, sees_stops, sees_stops_at, reads_peek, sees_take, sees_taken, reads_test, reads_mark, reads_expect, begun_token, reads_many}
 use Rattle.fn_tree.proofs.BegunExpr.{reads_whole, up_six}
 
 freely : {A : Type 0} {Pre : List Token → Type 0} {X : Relation A} {Post : A → List Token → Type 0} {p : Reader A} → Reads Any X Post p → Reads Pre X Post p

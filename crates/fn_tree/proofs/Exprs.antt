@@ -27,8 +27,8 @@ use Rattle.fn_tree.specs.Rules.{Rules, is_full, nesting, most_operators}
 use Rattle.fn_tree.specs.Grammar.{attribute_of}
 use Rattle.fn_tree.specs.Reading.{Reader, Outcome, and_then, ◌>>=◌, pure, stops, is_next, kind_at, Fails}
 use Rattle.fn_tree.specs.Expr.{counted, joined, grouped, denied, mixed, attribute_as, attribute_by, attribute, named, this, negative_by, negative, leaf_by, leaf, admit, operation, turn_by, turn, power_by, power, tiers, climb, operations, group, denial, prim_by, flat, nested, prim, whole}
-use Rattle.fn_tree.proofs.Local.{IsLocal, Looks, local_peek_at, stops_looks, Advances, IsTurn, local_pure, local_refuse, local_peek, local_take, local_bind, local_map, local_either, local_expect, local_repeat, unroll, turn_stop, turn_map, turn_peek}
-use Rattle.fn_tree.proofs.Many.{Consumes, consumes_either, consumes_bind, consumes_stops, consumes_refuse, consumes_one, consumes_mixed_at}
+use Rattle.fn_tree.proofs.ReadingLocal.{IsLocal, Looks, local_peek_at, stops_looks, Advances, IsTurn, local_pure, local_refuse, local_peek, local_take, local_bind, local_map, local_either, local_expect, local_repeat, unroll, turn_stop, turn_map, turn_peek}
+use Rattle.fn_tree.proofs.ReadingMany.{Consumes, consumes_either, consumes_bind, consumes_stops, consumes_refuse, consumes_one, consumes_mixed_at}
 
 -- ---- no reader looks further than one token
 

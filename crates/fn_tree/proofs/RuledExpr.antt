@@ -21,9 +21,9 @@ use Rattle.fn_tree.specs.Grammar.{join}
 use Rattle.fn_tree.specs.declared.tree.Owner.TheVariants as owners
 use Rattle.fn_tree.specs.Spans.{cover, span_of}
 use Rattle.fn_tree.specs.Limits.{operators_step, levels_step, sums_step}
-use Rattle.fn_tree.proofs.Shapes.{of_number, of_negative, of_truth, of_name, of_attribute, of_group, of_not, of_binary}
-use Rattle.fn_tree.proofs.Strict as s
-use Rattle.fn_tree.proofs.Strict.{IsExpr}
+use Rattle.fn_tree.proofs.TreeShapes.{of_number, of_negative, of_truth, of_name, of_attribute, of_group, of_not, of_binary}
+use Rattle.fn_tree.proofs.GrammarStrict as s
+use Rattle.fn_tree.proofs.GrammarStrict.{IsExpr}
 
 -- ---- sums
 

@@ -29,9 +29,9 @@ use Rattle.fn_tree.specs.Rules.{Rules, all, nesting, is_full, is_out, most_value
 use Rattle.fn_tree.specs.Limits.{operators, levels, sums_in, is_mixed, BracketKeeps, EncodingKeeps, ItemKeeps, SectionKeeps, PartKeeps, Lists, IsOnce, PartIsOnce, PartIsFew, is_format_kind, is_control_kind, is_initial_kind, is_default_kind, is_constant, is_method, AreFew, Parsed}
 use Rattle.fn_tree.specs.Grammar as g
 use Rattle.fn_tree.specs.Grammar.{mark, name_at, holds_bound}
-use Rattle.fn_tree.proofs.Strict as s
+use Rattle.fn_tree.proofs.GrammarStrict as s
 use Rattle.fn_tree.proofs.RuledExpr.{sorts, nests, totals, text_expr, counts, and_off}
-use Rattle.fn_tree.proofs.Few.{short, each, full_false, is_format, count_first, formats_left, constants_left, methods_left, control_law, initial_law, default_law, part_once, part_few, few_constants, few_methods}
+use Rattle.fn_tree.proofs.RulesFew.{short, each, full_false, is_format, count_first, formats_left, constants_left, methods_left, control_law, initial_law, default_law, part_once, part_few, few_constants, few_methods}
 
 -- an expression keeps the rules that count
 pub record Keeps (r : Rules) (x : Expr) : Type 0 where

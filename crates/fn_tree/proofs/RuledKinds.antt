@@ -17,7 +17,7 @@ use Rattle.fn_tree.specs.declared.tree.File.{File}
 use Rattle.fn_tree.specs.Rules.{Rules, all, none, nesting}
 use Rattle.fn_tree.specs.Limits.{levels, sums_in, is_mixed, operators, BracketKeeps, EncodingKeeps, ItemKeeps, SectionKeeps, PartKeeps, Lists, AreFew, IsShallow, IsUnrepeated, IsUnmixed, IsLimited, Parsed}
 use Rattle.fn_tree.specs.Grammar.{IsText}
-use Rattle.fn_tree.proofs.Strict as s
+use Rattle.fn_tree.proofs.GrammarStrict as s
 use Rattle.fn_tree.proofs.RuledFile.{Keeps, ListKeeps, weak_bracket, weak_encoding, weak_item, weak_section, weak_part, weak_lists, passes}
 
 -- ---- both of two

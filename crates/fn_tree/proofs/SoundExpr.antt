@@ -21,13 +21,13 @@ use Rattle.fn_tree.specs.declared.expr.Counted.{Counted}
 use Rattle.fn_tree.specs.Spans.{cover}
 use Rattle.fn_tree.specs.Operators.{operator, is_late, follows, step, start, inside}
 use Rattle.fn_tree.specs.Rules.{Rules, Admits, is_full, nesting, most_operators}
-use Rattle.fn_tree.proofs.Strict as g
+use Rattle.fn_tree.proofs.GrammarStrict as g
 use Rattle.fn_tree.specs.Grammar.{attribute_of, mark, name_at}
-use Rattle.fn_tree.proofs.Strict.{IsExpr, IsWhole}
+use Rattle.fn_tree.proofs.GrammarStrict.{IsExpr, IsWhole}
 use Rattle.fn_tree.specs.Reading.{Outcome, Reader, ◌>>=◌, pure, stops, peek, take, expect, either, is_next, kind_at, repeat}
 use Rattle.fn_tree.specs.Expr.{counted, joined, grouped, denied, mixed, attribute_as, attribute_by, attribute, named, this, negative_by, negative, leaf_by, leaf, admit, operation, turn_by, turn, power_by, power, tiers, group, denial, prim_by, flat, nested, prim, whole}
-use Rattle.fn_tree.proofs.Local.{value_is, rest_is, bind_ok, kept}
-use Rattle.fn_tree.proofs.After.{mark_is}
+use Rattle.fn_tree.proofs.ReadingLocal.{value_is, rest_is, bind_ok, kept}
+use Rattle.fn_tree.proofs.ReadingAfter.{mark_is}
 use Rattle.fn_tree.proofs.Exprs.{turn_advances, local_expr}
 
 abbrev pub token : Kind → Span → Token

@@ -23,16 +23,16 @@ use Rattle.fn_tree.specs.declared.tree.Part.TheVariants as p
 use Rattle.fn_tree.specs.declared.file.Head.{Head}
 use Rattle.fn_tree.specs.Counts.{seen_in, tally_of}
 use Rattle.fn_tree.specs.Rules.{Rules, is_full, is_out, most_parameters, most_statements, most_values}
-use Rattle.fn_tree.proofs.Strict as g
+use Rattle.fn_tree.proofs.GrammarStrict as g
 use Rattle.fn_tree.specs.declared.progress.Progress.{Progress}
 use Rattle.fn_tree.specs.Grammar.{holds_bound, mark, name_at, bits_at}
-use Rattle.fn_tree.proofs.Strict.{Many, IsExpr, IsWhole, IsNext, IsExprs, IsBracket, IsArguments, IsEncoding, IsBound, IsItem, IsStatement, IsHead, IsSection, IsParameter, IsParameters, IsStop, IsPart}
+use Rattle.fn_tree.proofs.GrammarStrict.{Many, IsExpr, IsWhole, IsNext, IsExprs, IsBracket, IsArguments, IsEncoding, IsBound, IsItem, IsStatement, IsHead, IsSection, IsParameter, IsParameters, IsStop, IsPart}
 use Rattle.fn_tree.specs.Reading.{Reader, ◌>>=◌, pure, stops, stops_at, peek, take, expect, either, kind_at, is_next, is_there}
 use Rattle.fn_tree.specs.Expr.{whole}
 use Rattle.fn_tree.specs.File.{name_by, name, gather, many, limited, is_name, begins_expr, before, begins_statement, begins_method, call_of, variable_of, lengths_of, head_at, repeats, next_expr, exprs, variable, lengths, filled, bracket_of, bracket, given, arguments_of, arguments, encoding_by, encoding, field, binding, bound, named_item, enforce, item_by, item, any_statement, statement, statements, called_by, called, format, plain, heading_by, heading, section_of, section, sections, next_name, names, declared, parameters_of, parameters, constant_of, constant, stop, method_of, method, part, parts}
-use Rattle.fn_tree.proofs.Local.{value_is, rest_is, bind_ok, kept, no_some}
-use Rattle.fn_tree.proofs.Many.{Consumes, gather_advances}
-use Rattle.fn_tree.proofs.Files.{consumes_next_expr, consumes_statement, consumes_section, consumes_next_name, consumes_part}
+use Rattle.fn_tree.proofs.ReadingLocal.{value_is, rest_is, bind_ok, kept, no_some}
+use Rattle.fn_tree.proofs.ReadingMany.{Consumes, gather_advances}
+use Rattle.fn_tree.proofs.FileLemmas.{consumes_next_expr, consumes_statement, consumes_section, consumes_next_name, consumes_part}
 use Rattle.fn_tree.proofs.SoundExpr.{Answers, whole_sound, token, IsOne, one, Same, same, same_is, one_is, taken_is}
 
 -- ---- one after the other

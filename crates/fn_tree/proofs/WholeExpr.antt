@@ -16,9 +16,9 @@ use Rattle.fn_tree.specs.declared.progress.Progress.{Progress}
 use Rattle.fn_tree.specs.declared.expr.Counted.{Counted}
 use Rattle.fn_tree.specs.Operators.{operator, operator_of, in_tier, binds, step, inside}
 use Rattle.fn_tree.specs.Rules.{Rules, Admits}
-use Rattle.fn_tree.proofs.Strict as g
+use Rattle.fn_tree.proofs.GrammarStrict as g
 use Rattle.fn_tree.specs.Grammar.{mark}
-use Rattle.fn_tree.proofs.Strict.{IsExpr, IsWhole}
+use Rattle.fn_tree.proofs.GrammarStrict.{IsExpr, IsWhole}
 use Rattle.fn_tree.specs.Reading.{Reader, kind_at, is_next, expect}
 use Rattle.fn_tree.specs.Expr.{counted, joined, attribute, named, this, negative, leaf, admit, operation, power, tiers, operations, group, denial, flat, nested, prim, whole}
 use Rattle.fn_tree.proofs.Exprs.{operations_stop, operations_on, tiers_one, tiers_on}

@@ -19,14 +19,14 @@ use Rattle.fn_tree.specs.declared.tree.Part.{Part}
 use Rattle.fn_tree.specs.declared.progress.Progress.{Progress}
 use Rattle.fn_tree.specs.Counts.{seen_in, tally_of}
 use Rattle.fn_tree.specs.Rules.{Rules}
-use Rattle.fn_tree.proofs.Strict as g
+use Rattle.fn_tree.proofs.GrammarStrict as g
 use Rattle.fn_tree.specs.Grammar.{mark, name_at}
-use Rattle.fn_tree.proofs.Strict.{Many, IsExpr, IsWhole, IsNext, IsExprs, IsBracket, IsArguments, IsEncoding, IsBound, IsItem, IsStatement, IsHead, IsSection, IsParameter, IsParameters, IsStop, IsPart}
+use Rattle.fn_tree.proofs.GrammarStrict.{Many, IsExpr, IsWhole, IsNext, IsExprs, IsBracket, IsArguments, IsEncoding, IsBound, IsItem, IsStatement, IsHead, IsSection, IsParameter, IsParameters, IsStop, IsPart}
 use Rattle.fn_tree.specs.Reading.{kind_at, is_next, is_there}
 use Rattle.fn_tree.specs.File.{name, limited, next_expr, exprs, variable, lengths, filled, bracket_of, bracket, given, arguments_of, arguments, encoding, field, binding, bound, named_item, enforce, item, any_statement, statement, before, statements, called, format, plain, heading, head_at, section_of, section, sections, next_name, names, declared, parameters_of, parameters, constant_of, constant, stop, method_of, method, part, parts}
 use Rattle.fn_tree.proofs.WholeExpr.{Ends, whole_reads, expect_token}
-use Rattle.fn_tree.proofs.Files.{consumes_next_expr, consumes_statement, consumes_section, consumes_next_name, consumes_part}
-use Rattle.fn_tree.proofs.Many.{many_whole, good_before}
+use Rattle.fn_tree.proofs.FileLemmas.{consumes_next_expr, consumes_statement, consumes_section, consumes_next_name, consumes_part}
+use Rattle.fn_tree.proofs.ReadingMany.{many_whole, good_before}
 
 is_it : (which : Mark) (at : Span) (ts : List Token) → is_next which (kind_at (mark which at ∷ ts)) ≡ true
 unfolding same_mark

@@ -1,4 +1,4 @@
-pub mod AnswersHeld
+pub mod RefusalsHeld
 pub mod BundleHeld
 pub mod BundleLines
 pub mod BundleParts
@@ -6,8 +6,8 @@ pub mod BundleSpelled
 pub mod CountedReads
 pub mod InputLines
 pub mod ItemsSpelled
-pub mod OneLines
-pub mod PartNames
-pub mod ShownNames
+pub mod OneLineLemmas
+pub mod OneLineNames
+pub mod BundleNames
 pub mod Spelled
-pub mod WordsThere
+pub mod PartWordsThere

@@ -3,11 +3,10 @@
 ghost use Rattle.std.specs.Prelude.{◌≡◌, ◌≤◌, ◌<◌, ◌*◌, ◌/◌, ◌+◌, ◌-◌, ◌^◌, [], ◌∷◌, ◌++◌, take, length, OnOk, codes, decimal, string_bytes};
 ghost use Rattle.hex.specs.Hex.{encode_lower};
 ghost use Rattle.fn_bits.specs.Number.{enc};
-ghost use Rattle.fn_bits.specs.Octets.{Holds};
 ghost use Rattle.fn_bits.specs.Text.{IsText};
 ghost use Rattle.rohcfn_input.specs.ItemTexts.{AreValuesText, HasMore, IsItemText, IsValueText};
 
-use fn_bits::Bits;
+use fn_bits::{Bits, octets_of};
 use fn_filling::{AskedValue, Item};
 use itoa::Buffer;
 use std::alloc::{AllocError, Global};
@@ -69,24 +68,6 @@ fn push_digits(text: &mut String, count: usize, digits: &str) -> Result<(), Allo
     text.push_str(buffer.format(count))?;
     text.push(':')?;
     text.push_str(digits)
-}
-
-/// The octets of the bits, with zero bits after them.
-fn octets_of(word: u64, count: usize) -> [u8; 8]
-    requires most { count ≤ 64 }
-    requires below { word < 2 ^ count }
-    ensures { Holds (take ((count + 7) / 8) result) (enc count word) }
-{
-    at_front(word, count).to_be_bytes()
-}
-
-/// The number of the bits and of zero bits after them, 64 in all.
-fn at_front(word: u64, count: usize) -> u64
-    requires most { count ≤ 64 }
-    requires below { word < 2 ^ count }
-    ensures { result ≡ word * 2 ^ (64 - count) }
-{
-    if count == 0 { 0 } else { word << (64 - count) }
 }
 
 /// Adds the text of an item: its header, then each value after a blank.

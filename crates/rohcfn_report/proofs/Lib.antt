@@ -1,9 +1,9 @@
-pub mod Certificates
-pub mod FaultLines
-pub mod Listed
-pub mod Listings
-pub mod Spelled
-pub mod Tables
+pub mod AcceptingCertificates
+pub mod CheckFaultLines
+pub mod FieldsListed
+pub mod ProfileLinesListed
+pub mod BitTextsSpelled
+pub mod WarningsTables
 pub mod Linted
-pub mod Drawn
+pub mod DrawLemmas
 pub mod Warned

@@ -7,7 +7,7 @@ use Rattle.fn_profile.specs.Resolved.{Resolved}
 use Rattle.rohcfn_input.specs.declared.status.Answer.{Answer}
 use Rattle.rohcfn_input.specs.declared.status.Status.TheVariants as status
 use Rattle.rohcfn_input.specs.Refusals.{IsRefusal}
-use Rattle.rohcfn_input.proofs.AnswersHeld.{refusal_is}
+use Rattle.rohcfn_input.proofs.RefusalsHeld.{refusal_is}
 use Rattle.rohcfn_report.specs.Lint.{LintedBy, Lints, LintsProfile, lint_text, linted, no_lint}
 use Rattle.rohcfn_report.specs.ProfileLines.{IsFaultLine}
 

@@ -1,10 +1,10 @@
-pub mod Endings
+pub mod ProgramEndings
 pub mod EventWords
-pub mod Flowing
-pub mod OtherLines
+pub mod LineFlowing
+pub mod PrintedOtherLines
 pub mod PacketLines
 pub mod ProgramBytes
 pub mod ProgramReplies
-pub mod Replying
-pub mod Stepping
-pub mod Tallying
+pub mod PrintedReplying
+pub mod PrintedStepping
+pub mod PrintedTallying

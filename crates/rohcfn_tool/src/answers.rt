@@ -197,7 +197,7 @@ fn answer_packets(
 }
 
 /// A law of fault lines: each is one line, without a line feed.
-#[tactic(auto, using(crate::proofs::OtherLines::are_one_line))]
+#[tactic(auto, using(crate::proofs::PrintedOtherLines::are_one_line))]
 pub fn faults_are_lines()
     ensures { AreOneLine }
 {}

@@ -1,4 +1,4 @@
-use Rattle.fn_accepted.proofs.Depth.{calls_are_shallower}
+use Rattle.fn_accepted.proofs.StandingDepth.{calls_are_shallower}
 use Rattle.fn_accepted.proofs.laws.calls_are_shallower.Goals as goal
 
 pub returns : goal.returns

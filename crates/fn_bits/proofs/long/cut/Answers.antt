@@ -1,7 +1,7 @@
 use Rattle.std.proofs.Common.{arith}
 use Rattle.fn_bits.proofs.Octets.{IsBytes-nil}
 use Rattle.std.specs.Prelude.{◌/◌, ◌%◌}
-use Rattle.fn_bits.proofs.Windows.{cut_even, cut_over}
+use Rattle.fn_bits.proofs.NumberWindows.{cut_even, cut_over}
 use Rattle.fn_bits.proofs.long.cut.Goals as goal
 use Rattle.fn_bits.proofs.long.cut.Goals.{then-over-gt0, else-over-gt0}
 

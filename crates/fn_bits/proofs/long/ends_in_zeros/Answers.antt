@@ -1,6 +1,6 @@
 use Rattle.std.proofs.Common.{arith}
 use Rattle.std.specs.Cmp.{unsigned_Decides}
-use Rattle.fn_bits.proofs.Kept.{ends_over}
+use Rattle.fn_bits.proofs.OctetsKept.{ends_over}
 use Rattle.fn_bits.proofs.long.ends_in_zeros.Goals as goal
 
 pub returns : goal.returns

@@ -2,7 +2,7 @@ use Rattle.std.proofs.Common.{◌≡◌, ◌∙◌, ◌+◌, ◌/◌, ◌++◌, 
 use Rattle.std.specs.Prelude.{slice_range}
 use Rattle.fn_bits.specs.Octets.{bits_of}
 use Rattle.fn_bits.proofs.Octets.{bits_of-push, IsBytes-push}
-use Rattle.fn_bits.proofs.Windows.{gather_more, gather_even}
+use Rattle.fn_bits.proofs.NumberWindows.{gather_more, gather_even}
 use Rattle.std.proofs.lemmas.List.{length_push}
 use Rattle.fn_bits.proofs.long.gather.Goals as goal
 

@@ -3,7 +3,7 @@ use Rattle.hex.specs.Hex.{IsBytes}
 use Rattle.fn_bits.proofs.Octets.{IsBytes-push}
 use Rattle.fn_bits.specs.Octets.{bits_of}
 use Rattle.std.proofs.lemmas.List.{length_push}
-use Rattle.fn_bits.proofs.Windows.{join_odd, front_bytes}
+use Rattle.fn_bits.proofs.NumberWindows.{join_odd, front_bytes}
 use Rattle.fn_bits.proofs.long.join.Goals as goal
 
 pub returns-in-Some-clause-ok : goal.returns-in-Some-clause-ok

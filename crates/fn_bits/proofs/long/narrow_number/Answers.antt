@@ -1,7 +1,7 @@
 use Rattle.std.proofs.Common.{◌∙◌, ◌+◌, ◌*◌, arith}
 use Rattle.fn_bits.specs.Octets.{bits_of}
 use Rattle.fn_bits.proofs.Octets.{length-bits_of}
-use Rattle.fn_bits.proofs.Windows.{number_narrow}
+use Rattle.fn_bits.proofs.NumberWindows.{number_narrow}
 use Rattle.fn_bits.proofs.long.narrow_number.Goals as goal
 
 pub returns : goal.returns

@@ -1,5 +1,5 @@
 use Rattle.std.proofs.Common.{◌∙◌, ◌+◌, ◌/◌, arith}
-use Rattle.fn_bits.proofs.Windows.{number_in, number_masked}
+use Rattle.fn_bits.proofs.NumberWindows.{number_in, number_masked}
 use Rattle.fn_bits.proofs.long.number.Goals as goal
 
 pub returns-then-end-first-gt8 : goal.returns-then-end-first-gt8

@@ -1,7 +1,7 @@
 use Rattle.std.proofs.Common.{◌∙◌, ap, length, arith, refl}
 use Rattle.std.proofs.lemmas.List.{length_push}
 use Rattle.fn_bits.proofs.Octets.{IsBytes-push}
-use Rattle.fn_bits.proofs.Windows.{spell_more}
+use Rattle.fn_bits.proofs.NumberWindows.{spell_more}
 use Rattle.fn_bits.proofs.long.spell.Goals as goal
 
 pub loop-i-preserved : goal.loop-i-preserved

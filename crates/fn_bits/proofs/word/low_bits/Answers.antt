@@ -1,5 +1,5 @@
 use Rattle.std.proofs.Common.{arith}
-use Rattle.fn_bits.proofs.Windows.{low_masked, low_whole}
+use Rattle.fn_bits.proofs.NumberWindows.{low_masked, low_whole}
 use Rattle.fn_bits.proofs.word.low_bits.Goals as goal
 
 pub returns-then-count-eq64 : goal.returns-then-count-eq64

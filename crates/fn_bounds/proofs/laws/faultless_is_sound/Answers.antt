@@ -1,4 +1,4 @@
-use Rattle.fn_bounds.proofs.Faultless.{faultless}
+use Rattle.fn_bounds.proofs.FaultsFaultless.{faultless}
 use Rattle.fn_bounds.proofs.laws.faultless_is_sound.Goals as goal
 
 pub returns : goal.returns

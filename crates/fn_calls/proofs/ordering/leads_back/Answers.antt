@@ -1,4 +1,4 @@
-use Rattle.fn_calls.proofs.Backward.{by_marks}
+use Rattle.fn_calls.proofs.OrderBackward.{by_marks}
 use Rattle.fn_calls.proofs.ordering.leads_back.Goals as goal
 
 pub returns-clause-meaning : goal.returns-clause-meaning

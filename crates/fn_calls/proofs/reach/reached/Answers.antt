@@ -1,6 +1,6 @@
 use Rattle.std.proofs.Common.{rules, subst}
 use Rattle.fn_calls.specs.Calls.{Marked}
-use Rattle.fn_calls.proofs.Work.{Marks, begins, goes_on, ends, falls, fits, blank_length}
+use Rattle.fn_calls.proofs.CallsWork.{Marks, begins, goes_on, ends, falls, fits, blank_length}
 use Rattle.fn_calls.proofs.reach.reached.Goals as goal
 
 pub mark-requires : goal.mark-requires

@@ -1,4 +1,4 @@
-use Rattle.fn_candidates.proofs.Order.{best_is_one}
+use Rattle.fn_candidates.proofs.BestOrder.{best_is_one}
 use Rattle.fn_candidates.proofs.laws.best_is_one.Goals as goal
 
 pub returns : goal.returns

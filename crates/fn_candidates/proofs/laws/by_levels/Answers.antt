@@ -1,4 +1,4 @@
-use Rattle.fn_candidates.proofs.Levels.{code_is, number_is}
+use Rattle.fn_candidates.proofs.CodesLevels.{code_is, number_is}
 use Rattle.fn_candidates.proofs.laws.by_levels.Goals as goal
 
 pub returns : goal.returns

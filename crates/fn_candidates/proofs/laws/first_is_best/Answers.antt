@@ -1,4 +1,4 @@
-use Rattle.fn_candidates.proofs.Compares.{first_is_best}
+use Rattle.fn_candidates.proofs.CodesCompares.{first_is_best}
 use Rattle.fn_candidates.proofs.laws.first_is_best.Goals as goal
 
 pub returns : goal.returns

@@ -1,4 +1,4 @@
-use Rattle.fn_candidates.proofs.Fitting.{is_candidate}
+use Rattle.fn_candidates.proofs.CodesFitting.{is_candidate}
 use Rattle.fn_candidates.proofs.laws.fitting_are_candidates.Goals as goal
 
 pub returns : goal.returns

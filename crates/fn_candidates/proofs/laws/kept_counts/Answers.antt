@@ -1,5 +1,5 @@
-use Rattle.fn_candidates.proofs.Few.{kept_are_counts}
-use Rattle.fn_candidates.proofs.Kept.{spans_are_kept, spans_add_up}
+use Rattle.fn_candidates.proofs.CodesFew.{kept_are_counts}
+use Rattle.fn_candidates.proofs.CodesKept.{spans_are_kept, spans_add_up}
 use Rattle.fn_candidates.proofs.laws.kept_counts.Goals as goal
 
 pub returns : goal.returns

@@ -1,4 +1,4 @@
-use Rattle.fn_candidates.proofs.Bounds.{below}
+use Rattle.fn_candidates.proofs.CodesBounds.{below}
 use Rattle.fn_candidates.proofs.laws.number_below.Goals as goal
 
 pub returns : goal.returns

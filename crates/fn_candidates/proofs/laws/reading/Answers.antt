@@ -1,4 +1,4 @@
-use Rattle.fn_candidates.proofs.Kept.{reading_starts, reading_passes, reading_parts, ways_of_choice, ways_of_call, reading_reaches, reading_ends}
+use Rattle.fn_candidates.proofs.CodesKept.{reading_starts, reading_passes, reading_parts, ways_of_choice, ways_of_call, reading_reaches, reading_ends}
 use Rattle.fn_candidates.proofs.laws.reading.Goals as goal
 
 pub returns : goal.returns

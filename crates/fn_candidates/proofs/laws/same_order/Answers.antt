@@ -1,4 +1,4 @@
-use Rattle.fn_candidates.proofs.Compares.{same_order}
+use Rattle.fn_candidates.proofs.CodesCompares.{same_order}
 use Rattle.fn_candidates.proofs.laws.same_order.Goals as goal
 
 pub returns : goal.returns

@@ -1,7 +1,7 @@
 use Rattle.std.proofs.Common.{◌∙◌, ap, sym}
 use Rattle.std.specs.Option.{option_copied}
 use Rattle.fn_candidates.specs.Numbered.{numbers_inside}
-use Rattle.fn_candidates.proofs.Counted.{next_digits, whole_number}
+use Rattle.fn_candidates.proofs.NumbersCounted.{next_digits, whole_number}
 use Rattle.fn_candidates.proofs.numbers.+numbers.Goals as goal
 
 pub digits_of-loop-step-preserved : goal.digits_of-loop-step-preserved

@@ -1,4 +1,4 @@
-use Rattle.fn_candidates.proofs.Listing.{method_more}
+use Rattle.fn_candidates.proofs.SpansListing.{method_more}
 use Rattle.fn_candidates.proofs.spans.format_counts.Goals as goal
 
 pub loop-method-preserved : goal.loop-method-preserved

@@ -1,6 +1,6 @@
 use Rattle.std.proofs.Common.{◌≡◌, ℕ, List, map}
 use Rattle.fn_rules.specs.Capped.{capped}
-use Rattle.fn_candidates.proofs.Listing.{lines}
+use Rattle.fn_candidates.proofs.SpansListing.{lines}
 use Rattle.fn_candidates.proofs.spans.format_counts.Given as goal
 
 abbrev pub invariant-loop-method : goal.invariant-loop-method

@@ -1,6 +1,6 @@
 use Rattle.std.proofs.Common.{sym, refl}
 use Rattle.std.proofs.lemmas.Option.{slice_get_read}
-use Rattle.fn_candidates.proofs.Listing.{format_more, entries_done}
+use Rattle.fn_candidates.proofs.SpansListing.{format_more, entries_done}
 use Rattle.fn_candidates.proofs.spans.plan_counts.Goals as goal
 
 pub returns-in_default : goal.returns-in_default

@@ -1,5 +1,5 @@
-use Rattle.fn_candidates.proofs.Ending.{writing_ends}
-use Rattle.fn_candidates.proofs.Going.{top_passes, top_refuses}
+use Rattle.fn_candidates.proofs.KnowingEnding.{writing_ends}
+use Rattle.fn_candidates.proofs.WritingLawsGoing.{top_passes, top_refuses}
 use Rattle.fn_candidates.proofs.writing_laws.ending.Goals as goal
 
 pub returns : goal.returns

@@ -1,4 +1,4 @@
-use Rattle.fn_candidates.proofs.Going.{writing_fails, call_fails_law}
+use Rattle.fn_candidates.proofs.WritingLawsGoing.{writing_fails, call_fails_law}
 use Rattle.fn_candidates.proofs.writing_laws.failing.Goals as goal
 
 pub returns : goal.returns

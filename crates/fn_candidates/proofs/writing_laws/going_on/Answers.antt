@@ -1,4 +1,4 @@
-use Rattle.fn_candidates.proofs.Going.{writing_starts, writing_passes, writing_chooses, writing_calls}
+use Rattle.fn_candidates.proofs.WritingLawsGoing.{writing_starts, writing_passes, writing_chooses, writing_calls}
 use Rattle.fn_candidates.proofs.writing_laws.going_on.Goals as goal
 
 pub returns : goal.returns

@@ -1,4 +1,4 @@
-use Rattle.fn_candidates.proofs.Single.{one_numbered}
+use Rattle.fn_candidates.proofs.WritingSingle.{one_numbered}
 use Rattle.fn_candidates.proofs.writing_laws.one_numbered.Goals as goal
 
 pub returns : goal.returns

@@ -1,4 +1,4 @@
-use Rattle.fn_candidates.proofs.Going.{top_begins, begins_ahead}
+use Rattle.fn_candidates.proofs.WritingLawsGoing.{top_begins, begins_ahead}
 use Rattle.fn_candidates.proofs.writing_laws.standing.Goals as goal
 
 pub returns : goal.returns

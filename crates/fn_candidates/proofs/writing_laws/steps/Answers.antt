@@ -1,5 +1,5 @@
-use Rattle.fn_candidates.proofs.Going.{choose_law, filled_law}
-use Rattle.fn_candidates.proofs.Steps as s
+use Rattle.fn_candidates.proofs.WritingLawsGoing.{choose_law, filled_law}
+use Rattle.fn_candidates.proofs.WritingSteps as s
 use Rattle.fn_candidates.proofs.writing_laws.steps.Goals as goal
 
 pub returns : goal.returns

@@ -1,6 +1,6 @@
 use Rattle.std.proofs.Common.{◌∙◌, ◌++◌, ap, ◌-◌, ◌+◌}
 use Rattle.fn_cert_text.specs.Drafts.{nones}
-use Rattle.fn_cert_text.proofs.Pieces.{nones_more}
+use Rattle.fn_cert_text.proofs.DraftsPieces.{nones_more}
 use Rattle.fn_cert_text.proofs.draft.push_nones.Goals as goal
 
 pub loop-preserved : goal.loop-preserved

@@ -2,7 +2,7 @@ use Rattle.std.proofs.Common.{◌∙◌, sym, ap, map}
 use Rattle.std.specs.Prelude.{Some, is_none}
 use Rattle.std.specs.Option.{option_copied}
 use Rattle.fn_cert_text.specs.Shapes.{lacks_format}
-use Rattle.fn_cert_text.proofs.Pieces.{front_more, none_by}
+use Rattle.fn_cert_text.proofs.DraftsPieces.{front_more, none_by}
 use Rattle.fn_cert_text.proofs.faults.lacks_format.Goals as goal
 
 pub returns : goal.returns

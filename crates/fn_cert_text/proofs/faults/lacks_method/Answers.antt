@@ -1,6 +1,6 @@
 use Rattle.std.proofs.Common.{◌∙◌, sym, ap}
 use Rattle.fn_cert_text.specs.Shapes.{is_bare, lacks_method}
-use Rattle.fn_cert_text.proofs.Pieces.{front_more}
+use Rattle.fn_cert_text.proofs.DraftsPieces.{front_more}
 use Rattle.fn_cert_text.proofs.faults.lacks_method.Goals as goal
 
 pub returns : goal.returns

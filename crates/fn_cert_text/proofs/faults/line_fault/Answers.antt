@@ -1,5 +1,5 @@
 use Rattle.std.proofs.Common.{sym}
-use Rattle.fn_cert_text.proofs.Pieces.{many_words}
+use Rattle.fn_cert_text.proofs.DraftsPieces.{many_words}
 use Rattle.fn_cert_text.proofs.faults.line_fault.Goals as goal
 
 pub returns-in_default-2 : goal.returns-in_default-2

@@ -1,4 +1,4 @@
-use Rattle.fn_cert_text.proofs.Outcome.{one_reading, faults_exclude}
+use Rattle.fn_cert_text.proofs.DraftsOutcome.{one_reading, faults_exclude}
 use Rattle.fn_cert_text.proofs.laws.one_reading.Goals as goal
 
 pub returns-clause-only : goal.returns-clause-only

@@ -1,4 +1,4 @@
-use Rattle.fn_cert_text.proofs.Outcome.{reads_back, reads_only, no_blame}
+use Rattle.fn_cert_text.proofs.DraftsOutcome.{reads_back, reads_only, no_blame}
 use Rattle.fn_cert_text.proofs.laws.text_reads_back.Goals as goal
 
 pub returns-clause-reads : goal.returns-clause-reads

@@ -1,6 +1,6 @@
 use Rattle.std.specs.Prelude.{string_bytes, flat_map}
 use Rattle.fn_cert_text.specs.Text.{format_lines, spelled}
-use Rattle.fn_cert_text.proofs.Lines.{GoesBy}
+use Rattle.fn_cert_text.proofs.TextLines.{GoesBy}
 use Rattle.fn_cert_text.proofs.printing.formats_text.Given as goal
 
 abbrev pub invariant-loop-format : goal.invariant-loop-format

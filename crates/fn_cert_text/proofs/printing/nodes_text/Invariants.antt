@@ -1,6 +1,6 @@
 use Rattle.std.specs.Prelude.{string_bytes, map}
 use Rattle.fn_cert_text.specs.Text.{node_line, spelled}
-use Rattle.fn_cert_text.proofs.Lines.{GoesLine}
+use Rattle.fn_cert_text.proofs.TextLines.{GoesLine}
 use Rattle.fn_cert_text.proofs.printing.nodes_text.Given as goal
 
 abbrev pub invariant-loop-node : goal.invariant-loop-node

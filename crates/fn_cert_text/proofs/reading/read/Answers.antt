@@ -3,7 +3,7 @@ use Rattle.std.proofs.lemmas.Result.{err_from_is_err_and}
 use Rattle.fn_cert_text.specs.Drafts.{read_lines, start}
 use Rattle.fn_cert_text.specs.Faults.{Stops, IsReading, too_long, cut_off}
 use Rattle.fn_bits.specs.Lines.{numbered_lines}
-use Rattle.fn_cert_text.proofs.Outcome.{blamed, is_cut_off, is_reading, is_kept}
+use Rattle.fn_cert_text.proofs.DraftsOutcome.{blamed, is_cut_off, is_reading, is_kept}
 use Rattle.fn_cert_text.proofs.reading.read.Goals as goal
 
 pub returns-then-text-gt-TEXT_LIMIT-clause-fault : goal.returns-then-text-gt-TEXT_LIMIT-clause-fault

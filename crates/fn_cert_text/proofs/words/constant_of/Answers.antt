@@ -1,5 +1,5 @@
 use Rattle.std.proofs.Common.{sym}
-use Rattle.fn_cert_text.proofs.Numerals.{unparsed}
+use Rattle.fn_cert_text.proofs.DraftsNumerals.{unparsed}
 use Rattle.fn_cert_text.proofs.words.constant_of.Goals as goal
 
 pub returns-in_default : goal.returns-in_default

@@ -1,5 +1,5 @@
 use Rattle.std.proofs.Common.{◌∙◌, sym}
-use Rattle.fn_cert_text.proofs.Pieces.{node_two}
+use Rattle.fn_cert_text.proofs.DraftsPieces.{node_two}
 use Rattle.fn_cert_text.proofs.words.node_of.Goals as goal
 
 pub returns-in-len2 : goal.returns-in-len2

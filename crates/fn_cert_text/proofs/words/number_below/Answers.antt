@@ -1,7 +1,7 @@
 use Rattle.std.proofs.Common.{◌≡◌, arith, sym, ap, rules, ◌∙◌}
 use Rattle.std.specs.Prelude.{decimal}
 use Rattle.std.proofs.lemmas.Fmt.{parse-decimal}
-use Rattle.fn_cert_text.proofs.Numerals.{below_some, below_none}
+use Rattle.fn_cert_text.proofs.DraftsNumerals.{below_some, below_none}
 use Rattle.fn_cert_text.proofs.words.number_below.Goals as goal
 
 pub returns-in_default : goal.returns-in_default

@@ -1,7 +1,7 @@
 use Rattle.std.proofs.Common.{◌∙◌, sym, ap, length, map, drop, take, ◌-◌}
 use Rattle.std.specs.Prelude.{option_and_then}
 use Rattle.fn_cert_text.specs.Drafts.{step_on}
-use Rattle.fn_cert_text.proofs.Pieces.{step_more}
+use Rattle.fn_cert_text.proofs.DraftsPieces.{step_more}
 use Rattle.fn_cert_text.proofs.words.step_of.Goals as goal
 
 pub returns-in_err-field : goal.returns-in_err-field

@@ -3,7 +3,7 @@ use Rattle.std.specs.Prelude.{IsSomeAnd, slice_get}
 use Rattle.std.specs.List.{IsDistinct}
 use Rattle.std.specs.String.{string_eq}
 use Rattle.indexmap.proofs.CallerLemmas.{keys-with_value_at}
-use Rattle.fn_context.proofs.Overrides.{written_at}
+use Rattle.fn_context.proofs.EntriesOverrides.{written_at}
 use Rattle.fn_context.proofs.context.put_at.Goals as goal
 
 pub returns-in-Some-clause-entries : goal.returns-in-Some-clause-entries

@@ -1,4 +1,4 @@
-use Rattle.fn_context.proofs.Readings.{one_reading, no_fault}
+use Rattle.fn_context.proofs.EntriesReadings.{one_reading, no_fault}
 use Rattle.fn_context.proofs.laws.one_reading.Goals as goal
 
 pub returns : goal.returns

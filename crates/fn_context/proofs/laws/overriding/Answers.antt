@@ -1,4 +1,4 @@
-use Rattle.fn_context.proofs.Overrides.{overridden-value, with_entry-present, with_entry-absent, overridden-distinct}
+use Rattle.fn_context.proofs.EntriesOverrides.{overridden-value, with_entry-present, with_entry-absent, overridden-distinct}
 use Rattle.fn_context.proofs.laws.overriding.Goals as goal
 
 pub returns : goal.returns

@@ -1,5 +1,5 @@
 use Rattle.fn_bits.specs.Lines.{numbered_lines}
-use Rattle.fn_context.proofs.Readings.{reads_back, one_reading, no_fault}
+use Rattle.fn_context.proofs.EntriesReadings.{reads_back, one_reading, no_fault}
 use Rattle.fn_context.proofs.laws.text_reads_back.Goals as goal
 
 pub returns : goal.returns

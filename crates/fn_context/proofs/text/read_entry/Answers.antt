@@ -4,7 +4,7 @@ use Rattle.std.proofs.lemmas.Str.Pattern.{split_parts}
 use Rattle.fn_bits.specs.Text.{ReadsAs}
 use Rattle.fn_context.specs.Path.{IsPath}
 use Rattle.fn_context.proofs.Paths.{Lacks, Lacks-from, lacks_middle}
-use Rattle.fn_context.proofs.Readings.{entry_cut}
+use Rattle.fn_context.proofs.EntriesReadings.{entry_cut}
 use Rattle.fn_context.proofs.text.read_entry.Goals as goal
 
 pub returns-in_default-clause-none : goal.returns-in_default-clause-none

@@ -1,4 +1,4 @@
-use Rattle.fn_draw.proofs.Standing.{columns-are-offsets}
+use Rattle.fn_draw.proofs.ColumnsStanding.{columns-are-offsets}
 use Rattle.fn_draw.proofs.laws.columns_are_offsets.Goals as goal
 
 pub returns : goal.returns

@@ -1,4 +1,4 @@
-use Rattle.fn_draw.proofs.Standing.{fields-stand-there}
+use Rattle.fn_draw.proofs.ColumnsStanding.{fields-stand-there}
 use Rattle.fn_draw.proofs.laws.fields_stand_there.Goals as goal
 
 pub returns : goal.returns

@@ -1,4 +1,4 @@
-use Rattle.fn_expr.proofs.Fitting.{add_some, subtract_some}
+use Rattle.fn_expr.proofs.RulesFitting.{add_some, subtract_some}
 use Rattle.fn_expr.proofs.interval.combine.Goals as goal
 
 pub returns-in-Add : goal.returns-in-Add

@@ -1,5 +1,5 @@
 use Rattle.std.proofs.Common.{rules}
-use Rattle.fn_expr.proofs.Fitting.{power_none}
+use Rattle.fn_expr.proofs.RulesFitting.{power_none}
 use Rattle.fn_expr.proofs.interval.power.Goals as goal
 
 pub returns-in_err-to : goal.returns-in_err-to

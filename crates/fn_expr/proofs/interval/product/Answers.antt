@@ -1,6 +1,6 @@
 use Rattle.std.proofs.Common.{FitsSigned, rules}
 use mir.Syntax.{w128}
-use Rattle.fn_expr.proofs.Fitting.{corners, product_none, product_at, least, greatest, product_some}
+use Rattle.fn_expr.proofs.RulesFitting.{corners, product_none, product_at, least, greatest, product_some}
 use Rattle.fn_expr.proofs.interval.product.Goals as goal
 
 pub returns-in_err-lowest : goal.returns-in_err-lowest

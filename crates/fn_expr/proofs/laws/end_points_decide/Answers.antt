@@ -1,4 +1,4 @@
-use Rattle.fn_expr.proofs.EndPoints as lemmas
+use Rattle.fn_expr.proofs.RulesEndPoints as lemmas
 use Rattle.fn_expr.proofs.laws.end_points_decide.Goals as goal
 
 pub returns : goal.returns

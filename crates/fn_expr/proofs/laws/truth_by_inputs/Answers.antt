@@ -1,4 +1,4 @@
-use Rattle.fn_expr.proofs.Agreement as lemmas
+use Rattle.fn_expr.proofs.InputsAgreement as lemmas
 use Rattle.fn_expr.proofs.laws.truth_by_inputs.Goals as goal
 
 pub returns : goal.returns

@@ -1,4 +1,4 @@
-use Rattle.fn_expr.proofs.Lie as lemmas
+use Rattle.fn_expr.proofs.RangedLie as lemmas
 use Rattle.fn_expr.proofs.laws.values_lie_in_ranges.Goals as goal
 
 pub returns : goal.returns

@@ -1,6 +1,6 @@
 use Rattle.std.proofs.Common.{◌∙◌, ap}
 use Rattle.fn_expr.specs.Values.{val}
-use Rattle.fn_expr.proofs.Lie.{calculable_at}
+use Rattle.fn_expr.proofs.RangedLie.{calculable_at}
 use Rattle.fn_expr.proofs.values.+value.Goals as goal
 
 pub calculate-requires : goal.calculate-requires

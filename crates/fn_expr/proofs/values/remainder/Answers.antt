@@ -1,5 +1,5 @@
 use Rattle.std.proofs.Common.{rules}
-use Rattle.fn_expr.proofs.Fitting.{rest_held}
+use Rattle.fn_expr.proofs.RulesFitting.{rest_held}
 use Rattle.fn_expr.proofs.values.remainder.Goals as goal
 
 pub returns : goal.returns

@@ -1,7 +1,7 @@
 use Rattle.std.proofs.Common.{◌∙◌, ◌++◌, map, ap, sym, string_bytes}
 use Rattle.std.specs.List.{flat_map}
 use Rattle.fn_filling.specs.Laws.{entries_at}
-use Rattle.fn_filling.proofs.Levels.{entries_are}
+use Rattle.fn_filling.proofs.EntriesLevels.{entries_are}
 use Rattle.fn_filling.proofs.entries.+add_entries.Goals as goal
 
 pub loop-field-init : goal.loop-field-init

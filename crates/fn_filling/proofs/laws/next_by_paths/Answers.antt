@@ -1,4 +1,4 @@
-use Rattle.fn_context.proofs.Overrides.{overridden-value}
+use Rattle.fn_context.proofs.EntriesOverrides.{overridden-value}
 use Rattle.fn_filling.specs.Entries.{entries}
 use Rattle.fn_filling.proofs.laws.next_by_paths.Goals as goal
 

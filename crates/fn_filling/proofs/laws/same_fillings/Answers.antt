@@ -1,4 +1,4 @@
-use Rattle.fn_filling.proofs.Unique.{same}
+use Rattle.fn_filling.proofs.FillingsUnique.{same}
 use Rattle.fn_filling.proofs.laws.same_fillings.Goals as goal
 
 pub returns : goal.returns

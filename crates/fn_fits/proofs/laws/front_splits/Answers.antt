@@ -1,4 +1,4 @@
-use Rattle.fn_fits.proofs.Sides.{splits}
+use Rattle.fn_fits.proofs.FitsSides.{splits}
 use Rattle.fn_fits.proofs.laws.front_splits.Goals as goal
 
 pub returns : goal.returns

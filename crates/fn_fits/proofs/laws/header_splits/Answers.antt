@@ -1,4 +1,4 @@
-use Rattle.fn_fits.proofs.Sides.{header_splits}
+use Rattle.fn_fits.proofs.FitsSides.{header_splits}
 use Rattle.fn_fits.proofs.laws.header_splits.Goals as goal
 
 pub returns : goal.returns

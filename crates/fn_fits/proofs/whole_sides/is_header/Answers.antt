@@ -1,7 +1,7 @@
 use Rattle.std.proofs.Common.{refl, ap}
 use Rattle.std.proofs.lemmas.Option.{slice_get_read}
 use Rattle.fn_filling.specs.Fillings.{header, is_header}
-use Rattle.fn_fits.proofs.Pieces.{header_on, header_past, not_header}
+use Rattle.fn_fits.proofs.WholeSidesPieces.{header_on, header_past, not_header}
 use Rattle.fn_fits.proofs.whole_sides.is_header.Goals.{in-Header+else-not-skip, in_default}
 use Rattle.fn_fits.proofs.whole_sides.is_header.Goals as goal
 

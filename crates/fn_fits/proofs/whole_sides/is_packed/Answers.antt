@@ -1,7 +1,7 @@
 use Rattle.std.proofs.Common.{sym, get_or}
 use Rattle.std.proofs.lemmas.Option.{slice_get-get_or}
 use Rattle.fn_filling.specs.Fillings.{packed, fields_of}
-use Rattle.fn_fits.proofs.Pieces.{packed_on, packed_off, packed_past}
+use Rattle.fn_fits.proofs.WholeSidesPieces.{packed_on, packed_off, packed_past}
 use Rattle.fn_fits.proofs.whole_sides.is_packed.Goals.{in-Some+else-not-skip, in_default}
 use Rattle.fn_fits.proofs.whole_sides.is_packed.Goals as goal
 

@@ -2,7 +2,7 @@ use Rattle.std.proofs.Common.{◌++◌, ◌+◌, map, drop, refl, arith}
 use Rattle.std.proofs.lemmas.Option.{slice_get_read}
 use Rattle.fn_expr.specs.declared.expr.Side.TheVariants.{Uncompressed}
 use Rattle.fn_formats.specs.Constraints.{on}
-use Rattle.fn_formats.proofs.Numbering.{next, last}
+use Rattle.fn_formats.proofs.ConstraintsNumbering.{next, last}
 use Rattle.fn_formats.proofs.constraints.add_base.Goals as goal
 
 pub add_kept-requires : goal.add_kept-requires

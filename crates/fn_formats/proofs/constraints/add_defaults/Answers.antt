@@ -1,7 +1,7 @@
 use Rattle.std.proofs.Common.{◌++◌, ◌+◌, ◌∙◌, sym, drop, refl, arith}
 use Rattle.std.proofs.lemmas.Option.{slice_get_read}
 use Rattle.fn_formats.specs.Constraints.{defaults_from}
-use Rattle.fn_formats.proofs.Numbering.{next, last, opened, skipped}
+use Rattle.fn_formats.proofs.ConstraintsNumbering.{next, last, opened, skipped}
 use Rattle.fn_formats.proofs.constraints.add_defaults.Goals.{then-is_in+in_ok-add_used, else-is_in}
 use Rattle.fn_formats.proofs.constraints.add_defaults.Goals as goal
 

@@ -2,7 +2,7 @@ use Rattle.std.proofs.Common.{◌++◌, ◌+◌, ◌∙◌, sym, drop, refl, ari
 use Rattle.std.proofs.lemmas.Option.{slice_get_read}
 use Rattle.fn_expr.specs.declared.expr.Side.TheVariants.{Uncompressed}
 use Rattle.fn_formats.specs.Constraints.{of_group}
-use Rattle.fn_formats.proofs.Numbering.{next, last, opened, skipped}
+use Rattle.fn_formats.proofs.ConstraintsNumbering.{next, last, opened, skipped}
 use Rattle.fn_formats.proofs.constraints.add_group.Goals.{then-is_in+in_ok-add_base, else-is_in}
 use Rattle.fn_formats.proofs.constraints.add_group.Goals as goal
 

@@ -1,7 +1,7 @@
 use Rattle.std.proofs.Common.{◌++◌, ◌+◌, map, drop, refl, arith}
 use Rattle.std.proofs.lemmas.Option.{slice_get_read}
 use Rattle.fn_formats.specs.Constraints.{on}
-use Rattle.fn_formats.proofs.Numbering.{next, last}
+use Rattle.fn_formats.proofs.ConstraintsNumbering.{next, last}
 use Rattle.fn_formats.proofs.constraints.add_items.Goals as goal
 
 pub loop-item-preserved : goal.loop-item-preserved

@@ -1,5 +1,5 @@
 use Rattle.std.proofs.Common.{sym}
-use Rattle.fn_formats.proofs.Numbering.{with_kept}
+use Rattle.fn_formats.proofs.ConstraintsNumbering.{with_kept}
 use Rattle.fn_formats.proofs.constraints.add_kept.Goals as goal
 
 pub returns-in_ok-add_shared-in-Some : goal.returns-in_ok-add_shared-in-Some

@@ -1,4 +1,4 @@
-use Rattle.fn_formats.proofs.Numbering.{with_found}
+use Rattle.fn_formats.proofs.ConstraintsNumbering.{with_found}
 use Rattle.fn_formats.proofs.constraints.add_statement.Goals as goal
 
 pub returns-in_ok-add_to-in-Ok : goal.returns-in_ok-add_to-in-Ok

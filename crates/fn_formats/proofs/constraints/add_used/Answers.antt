@@ -1,7 +1,7 @@
 use Rattle.std.proofs.Common.{◌++◌, ◌+◌, ◌∙◌, sym, drop, refl, arith}
 use Rattle.std.proofs.lemmas.Option.{slice_get_read}
 use Rattle.fn_formats.specs.Constraints.{used_from}
-use Rattle.fn_formats.proofs.Numbering.{next, last, opened, skipped}
+use Rattle.fn_formats.proofs.ConstraintsNumbering.{next, last, opened, skipped}
 use Rattle.fn_formats.proofs.constraints.add_used.Goals.{then-is_used+in_ok-add_statement, else-is_used}
 use Rattle.fn_formats.proofs.constraints.add_used.Goals as goal
 

@@ -2,7 +2,7 @@ use Rattle.std.proofs.Common.{[], map, refl}
 use Rattle.fn_expr.specs.declared.expr.Side.TheVariants.{Uncompressed, Compressed}
 use Rattle.fn_sections.specs.declared.mention.Group.TheVariants.{Header, Control}
 use Rattle.fn_formats.specs.Constraints.{Leads, on, of_group, defaults_from, statements}
-use Rattle.fn_formats.proofs.Numbering.{joined, ended}
+use Rattle.fn_formats.proofs.ConstraintsNumbering.{joined, ended}
 use Rattle.fn_formats.proofs.constraints.format_constraints.Goals as goal
 
 all_of : (c : goal.In_ok-add_items) → Leads c.args.scope.now [] (statements c.args.scope.now c.args.chosen.now c.args.sections.now c.args.own.now) c.add_items.new.all.found c.add_items.new.all.fault

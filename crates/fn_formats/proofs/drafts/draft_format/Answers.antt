@@ -1,7 +1,7 @@
 use Rattle.std.proofs.Common.{ap}
 use Rattle.std.specs.Option.{option_map}
 use Rattle.fn_tree.specs.declared.tree.Section.{Section}
-use Rattle.fn_formats.proofs.Keeping.{kept_in_scope, are_said, are_given}
+use Rattle.fn_formats.proofs.KeptLemmas.{kept_in_scope, are_said, are_given}
 use Rattle.fn_formats.proofs.drafts.draft_format.Goals as goal
 
 pub format_encodings-requires-clause-given : goal.format_encodings-requires-clause-given

@@ -1,5 +1,5 @@
 use Rattle.std.proofs.lemmas.Result.{IfOk-weaker}
-use Rattle.fn_formats.proofs.Keeping.{of_own}
+use Rattle.fn_formats.proofs.KeptLemmas.{of_own}
 use Rattle.fn_formats.proofs.drafts.format_fields.Goals as goal
 
 pub returns : goal.returns

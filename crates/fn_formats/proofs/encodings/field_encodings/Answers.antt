@@ -2,7 +2,7 @@ use Rattle.std.proofs.Common.{arith, ◌∙◌}
 use Rattle.std.specs.Prelude.{None}
 use Rattle.std.proofs.lemmas.List.{take_all}
 use Rattle.fn_formats.specs.Encodings.{FieldMeans, field_fault}
-use Rattle.fn_formats.proofs.Gathering.{nothing_yet, fine_at, refused_at, refused_is}
+use Rattle.fn_formats.proofs.EncodingsGathering.{nothing_yet, fine_at, refused_at, refused_is}
 use Rattle.fn_formats.proofs.encodings.field_encodings.Goals.{in-Ok+in_ok-push-in-Ok, in-Err+in_ok-fault_of-in-Err}
 use Rattle.fn_formats.proofs.encodings.field_encodings.Goals as goal
 

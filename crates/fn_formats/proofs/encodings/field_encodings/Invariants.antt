@@ -1,6 +1,6 @@
 use Rattle.std.proofs.Common.{take}
 use Rattle.fn_formats.specs.Encodings.{FieldMeans, field_fault}
-use Rattle.fn_formats.proofs.Gathering.{Gathered}
+use Rattle.fn_formats.proofs.EncodingsGathering.{Gathered}
 use Rattle.fn_formats.proofs.encodings.field_encodings.Given as goal
 
 abbrev pub invariant-loop-choice : goal.invariant-loop-choice

@@ -1,4 +1,4 @@
-use Rattle.fn_formats.proofs.Hiding.{are_fine}
+use Rattle.fn_formats.proofs.ConstraintsHiding.{are_fine}
 use Rattle.fn_formats.proofs.encodings.format_encodings.Goals as goal
 
 pub own_fault-requires : goal.own_fault-requires

@@ -2,7 +2,7 @@ use Rattle.std.proofs.Common.{refl, ◌∙◌, ap}
 use Rattle.std.proofs.lemmas.Option.{slice_get-get_or}
 use Rattle.fn_formats.specs.Fields.{field}
 use Rattle.fn_formats.specs.Worded.{IsNamed}
-use Rattle.fn_formats.proofs.Joining.{joined_more}
+use Rattle.fn_formats.proofs.FieldsJoining.{joined_more}
 use Rattle.fn_formats.proofs.Wording.{one_of}
 use Rattle.fn_formats.proofs.fields.joined_fields.Goals as goal
 

@@ -1,4 +1,4 @@
-use Rattle.fn_formats.proofs.Keeping.{said_here}
+use Rattle.fn_formats.proofs.KeptLemmas.{said_here}
 use Rattle.fn_formats.proofs.kept.kept_constraints.Goals as goal
 
 pub returns-in_ok-found-in-Ok : goal.returns-in_ok-found-in-Ok

@@ -1,4 +1,4 @@
-use Rattle.fn_formats.proofs.Keeping.{bound_kept}
+use Rattle.fn_formats.proofs.KeptLemmas.{bound_kept}
 use Rattle.fn_formats.proofs.kept.kept_encoding.Goals as goal
 
 pub returns-in-Bound : goal.returns-in-Bound

@@ -3,7 +3,7 @@ use Rattle.std.specs.Prelude.{None}
 use Rattle.std.proofs.lemmas.Option.{slice_get_read}
 use Rattle.fn_formats.specs.declared.kept.KeptStatement.{KeptStatement}
 use Rattle.fn_formats.specs.Kept.{IsKept}
-use Rattle.fn_formats.proofs.Keeping.{zip_next}
+use Rattle.fn_formats.proofs.KeptLemmas.{zip_next}
 use Rattle.fn_formats.proofs.kept.kept_encodings.Goals as goal
 
 pub loop-item-preserved : goal.loop-item-preserved

@@ -1,7 +1,7 @@
 use Rattle.std.proofs.Common.{refl}
 use Rattle.std.proofs.lemmas.Option.{slice_get_read}
 use Rattle.fn_formats.specs.Kept.{IsKept}
-use Rattle.fn_formats.proofs.Keeping.{zip_next}
+use Rattle.fn_formats.proofs.KeptLemmas.{zip_next}
 use Rattle.fn_formats.proofs.kept.kept_items.Goals as goal
 
 pub loop-item-preserved : goal.loop-item-preserved

@@ -2,7 +2,7 @@ use Rattle.std.proofs.Common.{subst, sym, []}
 use Rattle.fn_sections.specs.Fields.{in_field_order}
 use Rattle.fn_sections.specs.Tables.{IsTable}
 use Rattle.fn_formats.specs.declared.kept.Kept.{Kept}
-use Rattle.fn_formats.proofs.Keeping.{kept_of_base}
+use Rattle.fn_formats.proofs.KeptLemmas.{kept_of_base}
 use Rattle.fn_formats.proofs.kept.kept_statements.Goals as goal
 
 pub returns : goal.returns

@@ -1,6 +1,6 @@
 use Rattle.std.proofs.Common.{◌∙◌, sym}
 use Rattle.std.specs.Str.{bytes_eq}
-use Rattle.fn_given.proofs.Lookups.{found_there, none_there}
+use Rattle.fn_given.proofs.AskingLookups.{found_there, none_there}
 use Rattle.fn_given.proofs.asking.is_set.Goals as goal
 
 pub returns-in-Some : goal.returns-in-Some

@@ -1,7 +1,7 @@
 use Rattle.std.proofs.Common.{◌∙◌, sym, ap}
 use Rattle.std.proofs.lemmas.Result.{on_ok_weaker}
 use Rattle.fn_normal.specs.Words.{word}
-use Rattle.fn_given.proofs.BoundsRead.{read_bits, read_fault}
+use Rattle.fn_given.proofs.InitialsBoundsRead.{read_bits, read_fault}
 use Rattle.fn_given.proofs.initial.read_bound.Goals as goal
 
 pub returns-in-Ok : goal.returns-in-Ok

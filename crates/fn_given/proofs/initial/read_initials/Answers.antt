@@ -1,7 +1,7 @@
 use Rattle.std.proofs.Common.{◌∙◌, sym, refl, ◌+◌, take}
 use Rattle.std.proofs.lemmas.Option.{slice_get_read}
 use Rattle.fn_given.specs.Initials.{AreRead, bounds_in}
-use Rattle.fn_given.proofs.BoundsRead.{nothing_read, section_read, section_past}
+use Rattle.fn_given.proofs.InitialsBoundsRead.{nothing_read, section_read, section_past}
 use Rattle.fn_given.proofs.initial.read_initials.Goals as goal
 use Rattle.fn_given.proofs.initial.read_initials.Goals.{then-is_initial+in_ok-read_items, else-is_initial}
 

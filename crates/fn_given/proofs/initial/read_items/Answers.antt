@@ -1,8 +1,8 @@
 use Rattle.std.proofs.Common.{subst, refl, ◌+◌, take}
 use Rattle.std.proofs.lemmas.Option.{slice_get_read}
 use Rattle.fn_given.specs.Initials.{ReadOn, bounds_of}
-use Rattle.fn_given.proofs.Fronts.{whole_front}
-use Rattle.fn_given.proofs.BoundsRead.{read_none, read_more, read_past}
+use Rattle.fn_given.proofs.InitialFronts.{whole_front}
+use Rattle.fn_given.proofs.InitialsBoundsRead.{read_none, read_more, read_past}
 use Rattle.fn_given.proofs.initial.read_items.Goals as goal
 use Rattle.fn_given.proofs.initial.read_items.Goals.{in-Bound+in_ok-read_bound, in_default}
 

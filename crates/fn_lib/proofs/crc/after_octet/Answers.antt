@@ -1,5 +1,5 @@
 use Rattle.std.proofs.Common.{◌∙◌, sym, arith}
-use Rattle.fn_lib.proofs.Registers.{octet_first, octet_more, octet_last}
+use Rattle.fn_lib.proofs.CrcRegisters.{octet_first, octet_more, octet_last}
 use Rattle.fn_lib.proofs.crc.after_octet.Goals as goal
 
 pub loop-k-init : goal.loop-k-init

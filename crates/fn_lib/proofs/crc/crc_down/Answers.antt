@@ -1,7 +1,7 @@
 use Rattle.std.proofs.Common.{◌≡◌, ◌↔◌, Bool, List, length}
 use Rattle.fn_bits.specs.Number.{num}
 use Rattle.fn_lib.specs.Methods.{CrcHolds}
-use Rattle.fn_lib.proofs.Spelling.{passed_four, crc_only}
+use Rattle.fn_lib.proofs.MethodsSpelling.{passed_four, crc_only}
 use Rattle.fn_lib.proofs.crc.crc_down.Goals as goal
 
 pub returns-in_default : goal.returns-in_default

@@ -1,7 +1,7 @@
 use Rattle.std.proofs.Common.{◌≡◌, ◌<◌, ◌∙◌, ◌/◌, ◌*◌, ◌-◌, length, drop, ap, sym, arith}
 use Rattle.std.specs.Prelude.{fold, reverse}
 use Rattle.fn_lib.specs.Crc.{crc_step, crc_register, low_bits_first}
-use Rattle.fn_lib.proofs.Registers.{octet_there, octet_bits, octets_more, register_fits}
+use Rattle.fn_lib.proofs.CrcRegisters.{octet_there, octet_bits, octets_more, register_fits}
 use Rattle.fn_lib.proofs.crc.crc_of.Goals as goal
 
 pub loop-place-preserved : goal.loop-place-preserved

@@ -1,6 +1,6 @@
 use Rattle.std.proofs.Common.{Bool, List}
 use Rattle.fn_lib.specs.Methods.{CrcHolds}
-use Rattle.fn_lib.proofs.Spelling.{passed_four}
+use Rattle.fn_lib.proofs.MethodsSpelling.{passed_four}
 use Rattle.fn_lib.proofs.crc.crc_up.Goals as goal
 
 pub returns-in_default : goal.returns-in_default

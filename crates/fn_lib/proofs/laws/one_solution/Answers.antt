@@ -1,4 +1,4 @@
-use Rattle.fn_lib.proofs.Solutions.{one_up, one_down}
+use Rattle.fn_lib.proofs.MethodsSolutions.{one_up, one_down}
 use Rattle.fn_lib.proofs.laws.one_solution.Goals as goal
 
 pub returns : goal.returns

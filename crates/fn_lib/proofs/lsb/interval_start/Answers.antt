@@ -2,8 +2,8 @@ use Rattle.std.proofs.Common.{◌^◌, ◌∙◌, arith}
 use Rattle.std.specs.Prelude.{pos, ◌-ℤ◌}
 use Rattle.std.specs.Int.{int_rem_euclid}
 use Rattle.std.specs.Int.RustNames.{unsigned_abs}
-use Rattle.fn_lib.proofs.Spelling.{num_small}
-use Rattle.fn_lib.proofs.Starts.{start_is}
+use Rattle.fn_lib.proofs.MethodsSpelling.{num_small}
+use Rattle.fn_lib.proofs.LsbStarts.{start_is}
 use Rattle.fn_lib.proofs.lsb.interval_start.Goals as goal
 
 pub returns : goal.returns

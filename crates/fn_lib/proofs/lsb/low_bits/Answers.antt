@@ -1,6 +1,6 @@
 use Rattle.std.proofs.Common.{◌%◌, ◌^◌}
 use Rattle.fn_lib.specs.Methods.{IsLowPart}
-use Rattle.fn_lib.proofs.Spelling.{from_passed, spelled_only_ok, low_part_spelled, low_part_spells}
+use Rattle.fn_lib.proofs.MethodsSpelling.{from_passed, spelled_only_ok, low_part_spelled, low_part_spells}
 use Rattle.fn_lib.proofs.lsb.low_bits.Goals as goal
 
 pub returns : goal.returns

@@ -5,9 +5,9 @@ use Rattle.std.proofs.lemmas.Nat.{one_shl}
 use Rattle.std.proofs.lemmas.Result.{IfOk-weaker}
 use mir.Syntax.{w128}
 use Rattle.fn_lib.specs.Methods.{LsbHolds, IsLowPart, IsOnly, lsb_start}
-use Rattle.fn_lib.proofs.Spelling.{from_passed, only_along}
-use Rattle.fn_lib.proofs.Moduli.{distance_of}
-use Rattle.fn_lib.proofs.Lasts.{down_none, down_to, down_from}
+use Rattle.fn_lib.proofs.MethodsSpelling.{from_passed, only_along}
+use Rattle.fn_lib.proofs.LsbModuli.{distance_of}
+use Rattle.fn_lib.proofs.MethodsLasts.{down_none, down_to, down_from}
 use Rattle.fn_lib.proofs.lsb.lsb_down.Goals as goal
 
 pub returns-then-distance-count : goal.returns-then-distance-count

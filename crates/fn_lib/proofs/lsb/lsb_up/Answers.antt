@@ -5,9 +5,9 @@ use Rattle.std.proofs.lemmas.Int.{to_z-of_z}
 use mir.Syntax.{w128}
 use Rattle.fn_bits.proofs.Numbers.{num-below}
 use Rattle.fn_lib.specs.Methods.{LsbHolds, lsb_start}
-use Rattle.fn_lib.proofs.Spelling.{spelled_only_ok, count_passed}
-use Rattle.fn_lib.proofs.Moduli.{ahead}
-use Rattle.fn_lib.proofs.Lasts.{up_to, up_from}
+use Rattle.fn_lib.proofs.MethodsSpelling.{spelled_only_ok, count_passed}
+use Rattle.fn_lib.proofs.LsbModuli.{ahead}
+use Rattle.fn_lib.proofs.MethodsLasts.{up_to, up_from}
 use Rattle.fn_lib.proofs.lsb.lsb_up.Goals as goal
 
 pub member-value-requires-clause-fits : goal.member-value-requires-clause-fits

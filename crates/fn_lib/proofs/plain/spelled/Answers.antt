@@ -1,5 +1,5 @@
 use Rattle.fn_lib.specs.Methods.{Spells}
-use Rattle.fn_lib.proofs.Spelling.{from_passed, not_passed, number_fits, spelled_only_ok}
+use Rattle.fn_lib.proofs.MethodsSpelling.{from_passed, not_passed, number_fits, spelled_only_ok}
 use Rattle.fn_lib.proofs.plain.spelled.Goals as goal
 
 pub returns-in_default-try_from : goal.returns-in_default-try_from

@@ -2,7 +2,7 @@ use Rattle.std.proofs.Common.{◌≡◌, ◌∙◌, refl, rules, sym, ◌<◌, [
 use Rattle.std.proofs.lemmas.List.{append-nil}
 use Rattle.std.specs.Prelude.{slice_get, Some}
 use Rattle.std.proofs.lemmas.Option.{slice_get_read}
-use Rattle.fn_line.proofs.Begun.{fresh, heard_awaited, heard_taken, heard_reset, packet_fault, start_fault}
+use Rattle.fn_line.proofs.LinesBegun.{fresh, heard_awaited, heard_taken, heard_reset, packet_fault, start_fault}
 use Rattle.fn_line.proofs.packet.hear.Goals as goal
 
 pub returns-in_default-clause-err : goal.returns-in_default-clause-err

@@ -1,7 +1,7 @@
 use Rattle.std.proofs.Common.{◌≡◌, ◌∙◌, refl, rules, sym, ◌+◌, ◌-◌, ◌<◌, [], ◌∷◌, length, get_or, arith}
 use Rattle.std.proofs.lemmas.Option.{slice_get_read}
 use Rattle.std.specs.Prelude.{slice_get, Some}
-use Rattle.fn_line.proofs.Begun.{heard_whole}
+use Rattle.fn_line.proofs.LinesBegun.{heard_whole}
 use Rattle.fn_line.proofs.packet.hear_whole.Goals as goal
 
 pub returns-in_ok-push-in-Some-2-clause-some : goal.returns-in_ok-push-in-Some-2-clause-some

@@ -1,5 +1,5 @@
 use Rattle.std.proofs.Common.{◌≡◌, refl, ap, true, false, map, string_bytes, drop}
-use Rattle.fn_line.proofs.Trying.{taken, badly_filled, awaited, refused}
+use Rattle.fn_line.proofs.StepsTrying.{taken, badly_filled, awaited, refused}
 use Rattle.fn_line.proofs.packet.try_packet.Goals as goal
 
 pub returns-then-not-is_zero-clause-err : goal.returns-then-not-is_zero-clause-err

@@ -1,5 +1,5 @@
 use Rattle.std.proofs.Common.{◌∙◌, refl, sym, ap, ◌+◌, ◌/◌, ◌≤◌, subst, length, map, string_bytes}
-use Rattle.fn_line.proofs.Trying.{count_within, told_at_once}
+use Rattle.fn_line.proofs.StepsTrying.{count_within, told_at_once}
 use Rattle.fn_line.proofs.packet.whole_packet.Goals as goal
 
 pub returns-clause-some : goal.returns-clause-some

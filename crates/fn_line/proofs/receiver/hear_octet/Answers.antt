@@ -1,4 +1,4 @@
-use Rattle.fn_line.proofs.Begun.{octet_fault}
+use Rattle.fn_line.proofs.LinesBegun.{octet_fault}
 use Rattle.fn_line.proofs.receiver.hear_octet.Goals as goal
 
 pub returns-in-Err-clause-err : goal.returns-in-Err-clause-err

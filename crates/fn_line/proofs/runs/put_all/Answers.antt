@@ -1,7 +1,7 @@
 use Rattle.std.proofs.Common.{subst, ◌≤◌, length, map}
 use Rattle.std.proofs.lemmas.List.{take_all}
 use Rattle.fn_line.specs.Runs.{event_of, ArePut}
-use Rattle.fn_line.proofs.Whole.{none_put, one_put, blames_run}
+use Rattle.fn_line.proofs.StatesWhole.{none_put, one_put, blames_run}
 use Rattle.fn_line.proofs.runs.put_all.Goals as goal
 
 pub loop-i-init : goal.loop-i-init

@@ -1,6 +1,6 @@
 use Rattle.std.proofs.Common.{map}
 use Rattle.fn_line.specs.Runs.{event_of}
-use Rattle.fn_line.proofs.Whole.{is_heard, is_run}
+use Rattle.fn_line.proofs.StatesWhole.{is_heard, is_run}
 use Rattle.fn_line.proofs.runs.run.Goals as goal
 
 pub returns-in-Ok-clause-ok : goal.returns-in-Ok-clause-ok

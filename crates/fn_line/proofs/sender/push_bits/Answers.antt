@@ -1,5 +1,5 @@
 use Rattle.std.proofs.Common.{◌+◌, ◌/◌, ◌≤◌, ◌<◌, length, vec_len, vec_capacity, arith}
-use Rattle.fn_line.proofs.Pushing.{all_pushed, none_pushed, one_pushed}
+use Rattle.fn_line.proofs.SenderPushing.{all_pushed, none_pushed, one_pushed}
 use Rattle.fn_line.proofs.sender.push_bits.Goals as goal
 
 pub loop-place-init : goal.loop-place-init

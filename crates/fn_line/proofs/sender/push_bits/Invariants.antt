@@ -1,5 +1,5 @@
 use Rattle.std.proofs.Common.{◌≤◌, ◌+◌, ◌/◌, length, vec_len, vec_capacity}
-use Rattle.fn_line.proofs.Pushing.{Pushed}
+use Rattle.fn_line.proofs.SenderPushing.{Pushed}
 use Rattle.fn_line.proofs.sender.push_bits.Given as goal
 
 -- the octets so far, and there is room for the others

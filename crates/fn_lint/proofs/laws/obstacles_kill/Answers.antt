@@ -1,4 +1,4 @@
-use Rattle.fn_lint.proofs.Dead.{obstacles-kill}
+use Rattle.fn_lint.proofs.ObstaclesDead.{obstacles-kill}
 use Rattle.fn_lint.proofs.laws.obstacles_kill.Goals as goal
 
 pub returns : goal.returns

@@ -1,7 +1,7 @@
 use Rattle.std.proofs.Common.{arith}
 use Rattle.std.proofs.lemmas.Option.{slice_get_within}
 use Rattle.fn_lint.specs.Obstacles.{HasNoLength}
-use Rattle.fn_lint.proofs.First.{none_up_to}
+use Rattle.fn_lint.proofs.LengthsFirst.{none_up_to}
 use Rattle.fn_lint.proofs.lengths.no_length.Goals as goal
 
 pub loop-field-preserved : goal.loop-field-preserved

@@ -1,6 +1,6 @@
 use Rattle.std.proofs.Common.{sym}
-use Rattle.fn_lint.proofs.Dead.{none_dead}
-use Rattle.fn_lint.proofs.Standing.{one_hinders, none_hinders, by_ranges, each_ok}
+use Rattle.fn_lint.proofs.ObstaclesDead.{none_dead}
+use Rattle.fn_lint.proofs.ObstaclesStanding.{one_hinders, none_hinders, by_ranges, each_ok}
 use Rattle.fn_lint.proofs.obstacle.obstacle_of.Goals as goal
 
 pub returns-clause-found : goal.returns-clause-found

@@ -3,7 +3,7 @@ use Rattle.fn_expr.specs.declared.expr.Side.{Side}
 use Rattle.fn_expr.specs.Bounds.{bounding_of}
 use Rattle.fn_lint.specs.Never.{IsUntrue}
 use Rattle.fn_lint.specs.Obstacles.{HasNoLength, SendsMore, SplitsOctets}
-use Rattle.fn_lint.proofs.Standing.{none_stands}
+use Rattle.fn_lint.proofs.ObstaclesStanding.{none_stands}
 use Rattle.fn_lint.proofs.obstacle.standing.Goals as goal
 
 pub returns : goal.returns

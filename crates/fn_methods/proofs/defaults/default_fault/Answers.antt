@@ -1,6 +1,6 @@
 use Rattle.std.proofs.Common.{refl}
 use Rattle.std.proofs.lemmas.Option.{slice_get_read}
-use Rattle.fn_methods.proofs.Sections.{next_section}
+use Rattle.fn_methods.proofs.DefaultsSections.{next_section}
 use Rattle.fn_methods.proofs.defaults.default_fault.Goals as goal
 
 pub loop-section-preserved : goal.loop-section-preserved

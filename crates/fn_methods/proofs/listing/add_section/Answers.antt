@@ -1,5 +1,5 @@
 use Rattle.std.proofs.Common.{refl, sym, ◌∙◌}
-use Rattle.fn_methods.proofs.Leading.{with_format, without_format}
+use Rattle.fn_methods.proofs.ListingLeading.{with_format, without_format}
 use Rattle.fn_methods.proofs.listing.add_section.Goals as goal
 
 pub returns-in_ok-push : goal.returns-in_ok-push

@@ -2,7 +2,7 @@ use Rattle.std.proofs.Common.{◌+◌, refl, drop, arith, subst, sym}
 use Rattle.std.proofs.lemmas.Option.{slice_get_read}
 use Rattle.fn_formats.specs.Worded.{SectionIsWorded}
 use Rattle.fn_formats.proofs.Wording.{one_of}
-use Rattle.fn_methods.proofs.Leading.{next, ended}
+use Rattle.fn_methods.proofs.ListingLeading.{next, ended}
 use Rattle.fn_methods.proofs.listing.listed_formats.Goals as goal
 
 pub add_section-requires-clause-section : goal.add_section-requires-clause-section

@@ -1,4 +1,4 @@
-use Rattle.fn_methods.proofs.Parts.{both_listed}
+use Rattle.fn_methods.proofs.ListingParts.{both_listed}
 use Rattle.fn_methods.proofs.methods.body_of.Goals as goal
 
 pub returns : goal.returns

@@ -1,7 +1,7 @@
 use Rattle.std.proofs.Common.{refl}
 use Rattle.std.proofs.lemmas.Result.{IfOk-weaker}
 use Rattle.fn_methods.specs.declared.methods.MethodBody.{MethodBody}
-use Rattle.fn_methods.proofs.Parts.{with_formats}
+use Rattle.fn_methods.proofs.ListingParts.{with_formats}
 use Rattle.fn_methods.proofs.methods.body_with.Goals as goal
 
 pub returns : goal.returns

@@ -1,4 +1,4 @@
-use Rattle.fn_methods.proofs.Parts.{with_givens}
+use Rattle.fn_methods.proofs.ListingParts.{with_givens}
 use Rattle.fn_methods.proofs.methods.method_body.Goals as goal
 
 pub returns : goal.returns

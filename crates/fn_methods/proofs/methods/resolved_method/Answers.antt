@@ -1,5 +1,5 @@
 use Rattle.std.proofs.Common.{refl, ◌∙◌}
-use Rattle.fn_methods.proofs.Parts.{with_body}
+use Rattle.fn_methods.proofs.ListingParts.{with_body}
 use Rattle.fn_methods.proofs.methods.resolved_method.Goals as goal
 
 pub returns : goal.returns

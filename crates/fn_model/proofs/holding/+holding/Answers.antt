@@ -10,10 +10,10 @@ use Rattle.fn_fits.specs.Fits.{Fits}
 use Rattle.fn_fits.specs.Ready.{FieldFitsAt, AllFit, IsCoded, IsCalled, IsShown, HasLevel}
 use Rattle.fn_model.specs.declared.level.Level.{Level}
 use Rattle.fn_model.proofs.Levels.{ready_level}
-use Rattle.fn_model.proofs.Alike.{filling_fits}
+use Rattle.fn_model.proofs.HoldingAlike.{filling_fits}
 use Rattle.fn_fits.proofs.Coded.{ok_weaker}
 use Rattle.fn_fits.proofs.Each.{before_next, before_end}
-use Rattle.fn_model.proofs.Fields.{bare_holds, coded_holds, called_holds}
+use Rattle.fn_model.proofs.HoldingFields.{bare_holds, coded_holds, called_holds}
 use Rattle.fn_model.proofs.holding.+holding.Goals as goal
 
 pub field_holds-is_coded-requires-clause-ranged : goal.field_holds-is_coded-requires-clause-ranged

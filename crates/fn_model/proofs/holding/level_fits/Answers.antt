@@ -4,12 +4,12 @@ use Rattle.fn_expr.specs.Known.{assignment_of}
 use Rattle.fn_fits.specs.Fits.{Fits}
 use Rattle.fn_fits.specs.Ready.{AllFit, IsShown, HasLevel}
 use Rattle.fn_model.proofs.Levels.{ready_level}
-use Rattle.fn_model.proofs.Alike.{all_fit}
-use Rattle.fn_fits.proofs.Limits.{never_long}
+use Rattle.fn_model.proofs.HoldingAlike.{all_fit}
+use Rattle.fn_fits.proofs.FitsLimits.{never_long}
 use Rattle.fn_filling.specs.Fillings.{header, packed}
 use Rattle.fn_fits.proofs.Coded.{ok_weaker}
-use Rattle.fn_model.proofs.Fields.{not_where_false}
-use Rattle.fn_fits.proofs.Judged.{fitting}
+use Rattle.fn_model.proofs.HoldingFields.{not_where_false}
+use Rattle.fn_fits.proofs.FitsJudged.{fitting}
 use Rattle.std.specs.Prelude.{Option, Some, IfSome, MatchOption}
 use Rattle.fn_model.specs.declared.level.Level.{Level}
 use Rattle.fn_model.proofs.holding.level_fits.Goals as goal

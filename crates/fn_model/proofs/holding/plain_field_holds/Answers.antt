@@ -6,7 +6,7 @@ use Rattle.fn_expr.specs.Known.{assignment_of}
 use Rattle.fn_bounds.specs.Laws.{in_encoding, encoding_exprs}
 use Rattle.fn_fits.specs.Ready.{FieldFitsAt, IsCoded}
 use Rattle.fn_fits.proofs.Coded.{ok_weaker}
-use Rattle.fn_model.proofs.Fields.{bare_holds, coded_holds, not_where_false}
+use Rattle.fn_model.proofs.HoldingFields.{bare_holds, coded_holds, not_where_false}
 use Rattle.fn_model.proofs.holding.plain_field_holds.Goals as goal
 
 pub is_coded-requires-clause-ranged : goal.is_coded-requires-clause-ranged

@@ -1,7 +1,7 @@
 use Rattle.std.proofs.Common.{◌≡◌, subst, ◌≤◌, ◌^◌, inl, inr, length}
 use Rattle.std.specs.Prelude.{MatchOption}
 use Rattle.fn_filling.specs.Fillings.{header, packed}
-use Rattle.fn_fits.proofs.Limits.{never_long}
+use Rattle.fn_fits.proofs.FitsLimits.{never_long}
 use Rattle.fn_model.proofs.holding.sides_if_fits.Goals as goal
 
 pub returns-in_default-clause-none : goal.returns-in_default-clause-none

@@ -1,6 +1,6 @@
 use Rattle.fn_fits.proofs.Bounding.{lie-in-bounds}
-use Rattle.fn_model.proofs.Fields.{not_where_false}
-use Rattle.fn_fits.proofs.Limits.{never_unbounded}
+use Rattle.fn_model.proofs.HoldingFields.{not_where_false}
+use Rattle.fn_fits.proofs.FitsLimits.{never_unbounded}
 use Rattle.fn_model.proofs.level.level_of.Goals as goal
 
 pub returns-then-not-is_bounded-clause-none : goal.returns-then-not-is_bounded-clause-none

@@ -1,6 +1,6 @@
 use Rattle.std.proofs.Common.{◌∙◌, sym, ap}
 use Rattle.std.specs.Option.{option_copied}
-use Rattle.fn_fits.proofs.Judged.{never_unsized}
+use Rattle.fn_fits.proofs.FitsJudged.{never_unsized}
 use Rattle.fn_model.proofs.level.place_of.Goals as goal
 
 pub returns-in_err-sizes-clause-none : goal.returns-in_err-sizes-clause-none

@@ -1,6 +1,6 @@
 use Rattle.std.proofs.Common.{rules, ◌∙◌, sym, ap}
 use Rattle.fn_expr.specs.Known.{measured}
-use Rattle.fn_model.proofs.Seeing.{field_seen}
+use Rattle.fn_model.proofs.NumbersSeeing.{field_seen}
 use Rattle.fn_model.proofs.numbers.field_number.Goals as goal
 
 pub returns-in-Uncompressed : goal.returns-in-Uncompressed

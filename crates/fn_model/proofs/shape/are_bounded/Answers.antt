@@ -3,7 +3,7 @@ use Rattle.std.proofs.lemmas.Option.{slice_get_read}
 use Rattle.fn_filling.specs.Fillings.{sides_of}
 use Rattle.fn_fits.specs.Level.{FieldLies}
 use Rattle.fn_fits.proofs.Each.{before_next, before_end}
-use Rattle.fn_model.proofs.Shapes.{fields_lie, field_lies_at}
+use Rattle.fn_model.proofs.ShapeLemmas.{fields_lie, field_lies_at}
 use Rattle.fn_model.proofs.shape.are_bounded.Goals as goal
 
 pub returns-then-not-field_lies : goal.returns-then-not-field_lies

@@ -4,7 +4,7 @@ use Rattle.std.specs.Prelude.{slice_get, Some}
 use Rattle.fn_normal.specs.declared.profile.Field.{Field}
 use Rattle.fn_filling.specs.Fillings.{sides_of}
 use Rattle.fn_fits.proofs.Each.{before_next, before_end}
-use Rattle.fn_model.proofs.Shapes.{declared_alike, declared_at}
+use Rattle.fn_model.proofs.ShapeLemmas.{declared_alike, declared_at}
 use Rattle.fn_model.proofs.shape.are_declared.Goals as goal
 
 pub returns-then-not-is_declared : goal.returns-then-not-is_declared

@@ -2,7 +2,7 @@ use Rattle.std.proofs.Common.{◌∙◌, ap, sym, length, refl, subst}
 use Rattle.std.specs.Prelude.{IsTrue}
 use Rattle.fn_filling.specs.Fillings.{fields_of}
 use Rattle.fn_fits.specs.Level.{FieldsLie}
-use Rattle.fn_model.proofs.Shapes.{lengths_lie, fields_lie_not}
+use Rattle.fn_model.proofs.ShapeLemmas.{lengths_lie, fields_lie_not}
 use Rattle.fn_model.proofs.shape.is_bounded.Goals as goal
 
 pub returns-then-are_bounded : goal.returns-then-are_bounded

@@ -1,7 +1,7 @@
 use Rattle.std.proofs.Common.{arith, sym, ◌∙◌, subst}
 use Rattle.fn_calls.specs.Calls.{Has}
 use Rattle.fn_calls.proofs.Measuring.{read_row}
-use Rattle.fn_names.proofs.Ends.{called_none, called_more, called_same, called_all}
+use Rattle.fn_names.proofs.CallDepthEnds.{called_none, called_more, called_same, called_all}
 use Rattle.fn_names.proofs.call_depth.called_by.Goals.{then-is_marked_at, else-is_marked_at}
 use Rattle.fn_names.proofs.call_depth.called_by.Goals as goal
 

@@ -1,4 +1,4 @@
-use Rattle.fn_names.proofs.Ends.{CalledSo}
+use Rattle.fn_names.proofs.CallDepthEnds.{CalledSo}
 use Rattle.fn_names.proofs.call_depth.called_by.Given as goal
 
 abbrev pub invariant-loop-caller : goal.invariant-loop-caller

@@ -1,4 +1,4 @@
-use Rattle.fn_names.proofs.Shallow.{judged_ends}
+use Rattle.fn_names.proofs.CallDepthShallow.{judged_ends}
 use Rattle.fn_names.proofs.call_depth.deep_call.Goals as goal
 
 pub returns : goal.returns

@@ -1,6 +1,6 @@
 use Rattle.std.proofs.Common.{arith, ◌≡◌, ◌+◌, suc, subst}
 use Rattle.fn_names.specs.CallDepth.{AreEnds}
-use Rattle.fn_names.proofs.Ends.{first_ends, next_ends}
+use Rattle.fn_names.proofs.CallDepthEnds.{first_ends, next_ends}
 use Rattle.fn_names.proofs.call_depth.ends_of_chains.Goals as goal
 
 pub loop-call-init : goal.loop-call-init

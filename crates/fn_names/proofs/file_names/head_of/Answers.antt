@@ -1,5 +1,5 @@
 use Rattle.std.proofs.lemmas.Result.{err_from_is_err_and}
-use Rattle.fn_names.proofs.Distinct.{distinct_there, twice_refused, value_refused}
+use Rattle.fn_names.proofs.PartsDistinct.{distinct_there, twice_refused, value_refused}
 use Rattle.fn_names.proofs.file_names.head_of.Goals as goal
 
 pub returns-in_err-names-clause-refused : goal.returns-in_err-names-clause-refused

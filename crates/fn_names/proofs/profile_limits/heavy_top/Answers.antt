@@ -1,7 +1,7 @@
 use Rattle.std.proofs.Common.{refl}
 use Rattle.std.proofs.lemmas.Option.{slice_get_read}
-use Rattle.fn_names.proofs.Using.{order_of_fields}
-use Rattle.fn_names.proofs.Weighing.{judged_light, judged_heavy}
+use Rattle.fn_names.proofs.CallsUsing.{order_of_fields}
+use Rattle.fn_names.proofs.ProfileLimitsWeighed.{judged_light, judged_heavy}
 use Rattle.fn_names.proofs.profile_limits.heavy_top.Goals as goal
 
 pub weights-requires : goal.weights-requires

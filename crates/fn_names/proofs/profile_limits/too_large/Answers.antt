@@ -1,7 +1,7 @@
 use Rattle.fn_profile.specs.Uses.{used_graph}
-use Rattle.fn_names.proofs.Shallow.{callees_within}
-use Rattle.fn_names.proofs.Using.{order_of_graph}
-use Rattle.fn_names.proofs.Weighing.{judged_limits}
+use Rattle.fn_names.proofs.CallDepthShallow.{callees_within}
+use Rattle.fn_names.proofs.CallsUsing.{order_of_graph}
+use Rattle.fn_names.proofs.ProfileLimitsWeighed.{judged_limits}
 use Rattle.fn_names.proofs.profile_limits.too_large.Goals as goal
 
 pub deep_call-requires-clause-within : goal.deep_call-requires-clause-within

@@ -2,7 +2,7 @@ use Rattle.std.proofs.Common.{◌∙◌, ap}
 use Rattle.std.specs.Prelude.{is_some}
 use Rattle.std.specs.List.{list_any}
 use Rattle.std.specs.Str.{bytes_eq}
-use Rattle.fn_normal.proofs.Tables.{any-position}
+use Rattle.fn_normal.proofs.WordsTables.{any-position}
 use Rattle.fn_normal.proofs.words.is_one_of.Goals as goal
 
 pub returns-in-Some : goal.returns-in-Some

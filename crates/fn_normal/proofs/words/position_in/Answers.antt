@@ -1,7 +1,7 @@
 use Rattle.std.proofs.Common.{◌∙◌, sym, ap, ◌+◌, length, Some}
 use Rattle.std.specs.Prelude.{option_map}
 use Rattle.std.specs.Str.{bytes_eq}
-use Rattle.fn_normal.proofs.Tables.{position-first, position-second}
+use Rattle.fn_normal.proofs.WordsTables.{position-first, position-second}
 use Rattle.fn_normal.proofs.words.position_in.Goals as goal
 
 pub returns-in_err-place-in-None-clause-value : goal.returns-in_err-place-in-None-clause-value

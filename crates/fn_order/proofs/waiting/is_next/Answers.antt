@@ -3,7 +3,7 @@ use Rattle.std.specs.Prelude.{◌&&◌, not, is_some}
 use Rattle.std.specs.List.{list_all}
 use Rattle.fn_plans.specs.Knowing.{shows}
 use Rattle.fn_plans.specs.Needing.{facts_of_all, first_unknown}
-use Rattle.fn_order.proofs.Awaiting.{waits_still, gives_so, waits_for_first}
+use Rattle.fn_order.proofs.SearchingAwaiting.{waits_still, gives_so, waits_for_first}
 use Rattle.fn_order.proofs.waiting.is_next.Goals as goal
 
 pub returns-then-is_unknown-clause-next : goal.returns-then-is_unknown-clause-next

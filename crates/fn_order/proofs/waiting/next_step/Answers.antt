@@ -4,7 +4,7 @@ use Rattle.std.proofs.lemmas.List.{drop_more}
 use Rattle.std.proofs.lemmas.Option.{slice_get_read}
 use Rattle.fn_plans.specs.Knowing.{shows}
 use Rattle.fn_order.specs.Searching.{Ruled, ruled, gives_more}
-use Rattle.fn_order.proofs.Awaiting.{waits_more, passed_over}
+use Rattle.fn_order.proofs.SearchingAwaiting.{waits_more, passed_over}
 use Rattle.fn_order.proofs.waiting.next_step.Goals as goal
 
 pub loop-index-preserved : goal.loop-index-preserved

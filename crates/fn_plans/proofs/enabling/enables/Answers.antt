@@ -3,7 +3,7 @@ use Rattle.std.specs.Prelude.{◌&&◌, not, is_some}
 use Rattle.std.specs.List.{list_all}
 use Rattle.fn_plans.specs.Knowing.{shows}
 use Rattle.fn_plans.specs.Needing.{facts_of_all, first_unknown}
-use Rattle.fn_plans.proofs.Unknown.{all_known_is}
+use Rattle.fn_plans.proofs.NeedingUnknown.{all_known_is}
 use Rattle.fn_plans.proofs.enabling.enables.Goals as goal
 
 pub returns-then-is_none : goal.returns-then-is_none

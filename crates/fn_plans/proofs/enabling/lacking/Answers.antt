@@ -1,7 +1,7 @@
 use Rattle.std.proofs.Common.{◌≡◌, refl, sym, ◌∙◌, ap, ◌+◌, ◌∷◌, drop}
 use Rattle.std.proofs.lemmas.List.{drop_more}
 use Rattle.fn_plans.specs.Needing.{facts_of, facts_of_all, first_unknown}
-use Rattle.fn_plans.proofs.Unknown.{joined_some, joined_none}
+use Rattle.fn_plans.proofs.NeedingUnknown.{joined_some, joined_none}
 use Rattle.fn_plans.proofs.enabling.lacking.Goals as goal
 
 pub returns-in-Some : goal.returns-in-Some

@@ -6,7 +6,7 @@ use Rattle.fn_expr.specs.declared.expr.Side.TheVariants.{Compressed}
 use Rattle.fn_lib.specs.Methods as lib
 use Rattle.fn_lib.specs.Methods.{IsOnly}
 use Rattle.fn_reasons.specs.Told.{Related}
-use Rattle.fn_reasons.proofs.Arms.{one, two, four}
+use Rattle.fn_reasons.proofs.AcrossArms.{one, two, four}
 use Rattle.fn_reasons.proofs.across.header_side.Goals as goal
 
 pub returns-in-UncompressedValue : goal.returns-in-UncompressedValue

@@ -6,7 +6,7 @@ use Rattle.fn_reasons.specs.Across.{method_of}
 use Rattle.fn_reasons.specs.Conflicts.{StandsIn}
 use Rattle.fn_reasons.specs.Told.{Related, opposite, seen_at}
 use Rattle.fn_reasons.specs.declared.reason.Reason.TheVariants as reason
-use Rattle.fn_reasons.proofs.Making.{differs_is}
+use Rattle.fn_reasons.proofs.ReasonsMaking.{differs_is}
 use Rattle.fn_reasons.proofs.conflict.differs.Goals as goal
 
 pub returns : goal.returns

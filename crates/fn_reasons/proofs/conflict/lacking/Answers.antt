@@ -1,7 +1,7 @@
 use Rattle.std.proofs.Common.{subst, sym}
 use Rattle.fn_reasons.specs.Conflicts.{StandsIn}
 use Rattle.fn_reasons.specs.declared.reason.Reason.TheVariants as reason
-use Rattle.fn_reasons.proofs.Making.{no_side_is}
+use Rattle.fn_reasons.proofs.ReasonsMaking.{no_side_is}
 use Rattle.fn_reasons.proofs.conflict.lacking.Goals as goal
 
 pub returns : goal.returns

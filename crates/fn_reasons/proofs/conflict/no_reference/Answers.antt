@@ -1,6 +1,6 @@
 use Rattle.std.proofs.Common.{ap, ◌∙◌}
 use Rattle.fn_filling.specs.Entries.{below}
-use Rattle.fn_reasons.proofs.Making.{no_reference_is}
+use Rattle.fn_reasons.proofs.ReasonsMaking.{no_reference_is}
 use Rattle.fn_reasons.proofs.conflict.no_reference.Goals as goal
 
 pub returns : goal.returns

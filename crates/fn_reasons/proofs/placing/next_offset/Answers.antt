@@ -1,6 +1,6 @@
 use Rattle.std.proofs.Common.{rules, ◌∙◌, sym}
 use Rattle.fn_reasons.specs.Places.{length_in}
-use Rattle.fn_reasons.proofs.Making.{longer}
+use Rattle.fn_reasons.proofs.ReasonsMaking.{longer}
 use Rattle.fn_reasons.proofs.placing.next_offset.Goals as goal
 
 pub returns : goal.returns

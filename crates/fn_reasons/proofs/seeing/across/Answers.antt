@@ -1,6 +1,6 @@
 use Rattle.std.proofs.Common.{rules}
 use Rattle.std.proofs.lemmas.Result.{IfOk-weaker}
-use Rattle.fn_reasons.proofs.Making.{across_from}
+use Rattle.fn_reasons.proofs.ReasonsMaking.{across_from}
 use Rattle.fn_reasons.proofs.seeing.across.Goals as goal
 
 pub returns : goal.returns

@@ -1,4 +1,4 @@
-use Rattle.fn_reasons.proofs.Making.{if_ok, one_seen}
+use Rattle.fn_reasons.proofs.ReasonsMaking.{if_ok, one_seen}
 use Rattle.fn_reasons.proofs.seeing.add_sight.Goals as goal
 
 pub returns : goal.returns

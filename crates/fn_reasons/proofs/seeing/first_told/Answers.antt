@@ -1,6 +1,6 @@
 use Rattle.std.proofs.Common.{rules, sym, subst}
 use Rattle.fn_reasons.specs.Looks.{ToldOf}
-use Rattle.fn_reasons.proofs.Making.{empty_is}
+use Rattle.fn_reasons.proofs.ReasonsMaking.{empty_is}
 use Rattle.fn_reasons.proofs.seeing.first_told.Goals as goal
 
 pub returns-then-leaves_empty : goal.returns-then-leaves_empty

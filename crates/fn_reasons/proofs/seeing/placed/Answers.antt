@@ -1,5 +1,5 @@
 use Rattle.std.proofs.lemmas.Result.{IfOk-weaker}
-use Rattle.fn_reasons.proofs.Making.{placed_is, weaker}
+use Rattle.fn_reasons.proofs.ReasonsMaking.{placed_is, weaker}
 use Rattle.fn_reasons.proofs.seeing.placed.Goals as goal
 
 pub returns : goal.returns

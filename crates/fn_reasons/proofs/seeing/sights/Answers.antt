@@ -1,6 +1,6 @@
 use Rattle.std.proofs.Common.{rules, sym, subst}
 use Rattle.fn_reasons.specs.Looks.{SoFar}
-use Rattle.fn_reasons.proofs.Making.{all_seen, none_seen}
+use Rattle.fn_reasons.proofs.ReasonsMaking.{all_seen, none_seen}
 use Rattle.fn_reasons.proofs.seeing.sights.Goals as goal
 
 pub loop-index-init : goal.loop-index-init

@@ -2,7 +2,7 @@ use Rattle.std.proofs.Common.{sym, ap, ◌∙◌}
 use Rattle.fn_bounds.specs.Laws.{library_exprs}
 use Rattle.fn_expr.specs.Bounds.{bounding_of}
 use Rattle.fn_reasons.specs.Undefined.{first_undefined, undefined}
-use Rattle.fn_reasons.proofs.Valueless.{of_four}
+use Rattle.fn_reasons.proofs.UndefinedValueless.{of_four}
 use Rattle.fn_reasons.proofs.undefined.undefined_in.Goals as goal
 
 pub returns-in-Crc : goal.returns-in-Crc

@@ -2,7 +2,7 @@ use Rattle.std.proofs.Common.{rules, ap, subst, false, ◌∙◌, ◌++◌, ◌�
 use Rattle.fn_filling.specs.Entries.{below}
 use Rattle.fn_reasons.specs.Reasons.{TellAll}
 use Rattle.fn_reasons.specs.Settings.{Setting, setting_of}
-use Rattle.fn_reasons.proofs.Making.{all_end, all_next, called_is, calls_is, inner_same}
+use Rattle.fn_reasons.proofs.ReasonsMaking.{all_end, all_next, called_is, calls_is, inner_same}
 use Rattle.fn_reasons.proofs.verdicts.+telling.Goals as goal
 
 pub all_told-loop-format-preserved : goal.all_told-loop-format-preserved

@@ -1,6 +1,6 @@
 use Rattle.std.proofs.Common.{◌+◌, ◌*◌}
 use Rattle.fn_reasons.specs.Settings.{setting_of}
-use Rattle.fn_reasons.proofs.Making.{AllSoFar}
+use Rattle.fn_reasons.proofs.ReasonsMaking.{AllSoFar}
 use Rattle.fn_reasons.proofs.verdicts.+telling.Given as goal
 
 abbrev pub decreases-told_by_call : goal.decreases-told_by_call

@@ -1,5 +1,5 @@
 use Rattle.fn_reasons.specs.Settings.{setting_of}
-use Rattle.fn_reasons.proofs.Making.{if_ok, verdict_open, verdict_out}
+use Rattle.fn_reasons.proofs.ReasonsMaking.{if_ok, verdict_open, verdict_out}
 use Rattle.fn_reasons.proofs.verdicts.add_verdict.Goals as goal
 
 pub returns-in-Some : goal.returns-in-Some

@@ -1,6 +1,6 @@
 use Rattle.std.proofs.Common.{ap, ◌∙◌, ◌++◌, ◌∷◌, []}
 use Rattle.fn_reasons.specs.Settings.{setting_of}
-use Rattle.fn_reasons.proofs.Making.{alone_is}
+use Rattle.fn_reasons.proofs.ReasonsMaking.{alone_is}
 use Rattle.fn_reasons.proofs.verdicts.alone.Goals as goal
 
 pub returns : goal.returns

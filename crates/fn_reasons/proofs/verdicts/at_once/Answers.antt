@@ -1,5 +1,5 @@
 use Rattle.fn_reasons.specs.Settings.{setting_of}
-use Rattle.fn_reasons.proofs.Making.{dead_is}
+use Rattle.fn_reasons.proofs.ReasonsMaking.{dead_is}
 use Rattle.fn_reasons.proofs.verdicts.at_once.Goals as goal
 
 pub returns-in-Some : goal.returns-in-Some

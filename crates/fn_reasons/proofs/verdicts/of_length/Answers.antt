@@ -2,7 +2,7 @@ use Rattle.std.proofs.Common.{rules, sym, ap, ◌∙◌}
 use Rattle.std.specs.Option.{option_copied}
 use Rattle.fn_normal.specs.declared.profile.Bounds.{Bounds}
 use Rattle.fn_reasons.specs.Settings.{setting_of}
-use Rattle.fn_reasons.proofs.Making.{long_is, short_is}
+use Rattle.fn_reasons.proofs.ReasonsMaking.{long_is, short_is}
 use Rattle.fn_reasons.proofs.verdicts.of_length.Goals as goal
 
 pub returns-then-length-bounds : goal.returns-then-length-bounds

@@ -1,6 +1,6 @@
 use Rattle.std.proofs.Common.{rules}
 use Rattle.fn_reasons.specs.Settings.{setting_of}
-use Rattle.fn_reasons.proofs.Making.{verdicts_end}
+use Rattle.fn_reasons.proofs.ReasonsMaking.{verdicts_end}
 use Rattle.fn_reasons.proofs.verdicts.reasons.Goals as goal
 
 pub returns : goal.returns

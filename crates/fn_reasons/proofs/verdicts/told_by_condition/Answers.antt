@@ -3,7 +3,7 @@ use Rattle.std.specs.Prelude.{slice_get}
 use Rattle.fn_expr.specs.Bounds.{bounding_of}
 use Rattle.fn_lint.specs.Never.{IsUntrue}
 use Rattle.fn_reasons.specs.Figures.{figures_at}
-use Rattle.fn_reasons.proofs.Making.{untrue_is}
+use Rattle.fn_reasons.proofs.ReasonsMaking.{untrue_is}
 use Rattle.fn_reasons.proofs.verdicts.told_by_condition.Goals as goal
 
 pub alone-requires : goal.alone-requires

@@ -1,6 +1,6 @@
 use Rattle.std.proofs.Common.{rules, sym, ◌∙◌}
 use Rattle.std.proofs.lemmas.List.{length-drop}
-use Rattle.fn_reasons.proofs.Making.{cut_is}
+use Rattle.fn_reasons.proofs.ReasonsMaking.{cut_is}
 use Rattle.fn_reasons.proofs.verdicts.told_by_length.Goals as goal
 
 pub alone-requires : goal.alone-requires

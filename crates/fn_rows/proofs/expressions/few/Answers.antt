@@ -1,5 +1,5 @@
 use Rattle.std.proofs.Common.{refl}
-use Rattle.fn_rows.proofs.Few.{few_lie}
+use Rattle.fn_rows.proofs.ExpressionsFew.{few_lie}
 use Rattle.fn_rows.proofs.expressions.few.Goals as goal
 
 pub returns : goal.returns

@@ -1,5 +1,5 @@
 use Rattle.fn_expr.specs.Bounds.{bounding_of}
-use Rattle.fn_expr.proofs.Lie.{accepted_at}
+use Rattle.fn_expr.proofs.RangedLie.{accepted_at}
 use Rattle.fn_rows.proofs.expressions.value_of.Goals as goal
 
 pub value-requires : goal.value-requires

@@ -1,4 +1,4 @@
-use Rattle.fn_rules.proofs.Reached.{below, above}
+use Rattle.fn_rules.proofs.RulesReached.{below, above}
 use Rattle.fn_rules.proofs.equations.is_reached.Goals as goal
 
 pub returns-then-bits-lt127 : goal.returns-then-bits-lt127

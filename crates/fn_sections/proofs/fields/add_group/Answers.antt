@@ -2,7 +2,7 @@ use Rattle.std.proofs.Common.{refl, ◌∙◌, sym, ◌++◌, ◌+◌, take}
 use Rattle.std.proofs.lemmas.Option.{slice_get_read}
 use Rattle.fn_sections.specs.Mentions.{mentions_in}
 use Rattle.fn_sections.specs.Tables.{IsTable}
-use Rattle.fn_sections.proofs.Inserting.{section_inserted, section_passed}
+use Rattle.fn_sections.proofs.TablesInserting.{section_inserted, section_passed}
 use Rattle.fn_sections.proofs.fields.add_group.Goals.{then-is_in+in_ok-add_items, else-is_in}
 use Rattle.fn_sections.proofs.fields.add_group.Goals as goal
 

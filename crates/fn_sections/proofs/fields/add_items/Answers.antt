@@ -2,7 +2,7 @@ use Rattle.std.proofs.Common.{refl, ◌∙◌, sym, ◌++◌, ◌+◌, take}
 use Rattle.std.proofs.lemmas.Option.{slice_get_read}
 use Rattle.fn_sections.specs.Mentions.{mentions_of}
 use Rattle.fn_sections.specs.Tables.{IsTable}
-use Rattle.fn_sections.proofs.Inserting.{item_inserted, item_passed}
+use Rattle.fn_sections.proofs.TablesInserting.{item_inserted, item_passed}
 use Rattle.fn_sections.proofs.fields.add_items.Goals.{in-Some+in_ok-insert, in_default}
 use Rattle.fn_sections.proofs.fields.add_items.Goals as goal
 

@@ -1,6 +1,6 @@
 use Rattle.std.proofs.Common.{◌≡◌, map, IfOk, subst}
 use Rattle.fn_sections.specs.Fields.{encoding}
-use Rattle.fn_sections.proofs.Folding.{finds}
+use Rattle.fn_sections.proofs.CausesFolding.{finds}
 use Rattle.fn_sections.proofs.fields.encodings.Goals as goal
 
 pub returns : goal.returns

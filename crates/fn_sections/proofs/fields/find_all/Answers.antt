@@ -1,4 +1,4 @@
-use Rattle.fn_sections.proofs.Folding.{map_more}
+use Rattle.fn_sections.proofs.CausesFolding.{map_more}
 use Rattle.fn_sections.proofs.fields.find_all.Goals as goal
 
 pub loop-field-preserved : goal.loop-field-preserved

@@ -1,4 +1,4 @@
-use Rattle.fn_sections.proofs.Folding.{map_more}
+use Rattle.fn_sections.proofs.CausesFolding.{map_more}
 use Rattle.fn_sections.proofs.fields.listing.Goals as goal
 
 pub loop-mention-preserved : goal.loop-mention-preserved

@@ -1,4 +1,4 @@
-use Rattle.fn_sections.proofs.Pointing.{mentions_point}
+use Rattle.fn_sections.proofs.MentionsPointing.{mentions_point}
 use Rattle.fn_sections.proofs.fields.mentions_point.Goals as goal
 
 pub returns : goal.returns

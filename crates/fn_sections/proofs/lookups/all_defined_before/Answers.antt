@@ -1,4 +1,4 @@
-use Rattle.fn_sections.proofs.Folding.{earliest_more}
+use Rattle.fn_sections.proofs.CausesFolding.{earliest_more}
 use Rattle.fn_sections.proofs.lookups.all_defined_before.Goals as goal
 
 pub loop-mention-preserved : goal.loop-mention-preserved

@@ -1,4 +1,4 @@
-use Rattle.fn_sections.proofs.Whole.{names_judged}
+use Rattle.fn_sections.proofs.NamesWhole.{names_judged}
 use Rattle.fn_sections.proofs.names.judge.Goals as goal
 
 pub returns : goal.returns

@@ -1,5 +1,5 @@
 use Rattle.fn_sections.specs.Names.{for_all_formats}
-use Rattle.fn_sections.proofs.Whole.{fields_judged}
+use Rattle.fn_sections.proofs.NamesWhole.{fields_judged}
 use Rattle.fn_sections.proofs.names.judge_fields.Goals as goal
 
 pub returns : goal.returns

@@ -1,4 +1,4 @@
-use Rattle.fn_sections.proofs.Whole.{heads_judged}
+use Rattle.fn_sections.proofs.NamesWhole.{heads_judged}
 use Rattle.fn_sections.proofs.names.judge_heads.Goals as goal
 
 pub returns : goal.returns

@@ -1,4 +1,4 @@
-use Rattle.fn_sections.proofs.Whole.{lists_judged}
+use Rattle.fn_sections.proofs.NamesWhole.{lists_judged}
 use Rattle.fn_sections.proofs.names.judge_lists.Goals as goal
 
 pub returns : goal.returns

@@ -1,6 +1,6 @@
 use Rattle.std.proofs.Common.{arith, ◌∙◌, sym}
 use Rattle.fn_sections.proofs.Tabled.{read_at}
-use Rattle.fn_sections.proofs.Seconds.{few_further, few_here, none_in_all}
+use Rattle.fn_sections.proofs.CausesSeconds.{few_further, few_here, none_in_all}
 use Rattle.fn_sections.proofs.repeats.second_of_few.Goals as goal
 
 pub returns-in-Some : goal.returns-in-Some

@@ -1,4 +1,4 @@
-use Rattle.fn_sections.proofs.Seconds.{NoneSecond}
+use Rattle.fn_sections.proofs.CausesSeconds.{NoneSecond}
 use Rattle.fn_sections.proofs.repeats.second_of_few.Given as goal
 
 abbrev pub invariant-loop-place : goal.invariant-loop-place

@@ -1,6 +1,6 @@
 use Rattle.std.proofs.Common.{arith, ◌∙◌, refl, sym}
 use Rattle.fn_sections.proofs.Tabled.{tabled_more, read_at}
-use Rattle.fn_sections.proofs.Seconds.{none_at_start, none_further, none_in_all, second_here}
+use Rattle.fn_sections.proofs.CausesSeconds.{none_at_start, none_further, none_in_all, second_here}
 use Rattle.fn_sections.proofs.repeats.second_of_many.Goals as goal
 
 pub loop-mention-init : goal.loop-mention-init

@@ -1,6 +1,6 @@
 use Rattle.std.proofs.Common.{take}
 use Rattle.fn_sections.specs.Tables.{IsTable}
-use Rattle.fn_sections.proofs.Seconds.{NoneSecond}
+use Rattle.fn_sections.proofs.CausesSeconds.{NoneSecond}
 use Rattle.fn_sections.proofs.repeats.second_of_many.Given as goal
 
 abbrev pub invariant-loop-mention : goal.invariant-loop-mention

@@ -1,6 +1,6 @@
 use Rattle.std.specs.Prelude.{◌++◌, string_bytes}
 use Rattle.fn_show.specs.Shown.{constraints_text, constraint_line}
-use Rattle.fn_show.proofs.Walks.{Goes}
+use Rattle.fn_show.proofs.KnownWalks.{Goes}
 use Rattle.fn_show.proofs.listing.push_constraints.Given as goal
 
 abbrev pub invariant-loop-number : goal.invariant-loop-number

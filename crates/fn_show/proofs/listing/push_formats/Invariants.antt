@@ -1,6 +1,6 @@
 use Rattle.std.specs.Prelude.{◌++◌, string_bytes, slice_get}
 use Rattle.fn_show.specs.Shown.{formats_text, format_text, packed_bounds}
-use Rattle.fn_show.proofs.Walks.{Goes}
+use Rattle.fn_show.proofs.KnownWalks.{Goes}
 use Rattle.fn_show.proofs.listing.push_formats.Given as goal
 
 abbrev pub invariant-loop-n : goal.invariant-loop-n

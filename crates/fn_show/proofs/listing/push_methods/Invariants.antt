@@ -1,6 +1,6 @@
 use Rattle.std.specs.Prelude.{◌++◌, string_bytes, slice_get}
 use Rattle.fn_show.specs.Shown.{shown, method_text, format_sizes}
-use Rattle.fn_show.proofs.Walks.{Goes}
+use Rattle.fn_show.proofs.KnownWalks.{Goes}
 use Rattle.fn_show.proofs.listing.push_methods.Given as goal
 
 abbrev pub invariant-loop-k : goal.invariant-loop-k

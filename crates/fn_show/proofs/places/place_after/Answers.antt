@@ -1,5 +1,5 @@
 use Rattle.std.proofs.Common.{◌≡◌, ◌+◌, ◌-◌, ◌<◌, drop, length, arith, sym, length-take}
-use Rattle.fn_show.proofs.Steps.{after_end, after_other, first_counts, other_counts, read_in_part}
+use Rattle.fn_show.proofs.PlacesSteps.{after_end, after_other, first_counts, other_counts, read_in_part}
 use Rattle.fn_show.proofs.places.place_after.Goals.{then-octet-eq10, else-octet-eq10+then-is_first, else-octet-eq10+else-is_first}
 use Rattle.fn_show.proofs.places.place_after.Goals as goal
 

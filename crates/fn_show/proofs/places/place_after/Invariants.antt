@@ -1,5 +1,5 @@
 use Rattle.std.proofs.Common.{◌+◌}
-use Rattle.fn_show.proofs.Steps.{Stands}
+use Rattle.fn_show.proofs.PlacesSteps.{Stands}
 use Rattle.fn_show.proofs.places.place_after.Given as goal
 
 abbrev pub invariant-loop-octet : goal.invariant-loop-octet

@@ -1,6 +1,6 @@
 use Rattle.std.proofs.Common.{◌≡◌, ℕ, ◌+◌, ◌*◌, arith, subst}
 use Rattle.fn_show.specs.Known.{IsPlace}
-use Rattle.fn_show.proofs.Walks.{known_on, count_on}
+use Rattle.fn_show.proofs.KnownWalks.{known_on, count_on}
 use Rattle.fn_show.proofs.places.positions.Goals as goal
 
 pub loop-k-preserved : goal.loop-k-preserved

@@ -1,5 +1,5 @@
 use Rattle.std.proofs.Common.{◌∙◌, refl}
-use Rattle.fn_sizes.proofs.Rows.{none-yet, callers-step}
+use Rattle.fn_sizes.proofs.CallersRows.{none-yet, callers-step}
 use Rattle.fn_sizes.proofs.callers.caller_table.Goals as goal
 
 pub loop-method-init : goal.loop-method-init

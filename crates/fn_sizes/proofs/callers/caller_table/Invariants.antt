@@ -1,5 +1,5 @@
 use Rattle.std.proofs.Common.{◌≡◌, take}
-use Rattle.fn_sizes.proofs.Rows.{so-far}
+use Rattle.fn_sizes.proofs.CallersRows.{so-far}
 use Rattle.fn_sizes.proofs.callers.caller_table.Given as goal
 
 abbrev pub invariant-loop-method : goal.invariant-loop-method

@@ -5,7 +5,7 @@ use Rattle.fn_normal.specs.declared.profile.Encoding.{Encoding}
 use Rattle.fn_bounds.specs.Passes.{changed}
 use Rattle.fn_bounds.specs.Parameters.{is_call}
 use Rattle.fn_sizes.specs.Callers.{ending, noted}
-use Rattle.fn_sizes.proofs.Rows.{noted-none, noted-one}
+use Rattle.fn_sizes.proofs.CallersRows.{noted-none, noted-one}
 use Rattle.fn_sizes.proofs.callers.note_call.Goals as goal
 
 pub returns-in-Bare : goal.returns-in-Bare

@@ -1,5 +1,5 @@
 use Rattle.fn_bounds.specs.Parameters.{is_call}
-use Rattle.fn_sizes.proofs.Rows.{noted-none, noted-step}
+use Rattle.fn_sizes.proofs.CallersRows.{noted-none, noted-step}
 use Rattle.fn_sizes.proofs.callers.note_format.Goals as goal
 
 pub loop-field-init : goal.loop-field-init

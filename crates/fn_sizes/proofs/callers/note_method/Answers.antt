@@ -1,5 +1,5 @@
 use Rattle.fn_bounds.specs.Parameters.{calls}
-use Rattle.fn_sizes.proofs.Rows.{noted-none, noted-step}
+use Rattle.fn_sizes.proofs.CallersRows.{noted-none, noted-step}
 use Rattle.fn_sizes.proofs.callers.note_method.Goals as goal
 
 pub loop-format-init : goal.loop-format-init

@@ -1,6 +1,6 @@
 use Rattle.std.proofs.Common.{◌≡◌, length, rules}
 use Rattle.fn_bounds.specs.Fields.{encoded_sizes}
-use Rattle.fn_bounds.proofs.Places.{indexed-pushed}
+use Rattle.fn_bounds.proofs.PassesPlaces.{indexed-pushed}
 use Rattle.fn_sizes.proofs.fields.encoded_fields.Goals as goal
 
 pub loop-field-preserved : goal.loop-field-preserved

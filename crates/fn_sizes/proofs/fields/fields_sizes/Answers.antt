@@ -1,8 +1,8 @@
 use Rattle.std.proofs.Common.{◌∙◌, fold}
 use Rattle.fn_bounds.specs.Fields.{encoded_sizes}
 use Rattle.fn_bounds.specs.Passes.{indexed, narrow}
-use Rattle.fn_bounds.proofs.Places.{at-end}
-use Rattle.fn_sizes.proofs.Narrowing.{narrow-all}
+use Rattle.fn_bounds.proofs.PassesPlaces.{at-end}
+use Rattle.fn_sizes.proofs.FieldsNarrowing.{narrow-all}
 use Rattle.fn_sizes.proofs.fields.fields_sizes.Goals as goal
 
 pub returns : goal.returns

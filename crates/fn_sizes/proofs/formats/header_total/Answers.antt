@@ -1,6 +1,6 @@
 use Rattle.std.proofs.Common.{◌∙◌, ap, ◌+◌}
 use Rattle.fn_bounds.specs.Formats.{header_bounds}
-use Rattle.fn_sizes.proofs.Totals.{indexed-part}
+use Rattle.fn_sizes.proofs.FormatsTotals.{indexed-part}
 use Rattle.fn_sizes.proofs.formats.header_total.Goals as goal
 
 pub plus-sum-requires : goal.plus-sum-requires

@@ -1,7 +1,7 @@
 use Rattle.std.proofs.Common.{◌∙◌, ap, ℕ}
 use Rattle.fn_normal.specs.declared.profile.Sizes.{Sizes}
 use Rattle.fn_bounds.specs.Formats.{sizes_at}
-use Rattle.fn_sizes.proofs.Totals.{mapped-part}
+use Rattle.fn_sizes.proofs.FormatsTotals.{mapped-part}
 use Rattle.fn_sizes.proofs.formats.packed_total.Goals as goal
 
 pub plus-sum-requires : goal.plus-sum-requires

@@ -5,7 +5,7 @@ use Rattle.fn_expr.specs.declared.interval.Interval.{Interval}
 use Rattle.fn_normal.specs.declared.profile.FormatSizes.{FormatSizes}
 use Rattle.fn_normal.specs.Judging.{earlier}
 use Rattle.fn_bounds.specs.Faults.{sized_fault}
-use Rattle.fn_bounds.proofs.Places.{folded-step}
+use Rattle.fn_bounds.proofs.PassesPlaces.{folded-step}
 use Rattle.fn_sizes.proofs.judging.formats_fault.Goals as goal
 
 pub loop-format-preserved : goal.loop-format-preserved

@@ -3,7 +3,7 @@ use Rattle.std.specs.Prelude.{slice_get, Option}
 use Rattle.fn_normal.specs.declared.profile.MethodSizes.{MethodSizes}
 use Rattle.fn_normal.specs.Judging.{earlier}
 use Rattle.fn_bounds.specs.Faults.{method_fault}
-use Rattle.fn_bounds.proofs.Places.{folded-step}
+use Rattle.fn_bounds.proofs.PassesPlaces.{folded-step}
 use Rattle.fn_sizes.proofs.judging.methods_fault.Goals as goal
 
 pub loop-method-preserved : goal.loop-method-preserved

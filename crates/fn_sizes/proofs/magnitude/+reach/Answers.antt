@@ -1,4 +1,4 @@
-use Rattle.fn_sizes.proofs.Magnitudes.{attribute-reaches}
+use Rattle.fn_sizes.proofs.MagnitudeLemmas.{attribute-reaches}
 use Rattle.fn_sizes.proofs.magnitude.+reach.Goals as goal
 
 pub returns-in-Attribute : goal.returns-in-Attribute

@@ -1,4 +1,4 @@
-use Rattle.fn_sizes.proofs.Magnitudes.{narrow-by}
+use Rattle.fn_sizes.proofs.MagnitudeLemmas.{narrow-by}
 use Rattle.fn_sizes.proofs.magnitude.attribute_reach.Goals as goal
 
 pub returns : goal.returns

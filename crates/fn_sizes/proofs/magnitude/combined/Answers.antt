@@ -1,4 +1,4 @@
-use Rattle.fn_sizes.proofs.Magnitudes.{combines-add, combines-subtract, combines-multiply, combines-divide, combines-remainder}
+use Rattle.fn_sizes.proofs.MagnitudeLemmas.{combines-add, combines-subtract, combines-multiply, combines-divide, combines-remainder}
 use Rattle.fn_sizes.proofs.magnitude.combined.Goals as goal
 
 pub returns-in-Add : goal.returns-in-Add

@@ -1,4 +1,4 @@
-use Rattle.fn_sizes.proofs.Earliest.{faults-judged}
+use Rattle.fn_sizes.proofs.MethodsEarliest.{faults-judged}
 use Rattle.fn_sizes.proofs.methods.earliest.Goals as goal
 
 pub returns : goal.returns

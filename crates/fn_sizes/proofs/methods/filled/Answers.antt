@@ -2,8 +2,8 @@ use Rattle.std.proofs.Common.{sym, subst, List, arith}
 use Rattle.std.proofs.lemmas.Option.{slice_get-get_or, slice_get_within}
 use Rattle.fn_normal.specs.declared.profile.MethodSizes.{MethodSizes}
 use Rattle.fn_bounds.specs.Methods.{HasSizes, SumsAreNumbers}
-use Rattle.fn_sizes.proofs.Tables.{sized-more}
-use Rattle.fn_sizes.proofs.Weighing.{sums-are-numbers}
+use Rattle.fn_sizes.proofs.MethodsTables.{sized-more}
+use Rattle.fn_sizes.proofs.WeightsLemmas.{sums-are-numbers}
 use Rattle.fn_sizes.proofs.methods.filled.Goals as goal
 
 pub method_sizes-requires : goal.method_sizes-requires

@@ -4,9 +4,9 @@ use Rattle.fn_normal.specs.declared.profile.MethodSizes.{MethodSizes}
 use Rattle.fn_bounds.specs.declared.extent.Extent.TheVariants.{Whole, Known}
 use Rattle.fn_bounds.specs.Methods.{ArePacked}
 use Rattle.fn_bounds.specs.Outcome.{IsFine, IsFaulty}
-use Rattle.fn_sizes.proofs.Earliest.{are-sizes}
-use Rattle.fn_sizes.proofs.Agreeing.{fine-by-all, not-fine}
-use Rattle.fn_sizes.proofs.Weighing.{are-packed}
+use Rattle.fn_sizes.proofs.MethodsEarliest.{are-sizes}
+use Rattle.fn_sizes.proofs.CallersAgreeing.{fine-by-all, not-fine}
+use Rattle.fn_sizes.proofs.WeightsLemmas.{are-packed}
 use Rattle.fn_sizes.proofs.methods.sizes.Goals as goal
 
 pub earliest-requires : goal.earliest-requires

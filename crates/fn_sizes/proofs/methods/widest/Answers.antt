@@ -1,5 +1,5 @@
 use Rattle.fn_bounds.specs.Methods.{IsShortAt, IsWide}
-use Rattle.fn_bounds.proofs.Folding.{judged-next}
+use Rattle.fn_bounds.proofs.FaultsFolding.{judged-next}
 use Rattle.fn_sizes.proofs.methods.widest.Goals as goal
 
 pub loop-index-preserved : goal.loop-index-preserved

@@ -1,8 +1,8 @@
 use Rattle.std.proofs.Common.{◌≡◌, ◌-◌, ◌∙◌, get_or, ap, sym, subst, arith}
 use Rattle.fn_bounds.specs.Parameters.{RangedFrom, parameter_ranges}
 use Rattle.fn_sizes.specs.Callers.{row_at}
-use Rattle.fn_sizes.proofs.Rows.{row-of}
-use Rattle.fn_sizes.proofs.Calling.{ranged-none, ranged-pass, ranged-step}
+use Rattle.fn_sizes.proofs.CallersRows.{row-of}
+use Rattle.fn_sizes.proofs.ParametersCalling.{ranged-none, ranged-pass, ranged-step}
 use Rattle.fn_sizes.proofs.methods.with_ranges.Goals as goal
 
 pub loop-left-init : goal.loop-left-init

@@ -1,5 +1,5 @@
 use Rattle.std.proofs.Common.{refl}
-use Rattle.fn_sizes.proofs.Rows.{walked, gathered-empty}
+use Rattle.fn_sizes.proofs.CallersRows.{walked, gathered-empty}
 use Rattle.fn_sizes.proofs.parameters.gathered.Goals as goal
 
 pub returns-then-is_empty : goal.returns-then-is_empty

@@ -1,5 +1,5 @@
 use Rattle.std.proofs.Common.{◌≡◌, take, fold}
-use Rattle.fn_sizes.proofs.Rows.{given-by}
+use Rattle.fn_sizes.proofs.CallersRows.{given-by}
 use Rattle.fn_sizes.proofs.parameters.gathered.Given as goal
 
 abbrev pub invariant-loop-place : goal.invariant-loop-place

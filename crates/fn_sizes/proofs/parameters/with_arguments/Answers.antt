@@ -1,7 +1,7 @@
 use Rattle.std.proofs.Common.{◌∙◌, ap, get_or}
 use Rattle.std.specs.Prelude.{None}
 use Rattle.fn_bounds.specs.Parameters.{joined, argument_range}
-use Rattle.fn_bounds.proofs.Places.{indexed-copied}
+use Rattle.fn_bounds.proofs.PassesPlaces.{indexed-copied}
 use Rattle.fn_sizes.proofs.parameters.with_arguments.Goals as goal
 
 pub loop-interval-preserved : goal.loop-interval-preserved

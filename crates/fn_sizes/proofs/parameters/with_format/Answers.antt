@@ -1,6 +1,6 @@
 use Rattle.std.proofs.Common.{◌∙◌, sym}
 use Rattle.std.specs.Option.{option_copied}
-use Rattle.fn_sizes.proofs.Calling.{not-called}
+use Rattle.fn_sizes.proofs.ParametersCalling.{not-called}
 use Rattle.fn_sizes.proofs.parameters.with_format.Goals as goal
 
 pub returns-then-not-calls : goal.returns-then-not-calls

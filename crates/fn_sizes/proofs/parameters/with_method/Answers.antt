@@ -1,7 +1,7 @@
 use Rattle.std.proofs.Common.{◌∙◌, ap}
 use Rattle.std.specs.Prelude.{slice_get}
 use Rattle.fn_bounds.specs.Parameters.{with_format}
-use Rattle.fn_bounds.proofs.Places.{folded-step}
+use Rattle.fn_bounds.proofs.PassesPlaces.{folded-step}
 use Rattle.fn_sizes.proofs.parameters.with_method.Goals as goal
 
 pub loop-format-preserved : goal.loop-format-preserved

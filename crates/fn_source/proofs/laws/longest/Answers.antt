@@ -1,4 +1,4 @@
-use Rattle.fn_source.proofs.Longest as lemmas
+use Rattle.fn_source.proofs.LexicalLongest as lemmas
 use Rattle.fn_source.proofs.laws.longest.Goals as goal
 
 pub returns : goal.returns

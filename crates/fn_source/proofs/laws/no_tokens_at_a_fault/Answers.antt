@@ -1,4 +1,4 @@
-use Rattle.fn_source.proofs.Unique as lemmas
+use Rattle.fn_source.proofs.LexicalUnique as lemmas
 use Rattle.fn_source.proofs.laws.no_tokens_at_a_fault.Goals as goal
 
 pub returns : goal.returns

@@ -1,5 +1,5 @@
 use Rattle.std.proofs.Common.{length}
-use Rattle.fn_source.proofs.Unique.{unique}
+use Rattle.fn_source.proofs.LexicalUnique.{unique}
 use Rattle.fn_source.proofs.laws.one_reading.Goals as goal
 
 pub returns : goal.returns

@@ -1,4 +1,4 @@
-use Rattle.fn_source.proofs.Slices as lemmas
+use Rattle.fn_source.proofs.LexicalSlices as lemmas
 use Rattle.fn_source.proofs.laws.tokens_are_their_text.Goals as goal
 
 pub returns : goal.returns

@@ -1,5 +1,5 @@
 use Rattle.std.proofs.Common.{arith}
-use Rattle.fn_source.proofs.Classes.{digit_class}
+use Rattle.fn_source.proofs.LexicalClasses.{digit_class}
 use Rattle.fn_source.proofs.lexer.is_digit.Goals as goal
 
 pub returns : goal.returns

@@ -1,5 +1,5 @@
 use Rattle.std.proofs.Common.{arith}
-use Rattle.fn_source.proofs.Classes.{letter_class}
+use Rattle.fn_source.proofs.LexicalClasses.{letter_class}
 use Rattle.fn_source.proofs.lexer.is_letter.Goals as goal
 
 pub returns : goal.returns

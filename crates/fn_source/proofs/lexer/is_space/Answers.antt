@@ -1,5 +1,5 @@
 use Rattle.std.proofs.Common.{arith}
-use Rattle.fn_source.proofs.Classes.{space_class}
+use Rattle.fn_source.proofs.LexicalClasses.{space_class}
 use Rattle.fn_source.proofs.lexer.is_space.Goals as goal
 
 pub returns : goal.returns

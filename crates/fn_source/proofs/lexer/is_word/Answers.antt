@@ -1,5 +1,5 @@
 use Rattle.std.proofs.Common.{arith}
-use Rattle.fn_source.proofs.Classes.{word_class}
+use Rattle.fn_source.proofs.LexicalClasses.{word_class}
 use Rattle.fn_source.proofs.lexer.is_word.Goals as goal
 
 pub returns : goal.returns

@@ -1,6 +1,6 @@
 use Rattle.std.proofs.Common.{◌≡◌, ℕ, List, sym, subst, ◌∙◌}
 use Rattle.fn_source.specs.Lexical.{Lexed}
-use Rattle.fn_source.proofs.Unique.{only_tokens}
+use Rattle.fn_source.proofs.LexicalUnique.{only_tokens}
 use Rattle.fn_source.proofs.lexer.lex.Goals as goal
 
 pub returns-clause-only : goal.returns-clause-only

@@ -1,4 +1,4 @@
-use Rattle.fn_source.proofs.Fronts.{next_is}
+use Rattle.fn_source.proofs.LexicalFronts.{next_is}
 use Rattle.fn_source.proofs.lexer.next.Goals as goal
 
 pub returns : goal.returns

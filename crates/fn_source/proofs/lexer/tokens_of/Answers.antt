@@ -1,5 +1,5 @@
 use Rattle.std.proofs.Common.{sym, ◌∙◌}
-use Rattle.fn_source.proofs.Fronts.{kept_gap, kept_token, is_lexed, is_stopped}
+use Rattle.fn_source.proofs.LexicalFronts.{kept_gap, kept_token, is_lexed, is_stopped}
 use Rattle.fn_source.proofs.lexer.tokens_of.Goals as goal
 
 pub lex-preserved : goal.lex-preserved

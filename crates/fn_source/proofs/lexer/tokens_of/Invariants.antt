@@ -1,5 +1,5 @@
 use Rattle.std.proofs.Common.{length}
-use Rattle.fn_source.proofs.Fronts.{Front}
+use Rattle.fn_source.proofs.LexicalFronts.{Front}
 use Rattle.fn_source.proofs.lexer.tokens_of.Given as goal
 
 abbrev pub invariant-lex : goal.invariant-lex

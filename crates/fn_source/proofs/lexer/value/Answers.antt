@@ -1,5 +1,5 @@
 use Rattle.std.proofs.Common.{◌∙◌, arith}
-use Rattle.fn_source.proofs.Numbers.{value_some, value_none}
+use Rattle.fn_source.proofs.LexicalNumbers.{value_some, value_none}
 use Rattle.fn_source.proofs.lexer.value.Goals as goal
 
 pub returns : goal.returns

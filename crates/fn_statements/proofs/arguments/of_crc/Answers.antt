@@ -1,5 +1,5 @@
 use Rattle.std.proofs.lemmas.Result.{IfOk-weaker}
-use Rattle.fn_statements.proofs.Counted.{five_items}
+use Rattle.fn_statements.proofs.InitialCounted.{five_items}
 use Rattle.fn_statements.specs.Arguments.{are_crc}
 use Rattle.fn_statements.proofs.arguments.of_crc.Goals as goal
 

@@ -4,8 +4,8 @@ use Rattle.fn_normal.specs.Judging.{Blames}
 use Rattle.fn_statements.specs.Initial.{IsSpelled, IsNotSpelled}
 use Rattle.std.proofs.lemmas.Result.{IfOk-weaker}
 use Rattle.fn_statements.specs.Initial.{are_arguments, bad_length, bad_value, does_not_fit, wrong_count}
-use Rattle.fn_statements.proofs.Counted.{two_items}
-use Rattle.fn_statements.proofs.Valueless.{blamed, all_blamed}
+use Rattle.fn_statements.proofs.InitialCounted.{two_items}
+use Rattle.fn_statements.proofs.InitialValueless.{blamed, all_blamed}
 use Rattle.fn_statements.proofs.initial.argument_bits.Goals as goal
 
 pub returns-in_err-length-in-len2-clause-refused : goal.returns-in_err-length-in-len2-clause-refused

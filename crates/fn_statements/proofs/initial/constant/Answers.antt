@@ -1,4 +1,4 @@
-use Rattle.fn_statements.proofs.Valueless.{argument_blamed}
+use Rattle.fn_statements.proofs.InitialValueless.{argument_blamed}
 use Rattle.fn_statements.proofs.initial.constant.Goals as goal
 
 pub returns-in-Err-clause-refused : goal.returns-in-Err-clause-refused

@@ -1,7 +1,7 @@
 use Rattle.std.proofs.Common.{sym}
 use Rattle.std.proofs.lemmas.Result.{IfOk-weaker}
 use Rattle.fn_statements.specs.Initial.{is_encoded, bit_text, other_method, other_arguments}
-use Rattle.fn_statements.proofs.Valueless.{all_blamed}
+use Rattle.fn_statements.proofs.InitialValueless.{all_blamed}
 use Rattle.fn_statements.proofs.initial.encoded_bits.Goals as goal
 
 pub returns-in-Bits-clause-refused : goal.returns-in-Bits-clause-refused

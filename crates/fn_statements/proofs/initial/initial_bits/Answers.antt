@@ -1,5 +1,5 @@
 use Rattle.fn_statements.specs.Initial.{has_bracket, other_encoding}
-use Rattle.fn_statements.proofs.Valueless.{all_blamed}
+use Rattle.fn_statements.proofs.InitialValueless.{all_blamed}
 use Rattle.fn_statements.proofs.initial.initial_bits.Goals as goal
 
 pub returns-in-Some-clause-refused : goal.returns-in-Some-clause-refused

@@ -1,5 +1,5 @@
 use Rattle.std.proofs.Common.{◌∙◌, ap, sym, length}
-use Rattle.fn_stats.proofs.Adding.{side_there}
+use Rattle.fn_stats.proofs.CountsAdding.{side_there}
 use Rattle.fn_stats.proofs.counts.side_length.Goals as goal
 
 pub returns-in-Some : goal.returns-in-Some

@@ -1,4 +1,4 @@
-use Rattle.fn_stats.proofs.Adding.{fields_add_up}
+use Rattle.fn_stats.proofs.CountsAdding.{fields_add_up}
 use Rattle.fn_stats.proofs.laws.fields_add_up.Goals as goal
 
 pub returns : goal.returns

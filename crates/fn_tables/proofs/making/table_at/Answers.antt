@@ -1,6 +1,6 @@
 use Rattle.std.proofs.Common.{◌∙◌, sym, arith}
 use Rattle.fn_tables.proofs.Sized.{at_front}
-use Rattle.fn_tables.proofs.Laid.{after_parameter, after_reference, after_leaf, after_nowhere, after_full, after_other}
+use Rattle.fn_tables.proofs.GrowthLaid.{after_parameter, after_reference, after_leaf, after_nowhere, after_full, after_other}
 use Rattle.fn_tables.proofs.making.table_at.Goals as goal
 
 pub returns-then-making-clause-next : goal.returns-then-making-clause-next

@@ -1,7 +1,7 @@
 use Rattle.std.proofs.Common.{arith, drop}
 use Rattle.std.proofs.lemmas.Option.{IfSome_then, slice_get_within}
 use Rattle.fn_cert.specs.declared.certificate.Node.TheVariants as node
-use Rattle.fn_tables.proofs.Led.{entry_within, led, test_at}
+use Rattle.fn_tables.proofs.WalkingLed.{entry_within, led, test_at}
 use Rattle.fn_tables.proofs.picking.entry_after.Goals as goal
 
 pub overflow_add-start : goal.overflow_add-start

@@ -2,7 +2,7 @@ use Rattle.std.proofs.Common.{◌≡◌, ◌∙◌, ap, drop, subst, rules, to_z
 use Rattle.std.specs.Int.{w128}
 use Rattle.fn_context.specs.Entries.{bits_at}
 use Rattle.fn_rules.specs.Trees.{is_number, references, way}
-use Rattle.fn_tables.proofs.Led.{by_its_reference}
+use Rattle.fn_tables.proofs.WalkingLed.{by_its_reference}
 use Rattle.fn_tables.proofs.picking.follow.Goals as goal
 use Rattle.fn_tables.proofs.picking.follow.Goals.{in-Node, in-Reference+in_ok-is_other-in-Reference}
 

@@ -3,7 +3,7 @@ use Rattle.std.specs.Int.{w128}
 use Rattle.std.specs.Prelude.{slice_get}
 use Rattle.fn_rules.specs.Trees.{is_number}
 use Rattle.fn_tables.proofs.Sized.{at_front}
-use Rattle.fn_tables.proofs.Led.{by_its_bit, by_its_test}
+use Rattle.fn_tables.proofs.WalkingLed.{by_its_bit, by_its_test}
 use Rattle.fn_tables.proofs.picking.step.Goals as goal
 
 pub returns-in-Parameter : goal.returns-in-Parameter

@@ -1,7 +1,7 @@
 use Rattle.std.proofs.Common.{sym}
 use Rattle.std.proofs.lemmas.Result.{err_from_is_err_and}
 use Rattle.fn_terms.specs.Constants.{valueless}
-use Rattle.fn_terms.proofs.Evaluating.{ill}
+use Rattle.fn_terms.proofs.ConstantsEvaluated.{ill}
 use Rattle.fn_terms.proofs.constant.constant_value.Goals as goal
 
 pub returns-in_err-expr-clause-refused : goal.returns-in_err-expr-clause-refused

@@ -1,5 +1,5 @@
 use Rattle.fn_expr.specs.Bounds.{bounding_of}
-use Rattle.fn_terms.proofs.Evaluating.{may_evaluate}
+use Rattle.fn_terms.proofs.ConstantsEvaluated.{may_evaluate}
 use Rattle.fn_terms.proofs.constant.evaluate.Goals as goal
 
 pub value-requires : goal.value-requires

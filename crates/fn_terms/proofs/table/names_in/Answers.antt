@@ -1,6 +1,6 @@
 use Rattle.std.proofs.Common.{◌≡◌, ◌+◌, take, ◌∙◌}
 use Rattle.fn_terms.specs.Constants.{constant_names}
-use Rattle.fn_terms.proofs.Listing.{more_names, same_names}
+use Rattle.fn_terms.proofs.ConstantsListing.{more_names, same_names}
 use Rattle.fn_terms.proofs.table.names_in.Goals as goal
 use Rattle.fn_terms.proofs.table.names_in.Goals.{in-Constant+in_ok-insert-in-Constant, in-Method}
 

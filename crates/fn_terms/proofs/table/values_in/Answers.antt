@@ -2,7 +2,7 @@ use Rattle.std.proofs.Common.{rules, ◌≡◌, ◌+◌, take, to_z, of_z}
 use Rattle.std.specs.Int.{w128}
 use Rattle.std.proofs.lemmas.Result.{err_from_is_err_and}
 use Rattle.fn_terms.specs.Constants.{constants_in, AreValues, no_values}
-use Rattle.fn_terms.proofs.Listing.{more_values, no_constant, first_fault}
+use Rattle.fn_terms.proofs.ConstantsListing.{more_values, no_constant, first_fault}
 use Rattle.fn_terms.proofs.table.values_in.Goals as goal
 use Rattle.fn_terms.proofs.table.values_in.Goals.{in-Constant+in_ok-value-in-Constant+in_ok-push-in-Constant, in-Method}
 

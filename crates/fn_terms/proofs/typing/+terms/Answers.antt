@@ -1,6 +1,6 @@
 use Rattle.std.proofs.Common.{sym}
 use Rattle.fn_terms.specs.Means.{number, negative, truth, denial, arithmetic, comparison, conjunction, disjunction}
-use Rattle.fn_terms.proofs.Parts.{in_brackets}
+use Rattle.fn_terms.proofs.MeansParts.{in_brackets}
 use Rattle.fn_terms.proofs.typing.+terms.Goals as goal
 
 pub term-returns-in_ok-within-in-Number-clause-means : goal.term-returns-in_ok-within-in-Number-clause-means

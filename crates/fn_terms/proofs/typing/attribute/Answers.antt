@@ -1,7 +1,7 @@
 use Rattle.std.proofs.Common.{◌∙◌, ap, Some, sym}
 use Rattle.std.proofs.lemmas.Result.{err_from_is_err_and}
 use Rattle.fn_terms.specs.Means.{attribute}
-use Rattle.fn_terms.proofs.Leaves.{attribute_right, attribute_refused, no_attributes}
+use Rattle.fn_terms.proofs.JudgedLeaves.{attribute_right, attribute_refused, no_attributes}
 use Rattle.fn_terms.proofs.typing.attribute.Goals as goal
 
 pub returns-then-not-has_attributes-clause-refused : goal.returns-then-not-has_attributes-clause-refused

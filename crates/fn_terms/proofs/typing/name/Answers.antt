@@ -1,5 +1,5 @@
 use Rattle.std.proofs.Common.{sym, ap, Some}
-use Rattle.fn_terms.proofs.Leaves.{name_means, name_right, name_limited, name_refused}
+use Rattle.fn_terms.proofs.JudgedLeaves.{name_means, name_right, name_limited, name_refused}
 use Rattle.fn_terms.proofs.typing.name.Goals as goal
 
 pub returns-in-Some-clause-means : goal.returns-in-Some-clause-means

@@ -1,6 +1,6 @@
 use Rattle.std.proofs.Common.{◌∙◌, sym, ap}
 use Rattle.fn_terms.specs.Means.{negative}
-use Rattle.fn_terms.proofs.Leaves.{negative_right}
+use Rattle.fn_terms.proofs.JudgedLeaves.{negative_right}
 use Rattle.fn_terms.proofs.typing.negative_number.Goals as goal
 
 pub returns-clause-means : goal.returns-clause-means

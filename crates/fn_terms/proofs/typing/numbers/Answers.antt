@@ -1,4 +1,4 @@
-use Rattle.fn_terms.proofs.Walks.{walked_more}
+use Rattle.fn_terms.proofs.JudgedWalks.{walked_more}
 use Rattle.fn_terms.proofs.typing.numbers.Goals as goal
 
 pub loop-part-preserved : goal.loop-part-preserved

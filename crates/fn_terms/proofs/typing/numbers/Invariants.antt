@@ -2,7 +2,7 @@ use Rattle.fn_terms.specs.Judged as spec
 use Rattle.fn_terms.specs.Means.{Means}
 use Rattle.fn_terms.specs.declared.term.Kind.TheVariants as kinds
 use Rattle.fn_terms.specs.declared.term.Term.TheVariants.{Number}
-use Rattle.fn_terms.proofs.Walks.{Walked}
+use Rattle.fn_terms.proofs.JudgedWalks.{Walked}
 use Rattle.fn_terms.proofs.typing.numbers.Given as goal
 
 abbrev pub invariant-loop-part : goal.invariant-loop-part

@@ -1,6 +1,6 @@
 use Rattle.std.proofs.Common.{◌∙◌, sym, ap}
 use Rattle.fn_terms.specs.Means.{number}
-use Rattle.fn_terms.proofs.Leaves.{number_right}
+use Rattle.fn_terms.proofs.JudgedLeaves.{number_right}
 use Rattle.fn_terms.proofs.typing.positive_number.Goals as goal
 
 pub returns-clause-means : goal.returns-clause-means

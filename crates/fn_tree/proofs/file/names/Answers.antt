@@ -4,8 +4,8 @@ use Rattle.fn_source.specs.declared.token.Mark.TheVariants as m
 use Rattle.fn_tree.specs.Rules.{all}
 use Rattle.fn_tree.specs.Reading.{is_next, Fails}
 use Rattle.fn_tree.specs.File.{next_name, names}
-use Rattle.fn_tree.proofs.Files.{consumes_next_name}
-use Rattle.fn_tree.proofs.Many.{many_stop, many_on, many_fails}
+use Rattle.fn_tree.proofs.FileLemmas.{consumes_next_name}
+use Rattle.fn_tree.proofs.ReadingMany.{many_stop, many_on, many_fails}
 use Rattle.fn_tree.proofs.file.names.Goals as goal
 
 pub returns-in_err-name : goal.returns-in_err-name

@@ -4,8 +4,8 @@ use Rattle.fn_tree.specs.Rules.{all}
 use Rattle.fn_tree.specs.Counts.{tally_of, with_part}
 use Rattle.fn_tree.specs.Reading.{is_there, Fails}
 use Rattle.fn_tree.specs.File.{part, parts}
-use Rattle.fn_tree.proofs.Files.{consumes_part}
-use Rattle.fn_tree.proofs.Many.{many_stop, many_on, many_fails}
+use Rattle.fn_tree.proofs.FileLemmas.{consumes_part}
+use Rattle.fn_tree.proofs.ReadingMany.{many_stop, many_on, many_fails}
 use Rattle.fn_tree.proofs.Counted.{tally_more}
 use Rattle.fn_tree.proofs.file.parts.Goals as goal
 

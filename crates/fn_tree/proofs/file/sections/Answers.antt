@@ -5,8 +5,8 @@ use Rattle.fn_tree.specs.Rules.{all}
 use Rattle.fn_tree.specs.Counts.{seen_in, with_section}
 use Rattle.fn_tree.specs.Reading.{Fails}
 use Rattle.fn_tree.specs.File.{before, section, sections}
-use Rattle.fn_tree.proofs.Files.{consumes_section}
-use Rattle.fn_tree.proofs.Many.{many_stop, many_on, many_fails}
+use Rattle.fn_tree.proofs.FileLemmas.{consumes_section}
+use Rattle.fn_tree.proofs.ReadingMany.{many_stop, many_on, many_fails}
 use Rattle.fn_tree.proofs.Counted.{seen_more}
 use Rattle.fn_tree.proofs.file.sections.Goals as goal
 

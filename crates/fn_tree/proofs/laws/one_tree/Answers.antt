@@ -1,4 +1,4 @@
-use Rattle.fn_tree.proofs.Viable.{one_tree}
+use Rattle.fn_tree.proofs.FileViable.{one_tree}
 use Rattle.fn_tree.proofs.laws.one_tree.Goals as goal
 
 pub returns : goal.returns

@@ -3,7 +3,7 @@ use Rattle.fn_tree.specs.declared.refusal.ParseError.{ParseError}
 use Rattle.fn_tree.specs.Reading.{Fails}
 use Rattle.fn_tree.specs.Rules.{all}
 use Rattle.fn_tree.specs.File.{parts}
-use Rattle.fn_tree.proofs.Viable.{refuses, found_file, only_file, never_refused}
+use Rattle.fn_tree.proofs.FileViable.{refuses, found_file, only_file, never_refused}
 use Rattle.fn_tree.proofs.parser.parse.Goals as goal
 
 pub returns-in-Ok-clause-found : goal.returns-in-Ok-clause-found

@@ -4,8 +4,8 @@ use Rattle.fn_source.specs.declared.token.Mark.TheVariants as m
 use Rattle.fn_tree.specs.Rules.{all}
 use Rattle.fn_tree.specs.Reading.{is_next, Fails}
 use Rattle.fn_tree.specs.File.{next_expr, exprs}
-use Rattle.fn_tree.proofs.Files.{consumes_next_expr}
-use Rattle.fn_tree.proofs.Many.{many_stop, many_on, many_fails}
+use Rattle.fn_tree.proofs.FileLemmas.{consumes_next_expr}
+use Rattle.fn_tree.proofs.ReadingMany.{many_stop, many_on, many_fails}
 use Rattle.fn_tree.proofs.statement.exprs.Goals as goal
 
 pub returns-in_err-whole : goal.returns-in_err-whole

@@ -4,8 +4,8 @@ use Rattle.fn_source.specs.declared.token.Mark.TheVariants as m
 use Rattle.fn_tree.specs.Rules.{all}
 use Rattle.fn_tree.specs.Reading.{Fails}
 use Rattle.fn_tree.specs.File.{before, statement, statements}
-use Rattle.fn_tree.proofs.Files.{consumes_statement}
-use Rattle.fn_tree.proofs.Many.{many_stop, many_on, many_fails}
+use Rattle.fn_tree.proofs.FileLemmas.{consumes_statement}
+use Rattle.fn_tree.proofs.ReadingMany.{many_stop, many_on, many_fails}
 use Rattle.fn_tree.proofs.statement.statements.Goals as goal
 
 pub more-init : goal.more-init

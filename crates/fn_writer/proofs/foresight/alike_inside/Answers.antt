@@ -1,6 +1,6 @@
 use Rattle.std.proofs.Common.{refl, drop}
 use Rattle.fn_accepted.specs.declared.place.Place.{Place}
-use Rattle.fn_writer.proofs.Foreseen.{all_refuted}
+use Rattle.fn_writer.proofs.ForesightLemmas.{all_refuted}
 use Rattle.fn_writer.proofs.foresight.alike_inside.Goals as goal
 
 pub returns-then-is_told : goal.returns-then-is_told

@@ -1,6 +1,6 @@
 use Rattle.std.proofs.Common.{[], sym, subst}
 use Rattle.fn_writer.specs.Foresight.{HasSeen}
-use Rattle.fn_writer.proofs.Foreseen.{sees}
+use Rattle.fn_writer.proofs.ForesightLemmas.{sees}
 use Rattle.fn_writer.proofs.foresight.foreseen.Goals as goal
 
 pub foreseen_in-requires-clause-seen : goal.foreseen_in-requires-clause-seen

@@ -4,7 +4,7 @@ use Rattle.fn_fits.specs.Fits.{vals}
 use Rattle.fn_writer.specs.Foresight.{AreRefutedInside}
 use Rattle.fn_writer.specs.Told.{told_numbers}
 use Rattle.fn_writer.proofs.Called.{digit_below}
-use Rattle.fn_writer.proofs.Foreseen as foreseen
+use Rattle.fn_writer.proofs.ForesightLemmas as foreseen
 use Rattle.fn_writer.proofs.foresight.foreseen_call.Goals as goal
 
 pub radix_of-requires : goal.radix_of-requires

@@ -3,7 +3,7 @@ use Rattle.fn_cert.specs.declared.certificate.Step.TheVariants.{Call}
 use Rattle.fn_writer.specs.Foresight.{HasSeen, SeesOn}
 use Rattle.fn_writer.specs.Refutation.{Differs}
 use Rattle.fn_writer.specs.Told.{told_numbers}
-use Rattle.fn_writer.proofs.Foreseen.{choice_fails, if_none, passes}
+use Rattle.fn_writer.proofs.ForesightLemmas.{choice_fails, if_none, passes}
 use Rattle.fn_writer.proofs.foresight.foreseen_step.Goals as goal
 
 pub alike-requires : goal.alike-requires

@@ -4,7 +4,7 @@ use Rattle.fn_filling.specs.Entries.{below}
 use Rattle.fn_accepted.specs.declared.place.Place.{Place}
 use Rattle.fn_writer.specs.Foresight.{by_values, by_start}
 use Rattle.fn_writer.specs.Refutation.{HasFalse, HaveBefore, IsRefuted, operand}
-use Rattle.fn_writer.proofs.Fronts.{told}
+use Rattle.fn_writer.proofs.RefutationFronts.{told}
 use Rattle.fn_writer.proofs.foresight.is_refuted_inside.Goals as goal
 
 pub returns-then-has_false : goal.returns-then-has_false

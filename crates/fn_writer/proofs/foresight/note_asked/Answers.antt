@@ -1,7 +1,7 @@
 use Rattle.std.proofs.Common.{sym, subst}
 use Rattle.fn_cert.specs.declared.certificate.Step.TheVariants.{Ask}
 use Rattle.fn_writer.specs.Foresight.{SeesOn}
-use Rattle.fn_writer.proofs.Foreseen.{asks, passes}
+use Rattle.fn_writer.proofs.ForesightLemmas.{asks, passes}
 use Rattle.fn_writer.proofs.foresight.note_asked.Goals as goal
 
 pub returns-in_default : goal.returns-in_default

@@ -1,4 +1,4 @@
-use Rattle.fn_writer.proofs.Foreseen.{calls, way_parts}
+use Rattle.fn_writer.proofs.ForesightLemmas.{calls, way_parts}
 use Rattle.fn_writer.proofs.foresight.read_call.Goals as goal
 
 pub next-digit-requires-clause-divides : goal.next-digit-requires-clause-divides

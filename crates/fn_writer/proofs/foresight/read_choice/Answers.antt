@@ -2,8 +2,8 @@ use Rattle.std.proofs.Common.{sym, ◌∙◌, subst}
 use Rattle.fn_candidates.specs.Reading.{Divides, IsNext, CarriesOn}
 use Rattle.fn_cert.specs.declared.certificate.Step.TheVariants.{Choose}
 use Rattle.fn_writer.specs.Foresight.{SeesOn}
-use Rattle.fn_writer.proofs.Chosen.{width_of}
-use Rattle.fn_writer.proofs.Foreseen.{passes_choice, choice_parts, chooses}
+use Rattle.fn_writer.proofs.GoingChosen.{width_of}
+use Rattle.fn_writer.proofs.ForesightLemmas.{passes_choice, choice_parts, chooses}
 use Rattle.fn_writer.proofs.foresight.read_choice.Goals as goal
 
 pub returns-in_default : goal.returns-in_default

@@ -1,9 +1,9 @@
 use Rattle.std.proofs.Common.{◌+◌, sym, ◌∙◌, refl, subst, drop, [], arith}
 use Rattle.std.specs.Prelude.{IfOk, IsTrue}
-use Rattle.fn_bits.proofs.Lists.{drop_add}
+use Rattle.fn_bits.proofs.CursorLists.{drop_add}
 use Rattle.fn_writer.specs.Refutation.{operand, HasFalse, FieldLacks, Lacks, HaveBefore, none_before, one_header, one_other, of_constraint}
 use Rattle.fn_writer.specs.Told.{numbers, told_numbers}
-use Rattle.fn_writer.proofs.Fronts.{told, lacks_by}
+use Rattle.fn_writer.proofs.RefutationFronts.{told, lacks_by}
 use Rattle.fn_writer.proofs.header_constants.+lacking.Goals as goal
 
 pub lacks_field-loop-index-init : goal.lacks_field-loop-index-init

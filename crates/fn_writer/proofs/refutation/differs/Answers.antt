@@ -1,5 +1,5 @@
 use Rattle.std.proofs.Common.{◌+◌, sym, ◌∙◌, subst, drop, arith}
-use Rattle.fn_bits.proofs.Lists.{drop_add}
+use Rattle.fn_bits.proofs.CursorLists.{drop_add}
 use Rattle.fn_writer.specs.Told.{numbers}
 use Rattle.fn_writer.specs.Refutation.{Differs, IsOther, reference_at, HaveBefore, none_before, one_header, one_other}
 use Rattle.fn_writer.proofs.refutation.differs.Goals as goal

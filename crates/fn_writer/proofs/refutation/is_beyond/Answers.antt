@@ -2,7 +2,7 @@ use Rattle.std.proofs.Common.{rules, ◌≡◌, subst, ◌≤◌, ◌<◌, ◌^�
 use Rattle.std.specs.Prelude.{SomeIff}
 use mir.Syntax.{w128}
 use Rattle.fn_bits.specs.Number.{enc}
-use Rattle.fn_writer.proofs.Fronts.{beyond}
+use Rattle.fn_writer.proofs.RefutationFronts.{beyond}
 use Rattle.fn_writer.proofs.refutation.is_beyond.Goals as goal
 
 pub returns : goal.returns

@@ -4,7 +4,7 @@ use Rattle.std.specs.Option.{option_copied}
 use mir.Syntax.{w128}
 use Rattle.fn_lib.specs.Methods.{lsb}
 use Rattle.fn_writer.specs.Refutation.{IsElse, reference_at}
-use Rattle.fn_writer.proofs.Fronts.{far, none_lsb, told}
+use Rattle.fn_writer.proofs.RefutationFronts.{far, none_lsb, told}
 use Rattle.fn_writer.proofs.refutation.is_far.Goals as goal
 
 pub returns-in_default-2 : goal.returns-in_default-2

@@ -3,7 +3,7 @@ use Rattle.fn_normal.specs.declared.profile.Encoding.TheVariants as encoding
 use Rattle.fn_normal.specs.declared.profile.Library.TheVariants as library
 use Rattle.fn_writer.specs.Refutation.{IsOther, Lacks, by_constant, reference_at}
 use Rattle.fn_writer.specs.Told.{numbers}
-use Rattle.fn_writer.proofs.Fronts.{told}
+use Rattle.fn_writer.proofs.RefutationFronts.{told}
 use Rattle.fn_writer.proofs.refutation.is_other.Goals as goal
 
 pub returns-then-is_lacking : goal.returns-then-is_lacking

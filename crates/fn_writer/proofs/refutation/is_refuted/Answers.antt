@@ -1,7 +1,7 @@
 use Rattle.std.proofs.Common.{[], sym, subst, drop}
 use Rattle.fn_writer.specs.Refutation.{Differs, by_constraint, by_header}
 use Rattle.fn_writer.specs.Told.{told_numbers}
-use Rattle.fn_writer.proofs.Fronts.{told}
+use Rattle.fn_writer.proofs.RefutationFronts.{told}
 use Rattle.fn_writer.proofs.refutation.is_refuted.Goals as goal
 
 pub returns-then-has_false : goal.returns-then-has_false

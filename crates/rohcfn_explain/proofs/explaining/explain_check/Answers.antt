@@ -1,5 +1,5 @@
 use Rattle.rohcfn_report.specs.Reports.{CheckedOctets, ProvedOctets}
-use Rattle.rohcfn_explain.proofs.Noted.{with_notes}
+use Rattle.rohcfn_explain.proofs.ExplainingNotes.{with_notes}
 use Rattle.rohcfn_explain.proofs.explaining.explain_check.Goals as goal
 
 pub returns : goal.returns

@@ -1,7 +1,7 @@
 use Rattle.std.proofs.Common.{◌≡◌, ◌∙◌, ℕ, List, ap, sym, subst}
 use Rattle.std.specs.Prelude.{IfOk, string_bytes}
 use Rattle.rohcfn_input.specs.Bundle.{shown_text}
-use Rattle.rohcfn_input.proofs.ShownNames.{name_dash, name_text}
+use Rattle.rohcfn_input.proofs.BundleNames.{name_dash, name_text}
 use Rattle.rohcfn_input.proofs.bundle.name_shown.Goals as goal
 
 pub returns-in-Ok : goal.returns-in-Ok

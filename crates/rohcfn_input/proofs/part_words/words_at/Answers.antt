@@ -1,5 +1,5 @@
 use Rattle.std.proofs.Common.{◌≡◌, map, length, rules}
-use Rattle.rohcfn_input.proofs.WordsThere.{none_in_other, one_of_text, words_there}
+use Rattle.rohcfn_input.proofs.PartWordsThere.{none_in_other, one_of_text, words_there}
 use Rattle.rohcfn_input.proofs.part_words.words_at.Goals as goal
 
 pub returns-in_default-from_utf8 : goal.returns-in_default-from_utf8

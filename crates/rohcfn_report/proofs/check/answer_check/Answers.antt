@@ -1,7 +1,7 @@
 use Rattle.std.proofs.Common.{refl}
 use Rattle.rohcfn_report.specs.Reports.{CheckedOctets, accepted, refused}
-use Rattle.rohcfn_report.proofs.Certificates.{accepted_here, refused_here}
-use Rattle.rohcfn_input.proofs.AnswersHeld.{done_is, refusal_is}
+use Rattle.rohcfn_report.proofs.AcceptingCertificates.{accepted_here, refused_here}
+use Rattle.rohcfn_input.proofs.RefusalsHeld.{done_is, refusal_is}
 use Rattle.rohcfn_report.proofs.check.answer_check.Goals as goal
 
 pub returns-in-Accepted : goal.returns-in-Accepted

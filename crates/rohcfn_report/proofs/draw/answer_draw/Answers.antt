@@ -1,4 +1,4 @@
-use Rattle.rohcfn_report.proofs.Drawn.{profile_drawn, refused_drawing}
+use Rattle.rohcfn_report.proofs.DrawLemmas.{profile_drawn, refused_drawing}
 use Rattle.rohcfn_report.proofs.draw.answer_draw.Goals as goal
 
 pub returns-in-Ok : goal.returns-in-Ok

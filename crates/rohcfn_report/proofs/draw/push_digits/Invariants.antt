@@ -1,6 +1,6 @@
 use Rattle.std.specs.Prelude.{◌++◌, string_bytes}
 use Rattle.rohcfn_report.specs.Draw.{number_cell, number_cells}
-use Rattle.rohcfn_report.proofs.Drawn.{Ranges}
+use Rattle.rohcfn_report.proofs.DrawLemmas.{Ranges}
 use Rattle.rohcfn_report.proofs.draw.push_digits.Given as goal
 
 abbrev pub invariant-loop-bit : goal.invariant-loop-bit

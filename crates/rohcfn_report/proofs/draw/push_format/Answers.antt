@@ -1,7 +1,7 @@
 use Rattle.std.proofs.Common.{◌≡◌, ◌++◌, ◌∙◌, ap}
 use Rattle.rohcfn_report.specs.Draw.{diagram, heading}
 use Rattle.rohcfn_report.specs.CheckFaults.{format_name, method_name}
-use Rattle.rohcfn_report.proofs.Drawn.{two_pieces}
+use Rattle.rohcfn_report.proofs.DrawLemmas.{two_pieces}
 use Rattle.rohcfn_report.proofs.draw.push_format.Goals as goal
 
 pub returns : goal.returns

@@ -1,6 +1,6 @@
 use Rattle.std.specs.Prelude.{◌++◌, string_bytes}
 use Rattle.rohcfn_report.specs.Draw.{format_text, method_text}
-use Rattle.rohcfn_report.proofs.Tables.{Goes}
+use Rattle.rohcfn_report.proofs.WarningsTables.{Goes}
 use Rattle.rohcfn_report.proofs.draw.push_method.Given as goal
 
 abbrev pub invariant-loop-format : goal.invariant-loop-format

@@ -1,5 +1,5 @@
 use Rattle.rohcfn_report.specs.Draw.{name_cell}
-use Rattle.rohcfn_report.proofs.Drawn.{ranges_on}
+use Rattle.rohcfn_report.proofs.DrawLemmas.{ranges_on}
 use Rattle.rohcfn_report.proofs.draw.push_name.Goals as goal
 
 pub loop-bit-preserved : goal.loop-bit-preserved

@@ -1,6 +1,6 @@
 use Rattle.std.specs.Prelude.{◌++◌, string_bytes}
 use Rattle.rohcfn_report.specs.Draw.{called_text, drawn}
-use Rattle.rohcfn_report.proofs.Tables.{Goes}
+use Rattle.rohcfn_report.proofs.WarningsTables.{Goes}
 use Rattle.rohcfn_report.proofs.draw.push_profile.Given as goal
 
 abbrev pub invariant-loop-index : goal.invariant-loop-index

@@ -2,7 +2,7 @@ use Rattle.std.proofs.Common.{◌∙◌, ◌++◌, ap, sym}
 use Rattle.std.specs.Prelude.{flat_map}
 use Rattle.std.specs.List.{enumerate_from}
 use Rattle.rohcfn_report.specs.Fields.{encoding_at}
-use Rattle.rohcfn_report.proofs.Listed.{format_in, rows_are, rows_at}
+use Rattle.rohcfn_report.proofs.FieldsListed.{format_in, rows_are, rows_at}
 use Rattle.rohcfn_report.proofs.fields.+add_rows.Goals as goal
 
 pub loop-i-init : goal.loop-i-init

@@ -1,7 +1,7 @@
 use Rattle.std.proofs.Common.{◌++◌}
 use Rattle.rohcfn_report.specs.Fields.{encoding_at, listed}
-use Rattle.rohcfn_report.proofs.Listed.{format_in, rows_at}
-use Rattle.rohcfn_report.proofs.Tables.{Goes}
+use Rattle.rohcfn_report.proofs.FieldsListed.{format_in, rows_at}
+use Rattle.rohcfn_report.proofs.WarningsTables.{Goes}
 use Rattle.rohcfn_report.proofs.fields.+add_rows.Given as goal
 
 abbrev pub invariant-loop-i : goal.invariant-loop-i

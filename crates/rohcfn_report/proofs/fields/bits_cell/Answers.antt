@@ -1,5 +1,5 @@
 use Rattle.std.proofs.Common.{◌∙◌}
-use Rattle.rohcfn_report.proofs.Spelled.{text_is}
+use Rattle.rohcfn_report.proofs.BitTextsSpelled.{text_is}
 use Rattle.rohcfn_report.proofs.fields.bits_cell.Goals as goal
 
 pub returns : goal.returns

@@ -1,4 +1,4 @@
-use Rattle.rohcfn_report.proofs.Certificates.{octets_judged, octets_at_fault}
+use Rattle.rohcfn_report.proofs.AcceptingCertificates.{octets_judged, octets_at_fault}
 use Rattle.rohcfn_report.proofs.profile_and_certificate.accept.Goals as goal
 
 pub returns-in-Ok : goal.returns-in-Ok

@@ -1,4 +1,4 @@
-use Rattle.rohcfn_report.proofs.Certificates.{broken_here}
+use Rattle.rohcfn_report.proofs.AcceptingCertificates.{broken_here}
 use Rattle.rohcfn_report.proofs.profile_and_certificate.broken.Goals as goal
 
 pub returns-in-Err-NotText : goal.returns-in-Err-NotText

@@ -1,4 +1,4 @@
-use Rattle.rohcfn_report.proofs.Certificates.{given_found, made_found}
+use Rattle.rohcfn_report.proofs.AcceptingCertificates.{given_found, made_found}
 use Rattle.rohcfn_report.proofs.profile_and_certificate.find.Goals as goal
 
 pub returns-in-Given : goal.returns-in-Given

@@ -1,4 +1,4 @@
-use Rattle.rohcfn_report.proofs.Certificates.{certificate_judged, line_judged}
+use Rattle.rohcfn_report.proofs.AcceptingCertificates.{certificate_judged, line_judged}
 use Rattle.rohcfn_report.proofs.profile_and_certificate.judge.Goals as goal
 
 pub returns-in-Certificate : goal.returns-in-Certificate

@@ -1,6 +1,6 @@
 use Rattle.std.proofs.Common.{refl}
 use Rattle.rohcfn_report.specs.Accepting.{made}
-use Rattle.rohcfn_report.proofs.Certificates.{none_made}
+use Rattle.rohcfn_report.proofs.AcceptingCertificates.{none_made}
 use Rattle.rohcfn_report.proofs.profile_and_certificate.make.Goals as goal
 
 pub returns-in-Ok : goal.returns-in-Ok

@@ -1,4 +1,4 @@
-use Rattle.rohcfn_report.proofs.Certificates.{broken_found, text_found}
+use Rattle.rohcfn_report.proofs.AcceptingCertificates.{broken_found, text_found}
 use Rattle.rohcfn_report.proofs.profile_and_certificate.read_octets.Goals as goal
 
 pub returns-in-Ok : goal.returns-in-Ok

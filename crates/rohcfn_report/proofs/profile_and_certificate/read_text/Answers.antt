@@ -1,4 +1,4 @@
-use Rattle.rohcfn_report.proofs.Certificates.{read_here, unread_here}
+use Rattle.rohcfn_report.proofs.AcceptingCertificates.{read_here, unread_here}
 use Rattle.rohcfn_report.proofs.profile_and_certificate.read_text.Goals as goal
 
 pub returns-in-Ok : goal.returns-in-Ok

@@ -1,4 +1,4 @@
-use Rattle.rohcfn_report.proofs.Certificates.{is_accepted, is_refused}
+use Rattle.rohcfn_report.proofs.AcceptingCertificates.{is_accepted, is_refused}
 use Rattle.rohcfn_report.proofs.profile_and_certificate.verdict.Goals as goal
 
 pub returns-in-Ok : goal.returns-in-Ok

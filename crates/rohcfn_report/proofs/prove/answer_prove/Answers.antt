@@ -1,4 +1,4 @@
-use Rattle.rohcfn_report.proofs.Certificates.{proved_by_profile, proof_refused}
+use Rattle.rohcfn_report.proofs.AcceptingCertificates.{proved_by_profile, proof_refused}
 use Rattle.rohcfn_report.proofs.prove.answer_prove.Goals as goal
 
 pub returns-in-Ok : goal.returns-in-Ok

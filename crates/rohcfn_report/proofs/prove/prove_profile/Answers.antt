@@ -1,4 +1,4 @@
-use Rattle.rohcfn_report.proofs.Certificates.{certificate_printed, none_proved_line}
+use Rattle.rohcfn_report.proofs.AcceptingCertificates.{certificate_printed, none_proved_line}
 use Rattle.rohcfn_report.proofs.prove.prove_profile.Goals as goal
 
 pub returns-in-Ok : goal.returns-in-Ok

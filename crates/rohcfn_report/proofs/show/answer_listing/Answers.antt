@@ -1,4 +1,4 @@
-use Rattle.rohcfn_report.proofs.Listings.{all_listed, refused_listing}
+use Rattle.rohcfn_report.proofs.ProfileLinesListed.{all_listed, refused_listing}
 use Rattle.rohcfn_report.proofs.show.answer_listing.Goals as goal
 
 pub returns-in_ok-output-in-Ok : goal.returns-in_ok-output-in-Ok

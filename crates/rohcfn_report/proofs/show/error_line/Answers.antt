@@ -1,4 +1,4 @@
-use Rattle.rohcfn_report.proofs.Listings.{line_of_text, line_of_cause}
+use Rattle.rohcfn_report.proofs.ProfileLinesListed.{line_of_text, line_of_cause}
 use Rattle.rohcfn_report.proofs.show.error_line.Goals as goal
 
 pub returns-in-Text : goal.returns-in-Text

@@ -2,7 +2,7 @@ use Rattle.std.proofs.Common.{◌++◌}
 use Rattle.fn_stats.specs.Counts.{tally_field}
 use Rattle.rohcfn_report.specs.Stats.{field_rows, listed_rows}
 use Rattle.rohcfn_report.specs.CheckFaults.{field_name}
-use Rattle.rohcfn_report.proofs.Tables.{Goes}
+use Rattle.rohcfn_report.proofs.WarningsTables.{Goes}
 use Rattle.rohcfn_report.proofs.stats.add_fields.Given as goal
 
 abbrev pub invariant-loop-place : goal.invariant-loop-place

@@ -1,6 +1,6 @@
 use Rattle.std.proofs.Common.{◌++◌}
 use Rattle.rohcfn_report.specs.Stats.{format_rows, formats_rows}
-use Rattle.rohcfn_report.proofs.Tables.{Goes}
+use Rattle.rohcfn_report.proofs.WarningsTables.{Goes}
 use Rattle.rohcfn_report.proofs.stats.add_formats.Given as goal
 
 abbrev pub invariant-loop-number : goal.invariant-loop-number

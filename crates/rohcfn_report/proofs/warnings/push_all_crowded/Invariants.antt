@@ -1,6 +1,6 @@
 use Rattle.std.specs.Prelude.{◌++◌, string_bytes}
 use Rattle.rohcfn_report.specs.Warnings.{candidates_text, crowded_lines}
-use Rattle.rohcfn_report.proofs.Tables.{Goes}
+use Rattle.rohcfn_report.proofs.WarningsTables.{Goes}
 use Rattle.rohcfn_report.proofs.warnings.push_all_crowded.Given as goal
 
 abbrev pub invariant-loop-index : goal.invariant-loop-index

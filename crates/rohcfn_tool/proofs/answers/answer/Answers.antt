@@ -6,7 +6,7 @@ use Rattle.rohcfn_explain.specs.Explained.{Explained}
 use Rattle.rohcfn_report.specs.Draw.{DrawnBy}
 use Rattle.rohcfn_report.specs.Lint.{LintedBy}
 use Rattle.rohcfn_report.specs.Reports.{CheckedOctets, ProvedOctets, ShownBy}
-use Rattle.rohcfn_input.proofs.AnswersHeld.{passed_on, refusal_is}
+use Rattle.rohcfn_input.proofs.RefusalsHeld.{passed_on, refusal_is}
 use Rattle.rohcfn_tool.proofs.answers.answer.Goals as goal
 
 pub returns-in_default : goal.returns-in_default

@@ -1,6 +1,6 @@
 use Rattle.rohcfn_tool.specs.Printed.{AnsweredBy, AnsweredFor, by_profile, unaccepted}
-use Rattle.rohcfn_report.proofs.Certificates.{accepted_here, refused_here}
-use Rattle.rohcfn_input.proofs.AnswersHeld.{passed_on, refusal_is}
+use Rattle.rohcfn_report.proofs.AcceptingCertificates.{accepted_here, refused_here}
+use Rattle.rohcfn_input.proofs.RefusalsHeld.{passed_on, refusal_is}
 use Rattle.rohcfn_tool.proofs.answers.answer_by.Goals as goal
 
 pub returns-in-Accepted : goal.returns-in-Accepted

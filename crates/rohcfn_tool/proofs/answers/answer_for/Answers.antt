@@ -1,7 +1,7 @@
 use Rattle.std.proofs.Common.{◌∙◌}
 use Rattle.rohcfn_tool.specs.Printed.{AnsweredFor, AnsweredIn, from_context}
-use Rattle.rohcfn_tool.proofs.Replying.{bad_context_is}
-use Rattle.rohcfn_input.proofs.AnswersHeld.{passed_on}
+use Rattle.rohcfn_tool.proofs.PrintedReplying.{bad_context_is}
+use Rattle.rohcfn_input.proofs.RefusalsHeld.{passed_on}
 use Rattle.rohcfn_tool.proofs.answers.answer_for.Goals as goal
 
 pub returns-in-Ok : goal.returns-in-Ok

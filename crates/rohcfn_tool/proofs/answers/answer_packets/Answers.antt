@@ -1,8 +1,8 @@
 use Rattle.std.proofs.Common.{◌∙◌}
 use Rattle.rohcfn_words.specs.declared.words.Direction.TheVariants.{Unpack}
 use Rattle.rohcfn_tool.specs.Printed.{AnsweredIn, PrintsPackets, answered}
-use Rattle.rohcfn_input.proofs.AnswersHeld.{passed_on}
-use Rattle.rohcfn_tool.proofs.Replying.{bad_input_is}
+use Rattle.rohcfn_input.proofs.RefusalsHeld.{passed_on}
+use Rattle.rohcfn_tool.proofs.PrintedReplying.{bad_input_is}
 use Rattle.rohcfn_tool.proofs.answers.answer_packets.Goals as goal
 
 pub returns-in-Ok : goal.returns-in-Ok

@@ -1,7 +1,7 @@
 use Rattle.std.proofs.Common.{refl}
 use Rattle.rohcfn_words.specs.declared.words.Direction.TheVariants.{Pack, Unpack}
 use Rattle.rohcfn_tool.specs.Printed.{AnsweredBy, AnsweredRun, both, no_input}
-use Rattle.rohcfn_input.proofs.AnswersHeld.{passed_on, refusal_is}
+use Rattle.rohcfn_input.proofs.RefusalsHeld.{passed_on, refusal_is}
 use Rattle.rohcfn_tool.proofs.answers.answer_run.Goals as goal
 
 pub returns-in-Some : goal.returns-in-Some

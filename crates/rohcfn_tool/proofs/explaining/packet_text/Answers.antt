@@ -1,5 +1,5 @@
 use Rattle.std.specs.Prelude.{string_bytes}
-use Rattle.rohcfn_tool.proofs.Stepping.{packet_explained}
+use Rattle.rohcfn_tool.proofs.PrintedStepping.{packet_explained}
 use Rattle.rohcfn_tool.proofs.explaining.packet_text.Goals as goal
 
 pub returns : goal.returns

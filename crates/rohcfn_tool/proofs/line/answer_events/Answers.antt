@@ -1,7 +1,7 @@
 use Rattle.std.proofs.Common.{◌∙◌}
 use Rattle.rohcfn_tool.specs.Line.{AnsweredEvents, PrintsSent, sent_events}
-use Rattle.rohcfn_tool.proofs.Flowing.{bad_events_are}
-use Rattle.rohcfn_input.proofs.AnswersHeld.{passed_on}
+use Rattle.rohcfn_tool.proofs.LineFlowing.{bad_events_are}
+use Rattle.rohcfn_input.proofs.RefusalsHeld.{passed_on}
 use Rattle.rohcfn_tool.proofs.line.answer_events.Goals as goal
 
 pub returns-in-Ok : goal.returns-in-Ok

@@ -2,7 +2,7 @@ use Rattle.std.proofs.Common.{refl}
 use Rattle.rohcfn_words.specs.declared.words.End.TheVariants.{Sending, Receiving}
 use Rattle.rohcfn_report.specs.Accepting.{origin_of}
 use Rattle.rohcfn_tool.specs.Line.{Lined, LinedBy, by_part, line_version, no_part}
-use Rattle.rohcfn_input.proofs.AnswersHeld.{passed_on, refusal_is}
+use Rattle.rohcfn_input.proofs.RefusalsHeld.{passed_on, refusal_is}
 use Rattle.rohcfn_tool.proofs.line.answer_line.Goals as goal
 
 pub returns-in-Some : goal.returns-in-Some

@@ -1,6 +1,6 @@
 use Rattle.std.proofs.Common.{refl}
 use Rattle.rohcfn_tool.specs.Line.{AnsweredHex, PrintsReceived, bad_hex, received_octets}
-use Rattle.rohcfn_input.proofs.AnswersHeld.{passed_on, refusal_is}
+use Rattle.rohcfn_input.proofs.RefusalsHeld.{passed_on, refusal_is}
 use Rattle.rohcfn_tool.proofs.line.answer_octets.Goals as goal
 
 pub returns-in-Some : goal.returns-in-Some

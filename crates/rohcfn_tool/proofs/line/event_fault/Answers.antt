@@ -1,5 +1,5 @@
 use Rattle.std.proofs.Common.{codes, refl}
-use Rattle.rohcfn_input.proofs.OneLines.{asked_event, in_event, told}
+use Rattle.rohcfn_input.proofs.OneLineLemmas.{asked_event, in_event, told}
 use Rattle.rohcfn_tool.proofs.line.event_fault.Goals as goal
 
 pub returns-in-HeaderLength-clause-line : goal.returns-in-HeaderLength-clause-line

@@ -1,8 +1,8 @@
 use Rattle.std.proofs.Common.{subst}
 use Rattle.rohcfn_report.specs.Accepting.{origin_of}
 use Rattle.rohcfn_tool.specs.Line.{AnsweredEnd, LinedBy, line_version, not_accepted, with_profile}
-use Rattle.rohcfn_report.proofs.Certificates.{accepted_here, refused_here}
-use Rattle.rohcfn_input.proofs.AnswersHeld.{passed_on, refusal_is}
+use Rattle.rohcfn_report.proofs.AcceptingCertificates.{accepted_here, refused_here}
+use Rattle.rohcfn_input.proofs.RefusalsHeld.{passed_on, refusal_is}
 use Rattle.rohcfn_tool.proofs.line.line_by.Goals as goal
 
 pub returns-in-Accepted : goal.returns-in-Accepted

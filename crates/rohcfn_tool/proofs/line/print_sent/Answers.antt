@@ -1,7 +1,7 @@
 use Rattle.std.proofs.Common.{refl, rules, map}
 use Rattle.fn_line.specs.Laws.{items_sent}
 use Rattle.fn_line.specs.Runs.{event_of}
-use Rattle.rohcfn_tool.proofs.Flowing.{sent_lines}
+use Rattle.rohcfn_tool.proofs.LineFlowing.{sent_lines}
 use Rattle.rohcfn_tool.proofs.line.print_sent.Goals as goal
 
 pub returns : goal.returns

@@ -1,7 +1,7 @@
 use Rattle.std.proofs.Common.{ℕ, []}
 use Rattle.std.proofs.lemmas.List.{get_or_read}
 use Rattle.fn_filling.specs.declared.filling.Item.{Item}
-use Rattle.rohcfn_tool.proofs.Flowing.{all_pushed, one_pushed}
+use Rattle.rohcfn_tool.proofs.LineFlowing.{all_pushed, one_pushed}
 use Rattle.rohcfn_tool.proofs.line.push_items.Goals as goal
 
 pub loop-flow-preserved : goal.loop-flow-preserved

@@ -1,5 +1,5 @@
 use Rattle.std.specs.Prelude.{drop, string_bytes}
-use Rattle.rohcfn_tool.proofs.Flowing.{PushedSoFar}
+use Rattle.rohcfn_tool.proofs.LineFlowing.{PushedSoFar}
 use Rattle.rohcfn_tool.proofs.line.push_items.Given as goal
 
 -- the lines so far, and those of the items that are left

@@ -5,7 +5,7 @@ use Rattle.fn_line.specs.declared.runs.Event.{Event}
 use Rattle.fn_line.specs.declared.runs.Event.TheVariants as event
 use Rattle.fn_line.specs.Laws.{items_sent}
 use Rattle.fn_line.specs.Runs.{event_of}
-use Rattle.rohcfn_tool.proofs.Flowing.{PushedSoFar, all_sent_pushed, none_pushed, reset_passed, send_pushed, sent_from}
+use Rattle.rohcfn_tool.proofs.LineFlowing.{PushedSoFar, all_sent_pushed, none_pushed, reset_passed, send_pushed, sent_from}
 use Rattle.rohcfn_tool.proofs.line.push_sent.Goals as goal
 use Rattle.rohcfn_tool.proofs.line.push_sent.Goals.{in-Send+in_ok-push_item-in-Send, in-Reset}
 

@@ -1,7 +1,7 @@
 use Rattle.std.specs.Prelude.{map, string_bytes}
 use Rattle.fn_line.specs.Laws.{items_sent}
 use Rattle.fn_line.specs.Runs.{event_of}
-use Rattle.rohcfn_tool.proofs.Flowing.{PushedSoFar, sent_from}
+use Rattle.rohcfn_tool.proofs.LineFlowing.{PushedSoFar, sent_from}
 use Rattle.rohcfn_tool.proofs.line.push_sent.Given as goal
 
 -- the lines so far, and those of the items of the events that are left

@@ -1,6 +1,6 @@
 use Rattle.std.proofs.Common.{rules}
 use Rattle.std.specs.Prelude.{string_bytes}
-use Rattle.rohcfn_tool.proofs.Flowing.{fault_lines, received_lines}
+use Rattle.rohcfn_tool.proofs.LineFlowing.{fault_lines, received_lines}
 use Rattle.rohcfn_tool.proofs.line.receive_all.Goals as goal
 
 pub returns-in-Some : goal.returns-in-Some

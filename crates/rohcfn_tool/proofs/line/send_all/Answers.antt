@@ -3,7 +3,7 @@ use Rattle.std.specs.Prelude.{IfOk}
 use Rattle.fn_line.specs.Laws.{items_sent}
 use Rattle.fn_line.specs.Runs.{event_of}
 use Rattle.rohcfn_tool.specs.Line.{IsSentPrinted}
-use Rattle.rohcfn_tool.proofs.Flowing.{refused_event_is, sent_printed}
+use Rattle.rohcfn_tool.proofs.LineFlowing.{refused_event_is, sent_printed}
 use Rattle.rohcfn_tool.proofs.line.send_all.Goals as goal
 
 pub returns-in-Ok : goal.returns-in-Ok

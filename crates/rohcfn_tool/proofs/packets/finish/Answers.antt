@@ -1,4 +1,4 @@
-use Rattle.rohcfn_tool.proofs.Replying.{finished_at, finished_plain}
+use Rattle.rohcfn_tool.proofs.PrintedReplying.{finished_at, finished_plain}
 use Rattle.std.proofs.Common.{true}
 use Rattle.rohcfn_tool.proofs.packets.finish.Goals as goal
 

@@ -1,5 +1,5 @@
 use Rattle.std.proofs.Common.{codes, refl}
-use Rattle.rohcfn_input.proofs.OneLines.{asked_item, in_item, told}
+use Rattle.rohcfn_input.proofs.OneLineLemmas.{asked_item, in_item, told}
 use Rattle.rohcfn_tool.proofs.packets.item_fault.Goals as goal
 
 pub returns-in-HeaderLength-clause-line : goal.returns-in-HeaderLength-clause-line

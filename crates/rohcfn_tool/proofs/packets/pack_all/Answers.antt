@@ -2,7 +2,7 @@ use Rattle.std.proofs.Common.{[]}
 use Rattle.fn_filling.specs.declared.filling.Item.{Item}
 use Rattle.std.proofs.lemmas.List.{get_or_read}
 use Rattle.rohcfn_tool.specs.Printed.{FaultsItem, SaysItem, stop_of}
-use Rattle.rohcfn_tool.proofs.Replying.{printed_start, printed_on, printed_stop, printed_end}
+use Rattle.rohcfn_tool.proofs.PrintedReplying.{printed_start, printed_on, printed_stop, printed_end}
 use Rattle.rohcfn_tool.proofs.packets.pack_all.Goals as goal
 
 pub loop-i-init : goal.loop-i-init

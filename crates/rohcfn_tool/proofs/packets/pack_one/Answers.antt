@@ -1,4 +1,4 @@
-use Rattle.rohcfn_tool.proofs.Stepping.{no_flow_blamed, packed_step}
+use Rattle.rohcfn_tool.proofs.PrintedStepping.{no_flow_blamed, packed_step}
 use Rattle.rohcfn_tool.proofs.packets.pack_one.Goals as goal
 
 pub returns-in_ok-replace-in-Ok : goal.returns-in_ok-replace-in-Ok

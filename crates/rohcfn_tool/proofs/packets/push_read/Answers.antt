@@ -1,4 +1,4 @@
-use Rattle.rohcfn_tool.proofs.Stepping.{took_line}
+use Rattle.rohcfn_tool.proofs.PrintedStepping.{took_line}
 use Rattle.rohcfn_tool.proofs.packets.push_read.Goals as goal
 
 pub returns : goal.returns

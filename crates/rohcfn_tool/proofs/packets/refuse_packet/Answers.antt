@@ -1,5 +1,5 @@
 use Rattle.std.specs.Prelude.{string_bytes}
-use Rattle.rohcfn_tool.proofs.Stepping.{packet_faulted}
+use Rattle.rohcfn_tool.proofs.PrintedStepping.{packet_faulted}
 use Rattle.rohcfn_tool.proofs.packets.refuse_packet.Goals as goal
 
 pub returns : goal.returns

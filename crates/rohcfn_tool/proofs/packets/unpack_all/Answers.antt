@@ -1,7 +1,7 @@
 use Rattle.std.proofs.Common.{List, [], Bool}
 use Rattle.std.proofs.lemmas.List.{get_or_read}
 use Rattle.rohcfn_tool.specs.Printed.{FaultsPacket, SaysPacket, stop_of}
-use Rattle.rohcfn_tool.proofs.Replying.{printed_start, printed_on, printed_stop, printed_end}
+use Rattle.rohcfn_tool.proofs.PrintedReplying.{printed_start, printed_on, printed_stop, printed_end}
 use Rattle.rohcfn_tool.proofs.packets.unpack_all.Goals as goal
 
 pub loop-i-init : goal.loop-i-init

@@ -1,6 +1,6 @@
 use Rattle.std.specs.Prelude.{string_bytes}
 use Rattle.rohcfn_tool.specs.Printed.{FaultsPacket, SaysPacket, stop_of}
-use Rattle.rohcfn_tool.proofs.Replying.{SoFar}
+use Rattle.rohcfn_tool.proofs.PrintedReplying.{SoFar}
 use Rattle.rohcfn_tool.proofs.packets.unpack_all.Given as goal
 
 -- the lines so far, and those for what is left from the context on

@@ -1,4 +1,4 @@
-use Rattle.rohcfn_tool.proofs.Stepping.{packet_blamed, read_step}
+use Rattle.rohcfn_tool.proofs.PrintedStepping.{packet_blamed, read_step}
 use Rattle.rohcfn_tool.proofs.packets.unpack_one.Goals as goal
 
 pub returns-in_ok-replace-in-Ok : goal.returns-in_ok-replace-in-Ok

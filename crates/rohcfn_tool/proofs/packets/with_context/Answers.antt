@@ -1,4 +1,4 @@
-use Rattle.rohcfn_tool.proofs.Replying.{finished_more}
+use Rattle.rohcfn_tool.proofs.PrintedReplying.{finished_more}
 use Rattle.std.specs.Prelude.{string_bytes}
 use Rattle.rohcfn_tool.proofs.packets.with_context.Goals as goal
 

@@ -1,4 +1,4 @@
-use Rattle.rohcfn_tool.proofs.Endings.{large_replied}
+use Rattle.rohcfn_tool.proofs.ProgramEndings.{large_replied}
 use Rattle.rohcfn_tool.proofs.program.reply_from.Goals as goal
 
 pub returns-in_ok-refused_input-in-Large-clause-replies : goal.returns-in_ok-refused_input-in-Large-clause-replies

@@ -2,7 +2,7 @@ use Rattle.std.proofs.Common.{◌∙◌, ap}
 use Rattle.std.specs.Global.{Global}
 use Rattle.std.specs.Prelude.{Ok, String}
 use Rattle.rohcfn_tool.specs.declared.program.Reply.TheVariants.{Print, Tell}
-use Rattle.rohcfn_tool.proofs.Endings.{print_never_fails, printed, replied_as, told_alone, unwritten}
+use Rattle.rohcfn_tool.proofs.ProgramEndings.{print_never_fails, printed, replied_as, told_alone, unwritten}
 use Rattle.rohcfn_tool.proofs.program.run.Goals as goal
 
 pub returns-then-write_out-clause-gives : goal.returns-then-write_out-clause-gives

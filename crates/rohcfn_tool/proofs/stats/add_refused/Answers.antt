@@ -1,5 +1,5 @@
 use Rattle.std.specs.Prelude.{string_bytes}
-use Rattle.rohcfn_tool.proofs.Tallying.{line_below}
+use Rattle.rohcfn_tool.proofs.PrintedTallying.{line_below}
 use Rattle.rohcfn_tool.proofs.stats.add_refused.Goals as goal
 
 pub returns : goal.returns

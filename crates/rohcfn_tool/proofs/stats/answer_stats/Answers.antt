@@ -1,6 +1,6 @@
 use Rattle.std.proofs.Common.{refl}
 use Rattle.rohcfn_tool.specs.Printed.{Stated, StatsWith, no_items, with_items}
-use Rattle.rohcfn_input.proofs.AnswersHeld.{passed_on, refusal_is}
+use Rattle.rohcfn_input.proofs.RefusalsHeld.{passed_on, refusal_is}
 use Rattle.rohcfn_tool.proofs.stats.answer_stats.Goals as goal
 
 pub returns-in-Some : goal.returns-in-Some

@@ -1,7 +1,7 @@
 use Rattle.std.proofs.Common.{[]}
 use Rattle.std.proofs.lemmas.List.{get_or_read}
 use Rattle.fn_filling.specs.declared.filling.Item.{Item}
-use Rattle.rohcfn_tool.proofs.Tallying.{counted_end, counted_on, counted_start}
+use Rattle.rohcfn_tool.proofs.PrintedTallying.{counted_end, counted_on, counted_start}
 use Rattle.rohcfn_tool.proofs.stats.count_all.Goals as goal
 
 pub loop-i-init : goal.loop-i-init

@@ -1,5 +1,5 @@
 use Rattle.std.specs.Prelude.{string_bytes}
-use Rattle.rohcfn_tool.proofs.Tallying.{CountedSoFar}
+use Rattle.rohcfn_tool.proofs.PrintedTallying.{CountedSoFar}
 use Rattle.rohcfn_tool.proofs.stats.count_all.Given as goal
 
 -- the counts and the lines so far, and what comes of the items that are left

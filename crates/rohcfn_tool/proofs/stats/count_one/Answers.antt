@@ -1,5 +1,5 @@
-use Rattle.rohcfn_tool.proofs.Stepping.{no_flow_blamed}
-use Rattle.rohcfn_tool.proofs.Tallying.{one_counted, one_refused}
+use Rattle.rohcfn_tool.proofs.PrintedStepping.{no_flow_blamed}
+use Rattle.rohcfn_tool.proofs.PrintedTallying.{one_counted, one_refused}
 use Rattle.rohcfn_tool.proofs.stats.count_one.Goals as goal
 
 pub returns-in-Ok : goal.returns-in-Ok

@@ -1,4 +1,4 @@
-use Rattle.rohcfn_tool.proofs.Tallying.{counts_printed}
+use Rattle.rohcfn_tool.proofs.PrintedTallying.{counts_printed}
 use Rattle.rohcfn_tool.proofs.stats.print_counts.Goals as goal
 
 pub returns : goal.returns

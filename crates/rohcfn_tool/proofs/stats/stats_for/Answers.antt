@@ -1,7 +1,7 @@
 use Rattle.std.proofs.Common.{◌∙◌}
 use Rattle.rohcfn_tool.specs.Printed.{StatsFor, StatsIn, from_entries}
-use Rattle.rohcfn_tool.proofs.Tallying.{bad_entry_is}
-use Rattle.rohcfn_input.proofs.AnswersHeld.{passed_on}
+use Rattle.rohcfn_tool.proofs.PrintedTallying.{bad_entry_is}
+use Rattle.rohcfn_input.proofs.RefusalsHeld.{passed_on}
 use Rattle.rohcfn_tool.proofs.stats.stats_for.Goals as goal
 
 pub returns-in-Ok : goal.returns-in-Ok

@@ -1,7 +1,7 @@
 use Rattle.std.proofs.Common.{◌∙◌}
 use Rattle.rohcfn_tool.specs.Printed.{StatsBy, StatsIn, items_counted}
-use Rattle.rohcfn_tool.proofs.Tallying.{bad_items_are}
-use Rattle.rohcfn_input.proofs.AnswersHeld.{passed_on}
+use Rattle.rohcfn_tool.proofs.PrintedTallying.{bad_items_are}
+use Rattle.rohcfn_input.proofs.RefusalsHeld.{passed_on}
 use Rattle.rohcfn_tool.proofs.stats.stats_in.Goals as goal
 
 pub returns-in-Ok : goal.returns-in-Ok

@@ -1,9 +1,9 @@
 use Rattle.std.proofs.Common.{◌∙◌, sym, ap, subst}
 use Rattle.std.specs.Option.{option_copied}
 use Rattle.fn_bounds.specs.Outcome.{AreSizes}
-use Rattle.fn_fits.proofs.Judged.{never_unsized}
+use Rattle.fn_fits.proofs.FitsJudged.{never_unsized}
 use Rattle.fn_profile.specs.Resolved.{Resolved}
-use Rattle.fn_accepted.proofs.Unsent.{is_placed, never_started}
+use Rattle.fn_accepted.proofs.PlaceUnsent.{is_placed, never_started}
 use Rattle.fn_accepted.proofs.place.Place.level.Goals as goal
 
 pub returns-in_default-sizes_of-clause-none : goal.returns-in_default-sizes_of-clause-none

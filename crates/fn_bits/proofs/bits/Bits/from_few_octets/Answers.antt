@@ -1,6 +1,6 @@
 use Rattle.std.proofs.Common.{arith, refl}
 use Rattle.fn_bits.proofs.Numbers.{length-enc}
-use Rattle.fn_bits.proofs.Windows.{count_held}
+use Rattle.fn_bits.proofs.NumberWindows.{count_held}
 use Rattle.fn_bits.proofs.Words.{few_held, few_not}
 use Rattle.fn_bits.proofs.bits.Bits.from_few_octets.Goals as goal
 

@@ -1,5 +1,5 @@
 use Rattle.std.proofs.Common.{arith}
-use Rattle.fn_bits.proofs.Nexts.{looks_agree, looks_differ, one_look_shows}
+use Rattle.fn_bits.proofs.NumberNexts.{looks_agree, looks_differ, one_look_shows}
 use Rattle.fn_bits.proofs.cursor.Cursor.begins_with.Goals as goal
 
 pub returns-in-Some : goal.returns-in-Some

@@ -1,6 +1,6 @@
 use Rattle.std.proofs.Common.{◌≡◌, ◌∙◌, sym, ap, subst, ◌+◌, length, take, drop}
 use Rattle.fn_bits.specs.Cursor.{Advances, Place}
-use Rattle.fn_bits.proofs.Nexts.{next_part}
+use Rattle.fn_bits.proofs.NumberNexts.{next_part}
 use Rattle.fn_bits.proofs.cursor.Cursor.skip.Goals as goal
 
 pub returns-clause-skipped : goal.returns-clause-skipped

@@ -1,5 +1,5 @@
 use Rattle.std.proofs.Common.{arith, ap, refl, length}
-use Rattle.fn_bits.proofs.Kept.{joined, joined_kept}
+use Rattle.fn_bits.proofs.OctetsKept.{joined, joined_kept}
 use Rattle.fn_bits.proofs.long.Long.append.Goals as goal
 
 pub invariant_of-self-2 : goal.invariant_of-self-2

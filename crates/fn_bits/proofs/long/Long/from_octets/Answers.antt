@@ -1,5 +1,5 @@
 use Rattle.std.proofs.Common.{◌≡◌, true, arith, rules}
-use Rattle.fn_bits.proofs.Kept.{cut_kept, cut_seen}
+use Rattle.fn_bits.proofs.OctetsKept.{cut_kept, cut_seen}
 use Rattle.fn_bits.proofs.long.Long.from_octets.Goals as goal
 
 pub invariant_of-result : goal.invariant_of-result

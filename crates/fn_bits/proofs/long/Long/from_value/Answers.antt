@@ -1,6 +1,6 @@
 use Rattle.std.proofs.Common.{arith}
 use Rattle.fn_bits.proofs.Numbers.{length-enc}
-use Rattle.fn_bits.proofs.Kept.{kept_held, view_held}
+use Rattle.fn_bits.proofs.OctetsKept.{kept_held, view_held}
 use Rattle.fn_bits.proofs.long.Long.from_value.Goals as goal
 
 pub invariant_of-result : goal.invariant_of-result

@@ -1,5 +1,5 @@
 use Rattle.std.proofs.Common.{arith, ap, length}
-use Rattle.fn_bits.proofs.Kept.{kept_count}
+use Rattle.fn_bits.proofs.OctetsKept.{kept_count}
 use Rattle.fn_bits.proofs.long.Long.get.Goals as goal
 
 pub bounds-as_slice-place : goal.bounds-as_slice-place

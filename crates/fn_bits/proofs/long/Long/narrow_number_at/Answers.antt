@@ -1,5 +1,5 @@
 use Rattle.std.proofs.Common.{arith, ap, length}
-use Rattle.fn_bits.proofs.Kept.{kept_count}
+use Rattle.fn_bits.proofs.OctetsKept.{kept_count}
 use Rattle.fn_bits.proofs.long.Long.narrow_number_at.Goals as goal
 
 pub narrow_number-requires-clause-within : goal.narrow_number-requires-clause-within

@@ -1,5 +1,5 @@
 use Rattle.std.proofs.Common.{arith, ap, length}
-use Rattle.fn_bits.proofs.Kept.{kept_count}
+use Rattle.fn_bits.proofs.OctetsKept.{kept_count}
 use Rattle.fn_bits.proofs.long.Long.slice.Goals as goal
 
 pub cut-requires-clause-within : goal.cut-requires-clause-within

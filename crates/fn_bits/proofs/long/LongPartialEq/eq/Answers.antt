@@ -2,7 +2,7 @@ use Rattle.std.proofs.Common.{refl}
 use Rattle.std.specs.Cmp.{booleans_Decides, unsigned_Decides}
 use Rattle.std.proofs.lemmas.Slice.Eq.{slice_eq-Decides}
 use Rattle.fn_bits.specs.Number.{same}
-use Rattle.fn_bits.proofs.Kept.{same_bits, one_answer}
+use Rattle.fn_bits.proofs.OctetsKept.{same_bits, one_answer}
 use Rattle.fn_bits.proofs.long.LongPartialEq.eq.Goals as goal
 
 pub returns-then-self-other-clause-same_list : goal.returns-then-self-other-clause-same_list

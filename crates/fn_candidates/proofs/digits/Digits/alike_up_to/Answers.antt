@@ -1,4 +1,4 @@
-use Rattle.fn_candidates.proofs.Splitting.{shares_up_to}
+use Rattle.fn_candidates.proofs.ReadingSplitting.{shares_up_to}
 use Rattle.fn_candidates.proofs.digits.Digits.alike_up_to.Goals as goal
 
 pub returns-clause-share : goal.returns-clause-share

@@ -1,4 +1,4 @@
-use Rattle.fn_candidates.proofs.Splitting.{next_is}
+use Rattle.fn_candidates.proofs.ReadingSplitting.{next_is}
 use Rattle.fn_candidates.proofs.digits.Digits.next.Goals as goal
 
 pub returns-clause-split : goal.returns-clause-split

@@ -1,7 +1,7 @@
 use Rattle.std.proofs.Common.{◌≡◌, ◌≤◌, ◌∙◌, refl, sym, Some, arith, length}
 use Rattle.std.specs.Prelude.{slice_get}
 use Rattle.std.proofs.lemmas.Option.{slice_get_read}
-use Rattle.fn_cert_text.proofs.Pieces.{begun, some_left}
+use Rattle.fn_cert_text.proofs.DraftsPieces.{begun, some_left}
 use Rattle.fn_cert_text.proofs.draft.Draft.begin_method.Goals as goal
 
 pub returns : goal.returns

@@ -1,6 +1,6 @@
 use Rattle.std.proofs.Common.{◌∙◌, subst, string_bytes}
 use Rattle.fn_context.specs.Entries.{AreDistinct}
-use Rattle.fn_context.proofs.Overrides.{shown-distinct, copied_more}
+use Rattle.fn_context.proofs.EntriesOverrides.{shown-distinct, copied_more}
 use Rattle.fn_context.proofs.context.Context.copy.Goals as goal
 
 pub loop-path-preserved : goal.loop-path-preserved

@@ -1,7 +1,7 @@
 use Rattle.std.proofs.Common.{◌≡◌, ◌++◌, string_bytes}
 use Rattle.std.specs.String.{string_eq}
 use Rattle.indexmap.specs.IndexMap.{IsUnique}
-use Rattle.fn_context.proofs.Overrides.{shown}
+use Rattle.fn_context.proofs.EntriesOverrides.{shown}
 use Rattle.fn_context.proofs.context.Context.copy.Given as goal
 
 abbrev pub invariant-loop-path : goal.invariant-loop-path

@@ -1,6 +1,6 @@
 use Rattle.std.proofs.Common.{◌∙◌, ap, string_bytes}
 use Rattle.fn_context.specs.Entries.{bits_at}
-use Rattle.fn_context.proofs.Overrides.{lookup-shown}
+use Rattle.fn_context.proofs.EntriesOverrides.{lookup-shown}
 use Rattle.fn_context.proofs.context.Context.get.Goals as goal
 
 pub returns-then-len-gt-FEW : goal.returns-then-len-gt-FEW

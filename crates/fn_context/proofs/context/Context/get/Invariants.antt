@@ -1,6 +1,6 @@
 use Rattle.std.proofs.Common.{◌≡◌, string_bytes}
 use Rattle.fn_context.specs.Entries.{bits_at}
-use Rattle.fn_context.proofs.Overrides.{shown}
+use Rattle.fn_context.proofs.EntriesOverrides.{shown}
 use Rattle.fn_context.proofs.context.Context.get.Given as goal
 
 abbrev pub invariant-loop-found : goal.invariant-loop-found

@@ -1,6 +1,6 @@
 use Rattle.std.proofs.Common.{string_bytes, subst}
 use Rattle.fn_context.specs.Entries.{AreDistinct}
-use Rattle.fn_context.proofs.Overrides.{shown-distinct}
+use Rattle.fn_context.proofs.EntriesOverrides.{shown-distinct}
 use Rattle.fn_context.proofs.context.Context.len.Goals as goal
 
 pub returns-clause-distinct : goal.returns-clause-distinct

@@ -1,8 +1,8 @@
 use Rattle.std.proofs.Common.{[], ap, sym, subst, refl, string_bytes}
 use Rattle.std.proofs.lemmas.List.{append-nil}
 use Rattle.fn_context.specs.Text.{IsContextText, AddsLine}
-use Rattle.fn_context.proofs.Overrides.{shown}
-use Rattle.fn_context.proofs.Lines.{print_more}
+use Rattle.fn_context.proofs.EntriesOverrides.{shown}
+use Rattle.fn_context.proofs.TextLines.{print_more}
 use Rattle.fn_context.proofs.context.Context.print_text.Goals as goal
 
 pub loop-path-preserved : goal.loop-path-preserved

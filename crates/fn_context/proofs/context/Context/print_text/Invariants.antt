@@ -1,6 +1,6 @@
 use Rattle.std.proofs.Common.{ℕ, List, ◌++◌, string_bytes}
 use Rattle.fn_context.specs.Text.{IsContextText}
-use Rattle.fn_context.proofs.Overrides.{shown}
+use Rattle.fn_context.proofs.EntriesOverrides.{shown}
 use Rattle.fn_context.proofs.context.Context.print_text.Given as goal
 
 abbrev pub invariant-loop-path : goal.invariant-loop-path

@@ -1,6 +1,6 @@
 use Rattle.std.proofs.Common.{◌∙◌, ap, string_bytes}
 use Rattle.fn_context.specs.Entries.{with_entry}
-use Rattle.fn_context.proofs.Overrides.{shown, shown-insert}
+use Rattle.fn_context.proofs.EntriesOverrides.{shown, shown-insert}
 use Rattle.fn_context.proofs.context.Context.put.Goals as goal
 
 pub returns-clause-ok : goal.returns-clause-ok

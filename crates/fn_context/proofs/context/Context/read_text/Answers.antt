@@ -2,7 +2,7 @@ use Rattle.std.proofs.Common.{◌∙◌, ap, sym, map, string_bytes}
 use Rattle.std.specs.Prelude.{is_some}
 use Rattle.fn_bits.specs.Lines.{numbered_lines}
 use Rattle.fn_context.specs.Entries.{bits_at}
-use Rattle.fn_context.proofs.Readings.{nothing_read, reading_more, fault_at, repeated, copied_some}
+use Rattle.fn_context.proofs.EntriesReadings.{nothing_read, reading_more, fault_at, repeated, copied_some}
 use Rattle.fn_context.proofs.context.Context.read_text.Goals as goal
 
 pub loop-line-init : goal.loop-line-init

@@ -1,5 +1,5 @@
 use Rattle.std.proofs.Common.{arith, string_bytes}
-use Rattle.fn_context.proofs.Overrides.{replaced_more}
+use Rattle.fn_context.proofs.EntriesOverrides.{replaced_more}
 use Rattle.fn_context.proofs.context.Context.replace.Goals as goal
 
 pub loop-path-preserved : goal.loop-path-preserved

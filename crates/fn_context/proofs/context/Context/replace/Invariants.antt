@@ -3,7 +3,7 @@ use Rattle.std.specs.String.{string_eq}
 use Rattle.std.specs.Vec.Iter.{into_iter_items, into_iter_len}
 use Rattle.indexmap.specs.IndexMap.{IsUnique, spare}
 use Rattle.fn_context.specs.Entries.{overridden}
-use Rattle.fn_context.proofs.Overrides.{shown}
+use Rattle.fn_context.proofs.EntriesOverrides.{shown}
 use Rattle.fn_context.proofs.context.Context.replace.Given as goal
 
 abbrev pub invariant-loop-path : goal.invariant-loop-path

@@ -1,6 +1,6 @@
 use Rattle.std.proofs.Common.{Err, ap}
 use Rattle.std.proofs.lemmas.Result.{err_from_is_err_and}
-use Rattle.fn_filling.proofs.Packed.{fails_above, packed_more, packed_past, packed_room}
+use Rattle.fn_filling.proofs.FillingsPacked.{fails_above, packed_more, packed_past, packed_room}
 use Rattle.fn_filling.proofs.filling.Filling.packed.Goals.{in-Some+in_ok-append, in_default}
 use Rattle.fn_filling.proofs.filling.Filling.packed.Goals as goal
 

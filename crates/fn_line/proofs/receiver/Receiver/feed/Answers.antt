@@ -1,7 +1,7 @@
 use Rattle.std.proofs.Common.{◌∙◌, refl, sym, ap, subst, [], ◌++◌, append_assoc, arith}
 use Rattle.std.proofs.lemmas.List.{append-nil}
 use Rattle.fn_line.specs.States.{Receiving, Hears}
-use Rattle.fn_line.proofs.Begun.{hears_nothing, hears_further, fails_next, slice_from, slice_left, within_piece}
+use Rattle.fn_line.proofs.LinesBegun.{hears_nothing, hears_further, fails_next, slice_from, slice_left, within_piece}
 use Rattle.fn_line.proofs.receiver.Receiver.feed.Goals as goal
 
 pub loop-place-init : goal.loop-place-init

@@ -1,6 +1,6 @@
 use Rattle.std.proofs.Common.{arith}
 use Rattle.fn_line.specs.Hearing.{nothing}
-use Rattle.fn_line.proofs.Sends.{few_entries}
+use Rattle.fn_line.proofs.LinesSends.{few_entries}
 use Rattle.fn_line.proofs.receiver.Receiver.new.Goals as goal
 
 pub invariant_of-result : goal.invariant_of-result

@@ -1,4 +1,4 @@
-use Rattle.fn_line.proofs.Sends.{few_entries}
+use Rattle.fn_line.proofs.LinesSends.{few_entries}
 use Rattle.fn_line.proofs.sender.Sender.new.Goals as goal
 
 pub invariant_of-result : goal.invariant_of-result

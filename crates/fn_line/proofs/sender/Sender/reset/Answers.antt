@@ -2,7 +2,7 @@ use Rattle.std.proofs.Common.{◌≡◌, ◌∙◌, ap, rules, subst, sym, ◌<�
 use Rattle.fn_line.specs.Lines.{reset_octet}
 use Rattle.fn_line.specs.Lines.Act.{Reset}
 use Rattle.fn_line.specs.States.{Sending}
-use Rattle.fn_line.proofs.Sends.{reset_put, reset_fault, none_there}
+use Rattle.fn_line.proofs.LinesSends.{reset_put, reset_fault, none_there}
 use Rattle.fn_line.proofs.sender.Sender.reset.Goals as goal
 
 pub returns-in_default-clause-fault : goal.returns-in_default-clause-fault

@@ -1,6 +1,6 @@
 use Rattle.std.proofs.Common.{subst, drop}
 use Rattle.hex.specs.Hex.{IsBytes}
-use Rattle.fn_line.proofs.Keeping.{bytes_after}
+use Rattle.fn_line.proofs.UnfinishedKeeping.{bytes_after}
 use Rattle.fn_line.proofs.unfinished.Unfinished.bits.Goals as goal
 
 pub returns-clause-fit : goal.returns-clause-fit

@@ -1,5 +1,5 @@
 use Rattle.std.proofs.Common.{◌≡◌, ◌≤◌, ◌^◌, length}
-use Rattle.fn_line.proofs.Keeping.{few_bits}
+use Rattle.fn_line.proofs.UnfinishedKeeping.{few_bits}
 use Rattle.fn_line.proofs.unfinished.Unfinished.push.Goals as goal
 
 pub add_octet-requires : goal.add_octet-requires

@@ -1,4 +1,4 @@
-use Rattle.fn_normal.proofs.Spelled.{name_utf8}
+use Rattle.fn_normal.proofs.NameSpelled.{name_utf8}
 use Rattle.fn_normal.proofs.name.Name.of_octets.Goals as goal
 
 pub unreachable-requires : goal.unreachable-requires

@@ -1,6 +1,6 @@
 use Rattle.std.proofs.Common.{◌∙◌, ap, not}
 use Rattle.fn_normal.specs.Words as spec
-use Rattle.fn_normal.proofs.Tables.{shown, any-shown, put-shown}
+use Rattle.fn_normal.proofs.WordsTables.{shown, any-shown, put-shown}
 use Rattle.fn_normal.proofs.words.Row.insert.Goals as goal
 
 pub returns-clause-ok : goal.returns-clause-ok

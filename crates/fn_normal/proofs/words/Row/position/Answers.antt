@@ -1,6 +1,6 @@
 use Rattle.std.proofs.Common.{◌∙◌, ap, position}
 use Rattle.std.specs.Str.{bytes_eq}
-use Rattle.fn_normal.proofs.Tables.{position-shown}
+use Rattle.fn_normal.proofs.WordsTables.{position-shown}
 use Rattle.fn_normal.proofs.words.Row.position.Goals as goal
 
 pub returns-clause-value : goal.returns-clause-value

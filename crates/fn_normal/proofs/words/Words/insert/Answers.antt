@@ -1,7 +1,7 @@
 use Rattle.std.proofs.Common.{◌≡◌, ◌∙◌, ◌++◌, ap, subst, [], false}
 use Rattle.std.specs.Option.{unwrap_or}
 use Rattle.fn_normal.specs.Words as spec
-use Rattle.fn_normal.proofs.Tables.{put-known, put-after}
+use Rattle.fn_normal.proofs.WordsTables.{put-known, put-after}
 use Rattle.fn_normal.proofs.words.Words.insert.Goals as goal
 
 pub returns-then-is_one_of-clause-ok : goal.returns-then-is_one_of-clause-ok

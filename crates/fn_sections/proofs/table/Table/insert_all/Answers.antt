@@ -1,6 +1,6 @@
 use Rattle.std.proofs.Common.{arith}
 use Rattle.fn_sections.proofs.Tabled.{read_at}
-use Rattle.fn_sections.proofs.Inserting.{no_more, one_inserted, all_inserted}
+use Rattle.fn_sections.proofs.TablesInserting.{no_more, one_inserted, all_inserted}
 use Rattle.fn_sections.proofs.table.Table.insert_all.Goals as goal
 
 pub loop-mention-init : goal.loop-mention-init

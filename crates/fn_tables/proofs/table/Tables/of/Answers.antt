@@ -2,8 +2,8 @@ use Rattle.std.proofs.Common.{◌∙◌, ◌+◌, refl, ap, length}
 use Rattle.std.proofs.lemmas.Option.{slice_get_read}
 use Rattle.std.proofs.lemmas.List.{length_push}
 use Rattle.fn_tables.specs.Tables.{entries_of}
-use Rattle.fn_tables.proofs.Laid.{next_tree, served_more}
-use Rattle.fn_tables.proofs.Counted.{tree_few}
+use Rattle.fn_tables.proofs.GrowthLaid.{next_tree, served_more}
+use Rattle.fn_tables.proofs.TablesCounted.{tree_few}
 use Rattle.fn_tables.proofs.table.Tables.of.Goals as goal
 
 pub loop-entry-preserved : goal.loop-entry-preserved

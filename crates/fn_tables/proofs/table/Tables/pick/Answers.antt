@@ -5,7 +5,7 @@ use Rattle.fn_context.specs.Entries.{bits_at}
 use Rattle.fn_rules.specs.Counts.{entry_at}
 use Rattle.fn_rules.specs.Trees.{references, way}
 use Rattle.fn_tables.specs.Picked.{arrival, picked_of}
-use Rattle.fn_tables.proofs.Led.{leaf_told}
+use Rattle.fn_tables.proofs.WalkingLed.{leaf_told}
 use Rattle.fn_tables.proofs.table.Tables.pick.Goals as goal
 
 pub returns-in-Some-leaf_of : goal.returns-in-Some-leaf_of

@@ -1,0 +1,39 @@
+-- What is known of the top of an accepted profile.
+use Rattle.std.proofs.Common.{◌≡◌, ◌∙◌, refl, sym, ap, subst, ℕ, zero, suc, ◌<◌, ◌≤◌, ◌^◌, Bool, List, [], ◌∷◌, length, arith}
+use Rattle.std.specs.Prelude.{ℤ, slice_get, Some}
+use Rattle.fn_bounds.proofs.ParametersWidening.{lie-in-parameters}
+use Rattle.fn_accepted.specs.Accepted.{Accepting}
+use Rattle.fn_context.specs.Entries.{Entries}
+use Rattle.fn_filling.specs.declared.filling.Filling.{Filling}
+use Rattle.fn_filling.specs.Fillings.{packed}
+use Rattle.fn_fits.proofs.Fronts.{short_sides}
+use Rattle.fn_fits.specs.Ready.{ArgumentsLieAt}
+use Rattle.fn_profile.specs.Resolved.{Resolved, IsSound}
+use Rattle.fn_engine.specs.Reading.{Fitting}
+
+element : {A : Type 0} (xs : List A) (k : ℕ) → k < length xs → (x : A) × (slice_get xs k ≡ Some x)
+element [] k h = absurd (omega arith)
+element (x ∷ xs) zero h = (x, refl)
+element (x ∷ xs) (suc k) h = element xs k (omega arith)
+
+-- the top has no parameters, so no arguments lie in their ranges
+pub no_arguments : (p : Resolved) → IsSound p → ArgumentsLieAt p p.top []
+no_arguments p sound s at =
+    let m = element p.methods p.top sound.within in
+    let count : length s.parameters ≡ 0 = (lie-in-parameters p.methods p.sizes sound.sized).each p.top m.0 s m.1 at ∙ ap length (sound.rooted.plain m.0 m.1) in
+    record { count = sym count; each = λ i r v at_r at_v. absurd (cc) }
+
+-- of the place of the top, as the code has it
+pub stands_at_top : (p : Resolved) → IsSound p → (a : Accepting) → p ≡ a.profile → (m : ℕ) → m ≡ p.top → (args : List ℤ) → args ≡ [] → (m < length a.profile.methods) × ArgumentsLieAt a.profile m args
+stands_at_top p sound a is m at args none =
+    let here : IsSound a.profile = subst IsSound is sound in
+    let same : m ≡ a.profile.top = at ∙ ap (λ (q : Resolved). q.top) is in (
+      subst (λ n. n < length a.profile.methods) (sym same) here.within,
+      subst (λ n. ArgumentsLieAt a.profile n args) (sym same) (subst (ArgumentsLieAt a.profile a.profile.top) (sym none) (no_arguments a.profile here)),
+    )
+
+-- packed bits as the code has them
+pub few_packed : (p : Resolved) → IsSound p → (a : Accepting) → a.profile ≡ p → (ctx : Entries) (f : Filling) → Fitting a ctx f → (b : List Bool) → b ≡ packed f → length b ≤ 2 ^ 18
+few_packed p sound a is ctx f h b same =
+    let here : IsSound a.profile = subst IsSound (sym is) sound in
+    subst (λ l. length l ≤ 2 ^ 18) (sym same) (short_sides a.profile.methods a.profile.sizes here.sized _ a.profile.top [] [] f h).1

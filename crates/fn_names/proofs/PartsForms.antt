@@ -1,0 +1,89 @@
+-- The methods of a file, one after the other.
+use Rattle.std.proofs.Common.{◌≡◌, ◌∙◌, ap, ℕ, ◌+◌, inl, inr, Bool, List, [], ◌∷◌, ◌++◌, ◌≤◌, length, refl, sym, subst, drop, suc, zero, arith, append_assoc, append-nil}
+use Rattle.std.specs.Prelude.{slice_get, Some, None, Option}
+use Rattle.fn_tree.specs.declared.tree.Method.{Method as TreeMethod}
+use Rattle.fn_tree.specs.declared.tree.Constant.{Constant}
+use Rattle.fn_tree.specs.declared.tree.Part.{Part}
+use Rattle.fn_tree.specs.declared.tree.Part.TheVariants as part
+use Rattle.fn_normal.specs.declared.fault.ProfileFault.{ProfileFault}
+use Rattle.fn_normal.specs.declared.profile.Method.{Method}
+use Rattle.fn_normal.specs.Judging.{earlier, Judged}
+use Rattle.fn_normal.proofs.JudgingLemmas.{neither, which}
+use Rattle.fn_normal.proofs.Loops.{dropped}
+use Rattle.fn_methods.specs.declared.methods.FileSetting.{FileSetting}
+use Rattle.fn_methods.specs.Methods.{IsMethod, MethodCause}
+use Rattle.fn_names.specs.declared.methods.Drafts.{Drafts}
+use Rattle.fn_names.specs.Parts.{methods_of}
+use Rattle.fn_names.specs.Methods.{constant_mentions, is_at, AreMethods, no_methods, a_method, InMethod, in_method, IsFile, HaveForm, FormCause, form_cause, Leads}
+
+-- the first of the rest, and what is after it
+at_front : {A : Type 0} (xs : List A) (k : ℕ) (x : A) (rest : List A) → drop k xs ≡ x ∷ rest → (slice_get xs k ≡ Some x) × (drop (suc k) xs ≡ rest)
+at_front [] zero x rest e = let wrong : [] ≡ x ∷ rest = e in absurd cc
+at_front [] (suc k) x rest e = let wrong : [] ≡ x ∷ rest = e in absurd cc
+at_front (y ∷ ys) zero x rest e = let same : y ∷ ys ≡ x ∷ rest = e in let head : y ≡ x = cc in let tail : ys ≡ rest = cc in (ap Some head, tail)
+at_front (y ∷ ys) (suc k) x rest e = at_front ys k x rest e
+
+pub with_method : (file : FileSetting) (parts : List Part) (top : Option ℕ) (k : ℕ) (m : TreeMethod) (rest : List TreeMethod) (old new : Drafts) (is_top : Bool) (r : Method) (fault : Option ProfileFault)
+    → is_top ≡ is_at top k → Judged (IsMethod file (constant_mentions parts) m is_top r) (MethodCause file (constant_mentions parts) m) fault
+    → new.found ≡ old.found ++ r ∷ [] → new.fault ≡ earlier old.fault fault → Leads file parts top k (m ∷ rest) old → Leads file parts top (k + 1) rest new
+with_method file parts top k m rest old new is_top r fault is judged found is_fault so =
+    let here = at_front (methods_of parts) k m rest so.at in
+    let next : k + 1 ≡ suc k = omega arith in
+    let whole = AreMethods file (constant_mentions parts) top 0 (methods_of parts) in
+    record {
+      at = ap (λ n. drop n (methods_of parts)) next ∙ here.1;
+      finds = λ e rs are.
+          let both = neither old.fault fault (sym is_fault ∙ e) in
+          let form = subst (λ b. IsMethod file (constant_mentions parts) m b r) is (judged.fine both.1) in
+          subst (λ z. whole (z ++ rs)) (sym found) (subst whole (sym (append_assoc old.found (r ∷ []) rs)) (so.finds both.0 (r ∷ rs) (a_method form are)));
+      causes = λ f e. elim (which old.fault fault f (sym is_fault ∙ e)) as (λ _. InMethod file parts f) [
+        | inl before ↦ so.causes f before
+        | inr now ↦ in_method k here.0 (judged.cause f now)
+      ];
+    }
+
+-- all methods are to come
+pub start : (file : FileSetting) (parts : List Part) (top : Option ℕ) (all : Drafts) → all.found ≡ [] → all.fault ≡ None → Leads file parts top 0 (methods_of parts) all
+start file parts top all found fault = record {
+  at = refl;
+  finds = λ e rs are. subst (λ z. AreMethods file (constant_mentions parts) top 0 (methods_of parts) (z ++ rs)) (sym found) are;
+  causes = λ f e. let wrong : None ≡ Some f = sym fault ∙ e in absurd cc;
+}
+
+rest_of : (parts : List Part) (i : ℕ) (p : Part) → slice_get parts i ≡ Some p → methods_of (drop i parts) ≡ methods_of (p ∷ drop (i + 1) parts)
+rest_of parts i p here = let e : suc i ≡ i + 1 = omega arith in ap methods_of (dropped parts i p here ∙ ap (λ n. p ∷ drop n parts) e)
+
+-- a method of the file comes next
+pub at_method : (file : FileSetting) (parts : List Part) (top : Option ℕ) (k i : ℕ) (p : Part) (m : TreeMethod) (all : Drafts) → slice_get parts i ≡ Some p → p ≡ part.Method m
+    → Leads file parts top k (methods_of (drop i parts)) all → Leads file parts top k (m ∷ methods_of (drop (i + 1) parts)) all
+at_method file parts top k i p m all here is so = subst (λ ms. Leads file parts top k ms all) (rest_of parts i p here ∙ ap (λ q. methods_of (q ∷ drop (i + 1) parts)) is) so
+
+-- a constant does
+pub at_constant : (file : FileSetting) (parts : List Part) (top : Option ℕ) (k i : ℕ) (p : Part) (c : Constant) (all : Drafts) → slice_get parts i ≡ Some p → p ≡ part.Constant c
+    → Leads file parts top k (methods_of (drop i parts)) all → Leads file parts top k (methods_of (drop (i + 1) parts)) all
+at_constant file parts top k i p c all here is so = subst (λ ms. Leads file parts top k ms all) (rest_of parts i p here ∙ ap (λ q. methods_of (q ∷ drop (i + 1) parts)) is) so
+
+none_left : (xs : List Part) (i : ℕ) → length xs ≤ i → drop i xs ≡ []
+none_left [] zero h = refl
+none_left [] (suc i) h = refl
+none_left (x ∷ xs) zero h = absurd (omega arith)
+none_left (x ∷ xs) (suc i) h = none_left xs i (omega arith)
+
+-- none is to come
+pub ended : (file : FileSetting) (parts : List Part) (top : Option ℕ) (k i : ℕ) (all : Drafts) → length parts ≤ i → Leads file parts top k (methods_of (drop i parts)) all
+    → Judged (AreMethods file (constant_mentions parts) top 0 (methods_of parts) all.found) (InMethod file parts) all.fault
+ended file parts top k i all past left =
+    let so = subst (λ ps. Leads file parts top k (methods_of ps) all) (none_left parts i past) left in
+    record {
+      fine = λ e. subst (AreMethods file (constant_mentions parts) top 0 (methods_of parts)) (append-nil all.found) (so.finds e [] no_methods);
+      cause = so.causes;
+    }
+
+-- a fault is that of some file
+pub formed : (text : List ℕ) (file : FileSetting) (parts : List Part) (top : Option ℕ) (all : Drafts)
+    → Judged (AreMethods file (constant_mentions parts) top 0 (methods_of parts) all.found) (InMethod file parts) all.fault → IsFile text parts file
+    → Judged (HaveForm text parts top all.found) (FormCause text parts) all.fault
+formed text file parts top all judged is_file = record {
+  fine = λ e. record { file = file; is_file = is_file; are_methods = judged.fine e };
+  cause = λ f e. form_cause is_file (judged.cause f e);
+}

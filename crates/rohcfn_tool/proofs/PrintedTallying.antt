@@ -1,0 +1,112 @@
+-- What is counted of items, one after the other.
+use Rattle.std.proofs.Common.{◌≡◌, refl, ℕ, ◌+◌, ◌<◌, ◌≤◌, List, [], ◌∷◌, ◌++◌, length, map, drop, get_or, ap, sym, ◌∙◌, subst, append_assoc}
+use Rattle.std.specs.Borrow.{Bor}
+use Rattle.std.specs.Global.{Global}
+use Rattle.std.specs.Prelude.{Option, Some, None, Result, Ok, Err, IfOk, OnOk, String, string_bytes}
+use Rattle.std.specs.declared.alloc.AllocError.{AllocError}
+use Rattle.std.proofs.lemmas.List.{append-nil, drop_all, drop_more, map-append}
+use Rattle.fn_accepted.specs.Accepted.{Accepting}
+use Rattle.fn_context.specs.Entries.{Entries, overridden}
+use Rattle.fn_engine.specs.Writing as writing
+use Rattle.fn_engine.specs.declared.writer.PackFault.{PackFault}
+use Rattle.fn_engine.specs.declared.writer.Written.{Written}
+use Rattle.fn_filling.specs.Entries.{next}
+use Rattle.fn_filling.specs.declared.filling.Filling.{Filling}
+use Rattle.fn_filling.specs.declared.filling.Item.{Item}
+use Rattle.fn_normal.specs.declared.profile.Method.{Method}
+use Rattle.fn_profile.specs.Resolved.{Resolved}
+use Rattle.fn_stats.specs.Counts.{counted}
+use Rattle.fn_stats.specs.declared.counts.Count.{Count}
+use Rattle.rohcfn_input.specs.Inputs.{BlamesContext, IsBadLine, IsItem}
+use Rattle.rohcfn_input.specs.OneLine.{IsLine}
+use Rattle.rohcfn_input.specs.Refusals.{Holds, IsRefusal}
+use Rattle.rohcfn_input.specs.declared.inputs.BadLine.{BadLine}
+use Rattle.rohcfn_input.specs.declared.inputs.BadLine.TheVariants as bad
+use Rattle.rohcfn_input.specs.declared.status.Answer.{Answer}
+use Rattle.rohcfn_input.specs.declared.status.Status.{Status}
+use Rattle.rohcfn_input.specs.declared.status.Status.TheVariants as status
+use Rattle.rohcfn_input.proofs.RefusalsHeld.{refusal_is}
+use Rattle.rohcfn_report.specs.Stats.{stats_text}
+use Rattle.rohcfn_words.specs.declared.words.Direction.TheVariants.{Pack}
+use Rattle.rohcfn_tool.specs.Printed.{CountsItem, CountsItems, IsItemFault, IsPrintedStats, IsRefusedBelow, Packs, StatsBy, StatsFor, StatsIn, bad_entry, bad_item, bad_line_text, context_line, counted_by, counts_packed, counts_refused, packs_none, packs_one, refuses_one}
+
+-- the counts and the lines so far are those of the items so far: whatever comes of the others, all together come of all
+pub record CountedSoFar (a : Accepting) (start : Entries) (items : List Item) (i : ℕ) (ctx : Entries) (cs : List Count) (refused : List ℕ) : Type 0 where
+  pub fillings : List Filling
+  pub counts_are : cs ≡ map counted fillings
+  pub goes_on : (fs : List Filling) (rest : List ℕ) → Packs a ctx (i + 1) (drop i items) fs rest → Packs a start 1 items (fillings ++ fs) (refused ++ rest)
+
+module _ (a : Accepting) (start : Entries) (items : List Item) where
+  pub counted_start : (cs : List Count) (refused : List ℕ) → cs ≡ [] → refused ≡ [] → CountedSoFar a start items 0 start cs refused
+  counted_start cs refused none empty = record { fillings = []; counts_are = none; goes_on = λ fs rest h. subst (λ r. Packs a start 1 items fs (r ++ rest)) (sym empty) h }
+
+  pub counted_on : (i : ℕ) (d x : Item) (ctx reached : Entries) (cs more : List Count) (refused below : List ℕ) → i < length items → x ≡ get_or items i d → CountedSoFar a start items i ctx cs refused → CountsItem a ctx reached cs more refused below (i + 1) x
+      → CountedSoFar a start items (i + 1) reached more below
+  counted_on i d x ctx reached cs more refused below h e so (counts_packed f best goes grown same) =
+      let here : drop i items ≡ x ∷ drop (i + 1) items = drop_more items i d h ∙ ap (λ y. y ∷ drop (i + 1) items) (sym e) in
+      record {
+        fillings = so.fillings ++ f ∷ [];
+        counts_are = grown ∙ ap (λ z. z ++ counted f ∷ []) so.counts_are ∙ sym (map-append counted so.fillings (f ∷ []));
+        goes_on = λ fs rest then.
+            let one : Packs a ctx (i + 1) (x ∷ drop (i + 1) items) (f ∷ fs) rest = packs_one f best (subst (λ c. Packs a c (i + 1 + 1) (drop (i + 1) items) fs rest) goes then) in
+            let whole : Packs a start 1 items (so.fillings ++ (f ∷ fs)) (refused ++ rest) = so.goes_on (f ∷ fs) rest (subst (λ xs. Packs a ctx (i + 1) xs (f ∷ fs) rest) (sym here) one) in
+            subst (λ r. Packs a start 1 items ((so.fillings ++ f ∷ []) ++ fs) (r ++ rest)) (sym same) (subst (λ gs. Packs a start 1 items gs (refused ++ rest)) (sym (append_assoc so.fillings (f ∷ []) fs)) whole);
+      }
+  counted_on i d x ctx reached cs more refused below h e so (counts_refused text refuses stays same grown) =
+      let here : drop i items ≡ x ∷ drop (i + 1) items = drop_more items i d h ∙ ap (λ y. y ∷ drop (i + 1) items) (sym e) in
+      record {
+        fillings = so.fillings;
+        counts_are = same ∙ so.counts_are;
+        goes_on = λ fs rest then.
+            let one : Packs a ctx (i + 1) (x ∷ drop (i + 1) items) fs ((10 ∷ text) ++ rest) = refuses_one text refuses (subst (λ c. Packs a c (i + 1 + 1) (drop (i + 1) items) fs rest) stays then) in
+            let whole : Packs a start 1 items (so.fillings ++ fs) (refused ++ ((10 ∷ text) ++ rest)) = so.goes_on fs ((10 ∷ text) ++ rest) (subst (λ xs. Packs a ctx (i + 1) xs fs ((10 ∷ text) ++ rest)) (sym here) one) in
+            subst (λ r. Packs a start 1 items (so.fillings ++ fs) r) (sym (append_assoc refused (10 ∷ text) rest) ∙ ap (λ r. r ++ rest) (sym grown)) whole;
+      }
+
+  pub counted_end : (i : ℕ) (ctx : Entries) (cs shown : List Count) (refused lines : List ℕ) (r : Result Answer AllocError) → length items ≤ i → CountedSoFar a start items i ctx cs refused → shown ≡ cs → lines ≡ refused → IfOk r (IsPrintedStats a shown lines) → IfOk r (CountsItems a start items)
+  counted_end i ctx cs shown refused lines (Err e) h so same all is = tt
+  counted_end i ctx cs shown refused lines (Ok told) h so same all is =
+      let last : Packs a ctx (i + 1) (drop i items) [] [] = subst (λ xs. Packs a ctx (i + 1) xs [] []) (sym (drop_all i items h)) packs_none in
+      let whole : Packs a start 1 items (so.fillings ++ []) (refused ++ []) = so.goes_on [] [] last in
+      let steps : Packs a start 1 items so.fillings refused = subst (λ gs. Packs a start 1 items gs refused) (append-nil so.fillings) (subst (λ r. Packs a start 1 items (so.fillings ++ []) r) (append-nil refused) whole) in
+      let text : string_bytes told.output ≡ stats_text a.profile.methods a.profile.top (map counted so.fillings) ++ refused ++ 10 ∷ [] =
+      is.output_is ∙ (λ j. stats_text a.profile.methods a.profile.top ((same ∙ so.counts_are) j) ++ all j ++ 10 ∷ []) in
+      subst (λ s. StatsBy a start items s (string_bytes told.output)) (sym is.status_is) (subst (StatsBy a start items status.Done) (sym text) (counted_by so.fillings refused steps))
+
+-- ---- one item
+
+pub one_counted : {T : Type 0} (a : Accepting) (old new : Entries) (before after : List Count) (above : List ℕ) (n : ℕ) (it : Item) (w : Written) (c : Count) (r : Result T AllocError) → writing.IsWritten a old it w → c ≡ counted w.filling → after ≡ before ++ c ∷ []
+    → OnOk r (new ≡ overridden old (map (λ e. (string_bytes e.0, e.1)) w.entries.items)) → OnOk r (CountsItem a old new before after above above n it)
+one_counted a old new before after above n it w c (Err e) is same grown reached = tt
+one_counted a old new before after above n it w c (Ok x) is same grown reached =
+    counts_packed w.filling is.best (reached ∙ ap (overridden old) is.entries_are) (grown ∙ ap (λ z. before ++ z ∷ []) same) refl
+
+pub one_refused : {T : Type 0} (a : Accepting) (ctx : Entries) (cs : List Count) (above below : List ℕ) (n : ℕ) (it : Item) (e : PackFault) (r : Result T AllocError) → writing.Blames e a ctx it → OnOk r (IsRefusedBelow e n above below) → OnOk r (CountsItem a ctx ctx cs cs above below n it)
+one_refused a ctx cs above below n it e (Err x) blames is = tt
+one_refused a ctx cs above below n it e (Ok x) blames is = counts_refused is.0 (e, blames, is.1, is.2) refl refl is.3
+
+-- the line of a refused item, below those before it
+pub line_below : (e : PackFault) (n : ℕ) (above mid below line text : List ℕ) → IsItemFault e n line → IsLine line → mid ≡ above ++ 10 ∷ [] → text ≡ line → below ≡ mid ++ text → IsRefusedBelow e n above below
+line_below e n above mid below line text is single begun same grown = (line, is, single, grown ∙ (λ j. begun j ++ same j) ∙ append_assoc above (10 ∷ []) line)
+
+pub counts_printed : (a : Accepting) (p : Resolved) (methods : List Method) (top : ℕ) (cs : List Count) (text refused : List ℕ) (output : String Global) → p ≡ a.profile → methods ≡ p.methods → top ≡ p.top → text ≡ stats_text methods top cs → string_bytes output ≡ text ++ refused ++ 10 ∷ []
+    → IsPrintedStats a cs refused record { status = status.Done; output = output }
+counts_printed a p methods top cs text refused output same all first is grown =
+    let methods_are : methods ≡ a.profile.methods = all ∙ ap (λ (q : Resolved). q.methods) same in
+    let top_is : top ≡ a.profile.top = first ∙ ap (λ (q : Resolved). q.top) same in
+    record { status_is = refl; output_is = grown ∙ ap (λ t. t ++ refused ++ 10 ∷ []) (is ∙ (λ j. stats_text (methods_are j) (top_is j) cs)) }
+
+-- ---- a context that can't be read
+
+entry_bad : (a : Accepting) (part : Option (Bor (List ℕ))) (input : List ℕ) (n : ℕ) (p : Option (Bor (List ℕ))) → part ≡ p → BlamesContext (bad.Number n) p → StatsFor a part input status.Refused (context_line n ++ 10 ∷ [])
+entry_bad a part input n None is h = absurd h
+entry_bad a part input n (Some octets) is h = bad_entry octets n is h
+
+pub bad_entry_is : (a : Accepting) (part : Option (Bor (List ℕ))) (input : List ℕ) (e : BadLine) (n m : ℕ) (written : List ℕ) (r : Result Answer AllocError) → BlamesContext e part → e ≡ bad.Number n → written ≡ context_line m → m ≡ n → IfOk r (IsRefusal written) → IfOk r (Holds (StatsFor a part input))
+bad_entry_is a part input e n m written r blames is same number g =
+    let here : BlamesContext (bad.Number n) part = subst (λ (x : BadLine). BlamesContext x part) is blames in
+    refusal_is (StatsFor a part input) (context_line n) written r (entry_bad a part input n part (λ i. part) here) (same ∙ ap context_line number) g
+
+-- items of which a line can't be read
+pub bad_items_are : (a : Accepting) (ctx : Entries) (input : List ℕ) (n m : ℕ) (written : List ℕ) (r : Result Answer AllocError) → IsBadLine IsItem input n → written ≡ bad_line_text Pack m → m ≡ n → IfOk r (IsRefusal written) → IfOk r (Holds (StatsIn a ctx input))
+bad_items_are a ctx input n m written r is same number g = refusal_is (StatsIn a ctx input) (bad_line_text Pack n) written r (bad_item n is) (same ∙ ap (bad_line_text Pack) number) g
