@@ -1,23 +1,24 @@
 //! What the choices, the asked values and the calls of a plan tell, before the plan is followed: often the header has other bits than the chosen values give
 //! it, or a filling inside can't have its digit.
 
-ghost use Rattle.std.specs.Prelude.{◌≡◌, ◌<◌, ◌≤◌, [], Some, ℕ, drop, length, IsTrue, IfOk, IfSome, IfNone, OnOk, slice_get};
+ghost use Rattle.std.specs.Prelude.{◌≡◌, ◌<◌, [], Some, ℕ, drop, length, IsTrue, IfOk, IfSome, IfNone, OnOk, slice_get};
 ghost use Rattle.fn_cert.specs.declared.certificate.Step.TheVariants as steps;
 ghost use Rattle.fn_rules.specs.Counts.{ways};
 ghost use Rattle.fn_writer.specs.Foresight as spec;
 ghost use Rattle.fn_writer.specs.Going as going;
 ghost use Rattle.fn_writer.specs.Refutation.{HaveBefore};
+ghost use Rattle.fn_writer.specs.Sources.{IsWithin, front};
 ghost use Rattle.fn_writer.specs.Walking as walking;
 
 use crate::beginning::start_at;
 use crate::calling::radix_of;
 use crate::ending::plans_of;
 use crate::refutation::{differs, has_false, is_header, is_refuted, only_length};
+use crate::source::Source;
 use crate::taking::asked_before;
 use crate::told::{Chosen, Told, values_of};
 use fn_accepted::place::{format_of, sizes_of};
 use fn_accepted::{Accepted, Place};
-use fn_bits::Cursor;
 use fn_candidates::{Digits, Start};
 use fn_cert::Step;
 use fn_filling::{AskedValue, FieldPath};
@@ -36,14 +37,12 @@ pub(crate) fn foreseen(
     alloc: Global,
     place: &Place<'_>,
     start: Start,
-    source: &Cursor<'_>,
-    from: usize,
-    asked: &[AskedValue],
+    source: &Source<'_>,
     number: u64,
 ) -> Result<Option<u64>, AllocError>
-    requires within { from ≤ length source.now.left }
+    requires within { IsWithin source.now }
     requires begins { going.Begins place.now number start }
-    ensures { IfOk result (λ o. IfSome o (walking.Fails place.now (drop from source.now.left) asked.now number)) }
+    ensures { IfOk result (λ o. IfSome o (walking.Fails place.now (front source.now) source.now.asked.now number)) }
 {
     let Some(plans) = plans_of(place.accepted, place.method, start.format) else {
         return Ok(None);
@@ -66,8 +65,6 @@ pub(crate) fn foreseen(
         plans.write.as_slice(),
         start.digits,
         source,
-        from,
-        asked,
         number,
     )
 }
@@ -88,15 +85,13 @@ fn foreseen_in(
     sizes: &[Sizes],
     plan: &[Step],
     start: Digits,
-    source: &Cursor<'_>,
-    from: usize,
-    asked: &[AskedValue],
+    source: &Source<'_>,
     number: u64,
 ) -> Result<Option<u64>, AllocError>
-    requires within { from ≤ length source.now.left }
+    requires within { IsWithin source.now }
     requires sized { spec.HasSizes place.now index sizes.now }
-    requires seen { spec.HasSeen place.now index format.now asked.now plan.now number start [] }
-    ensures { IfOk result (λ o. IfSome o (walking.Fails place.now (drop from source.now.left) asked.now number)) }
+    requires seen { spec.HasSeen place.now index format.now source.now.asked.now plan.now number start [] }
+    ensures { IfOk result (λ o. IfSome o (walking.Fails place.now (front source.now) source.now.asked.now number)) }
 {
     let mut digits = start;
     let mut choices = SmallVec::new(alloc);
@@ -111,8 +106,6 @@ fn foreseen_in(
             &mut digits,
             &mut choices,
             source,
-            from,
-            asked,
             number,
         )? {
             Some(many) => return Ok(Some(many)),
@@ -132,16 +125,14 @@ fn foreseen_step(
     step: Step,
     digits: &mut Digits,
     choices: &mut Choices,
-    source: &Cursor<'_>,
-    from: usize,
-    asked: &[AskedValue],
+    source: &Source<'_>,
     number: u64,
 ) -> Result<Option<u64>, AllocError>
-    requires within { from ≤ length source.now.left }
+    requires within { IsWithin source.now }
     requires sized { spec.HasSizes place.now index sizes.now }
-    requires stands { spec.StandsBefore place.now index format.now asked.now step number digits.old choices.old.items }
-    ensures found { IfOk result (λ o. IfSome o (walking.Fails place.now (drop from source.now.left) asked.now number)) }
-    ensures on { IfOk result (λ o. IfNone o (spec.SeesOn place.now index format.now asked.now step number digits.old choices.old.items digits.new choices.new.items)) }
+    requires stands { spec.StandsBefore place.now index format.now source.now.asked.now step number digits.old choices.old.items }
+    ensures found { IfOk result (λ o. IfSome o (walking.Fails place.now (front source.now) source.now.asked.now number)) }
+    ensures on { IfOk result (λ o. IfNone o (spec.SeesOn place.now index format.now source.now.asked.now step number digits.old choices.old.items digits.new choices.new.items)) }
 {
     match step {
         Step::Call(field) => {
@@ -154,8 +145,6 @@ fn foreseen_step(
                 *digits,
                 choices.as_slice(),
                 source,
-                from,
-                asked,
                 number,
             )?;
             read_call(
@@ -165,21 +154,21 @@ fn foreseen_step(
                 field,
                 digits,
                 choices.as_slice(),
-                asked,
+                source.asked,
                 number,
             );
             Ok(told)
         }
         Step::Choose(field) => {
             read_choice(
-                alloc, place, index, format, field, digits, choices, asked, number,
+                alloc, place, index, format, field, digits, choices, source.asked, number,
             )?;
             let told = Told {
                 format,
                 arguments: place.arguments,
                 choices: choices.as_slice(),
             };
-            let has_other = differs(alloc, place, &told, sizes, source, from)?;
+            let has_other = differs(alloc, place, &told, sizes, source.cursor, source.from)?;
             if has_other {
                 Ok(Some(digits.alike()))
             } else {
@@ -187,7 +176,7 @@ fn foreseen_step(
             }
         }
         Step::Ask(field) => {
-            note_asked(place, index, format, field, *digits, choices, asked, number)?;
+            note_asked(place, index, format, field, *digits, choices, source.asked, number)?;
             Ok(None)
         }
         _ => Ok(None),
@@ -292,14 +281,12 @@ fn foreseen_call(
     field: usize,
     before: Digits,
     choices: &[Chosen],
-    source: &Cursor<'_>,
-    from: usize,
-    asked: &[AskedValue],
+    source: &Source<'_>,
     number: u64,
 ) -> Result<Option<u64>, AllocError>
-    requires within { from ≤ length source.now.left }
-    requires stands { spec.StandsBefore place.now index format.now asked.now (steps.Call field) number before choices.now }
-    ensures { IfOk result (λ o. IfSome o (walking.Fails place.now (drop from source.now.left) asked.now number)) }
+    requires within { IsWithin source.now }
+    requires stands { spec.StandsBefore place.now index format.now source.now.asked.now (steps.Call field) number before choices.now }
+    ensures { IfOk result (λ o. IfSome o (walking.Fails place.now (front source.now) source.now.asked.now number)) }
 {
     let Some(called) = at(format.fields.as_slice(), field) else {
         return Ok(None);
@@ -328,7 +315,6 @@ fn foreseen_call(
         values.as_slice(),
         digit,
         source,
-        from,
     )?
     else {
         return Ok(None);
@@ -347,13 +333,12 @@ fn alike_inside(
     method: usize,
     arguments: &[i128],
     number: u64,
-    source: &Cursor<'_>,
-    from: usize,
+    source: &Source<'_>,
 ) -> Result<Option<u64>, AllocError>
-    requires within { from ≤ length source.now.left }
+    requires within { IsWithin source.now }
     requires there { method < length place.now.accepted.now.profile.methods }
     requires below { (n : ℕ) → slice_get place.now.accepted.now.counts method ≡ Some n → number < n }
-    ensures { IfOk result (λ o. IfSome o (λ many. spec.AreRefutedInside place.now index format.now field called.now method arguments.now number many (drop from source.now.left))) }
+    ensures { IfOk result (λ o. IfSome o (λ many. spec.AreRefutedInside place.now index format.now field called.now method arguments.now number many (front source.now))) }
 {
     // Its path is that of the field, which is made where it is looked at.
     let inner = Place {
@@ -377,7 +362,6 @@ fn alike_inside(
         arguments,
         start.format,
         source,
-        from,
     )?;
     if is_told {
         Ok(Some(start.digits.alike()))
@@ -397,11 +381,10 @@ fn is_refuted_inside(
     method: usize,
     arguments: &[i128],
     inside: usize,
-    source: &Cursor<'_>,
-    from: usize,
+    source: &Source<'_>,
 ) -> Result<bool, AllocError>
-    requires within { from ≤ length source.now.left }
-    ensures { IfOk result (λ told. IsTrue told → spec.IsRefutedInside place.now index format.now field called.now method arguments.now inside (drop from source.now.left)) }
+    requires within { IsWithin source.now }
+    ensures { IfOk result (λ told. IsTrue told → spec.IsRefutedInside place.now index format.now field called.now method arguments.now inside (front source.now)) }
 {
     let Some(found) = format_of(place.accepted, method, inside) else {
         return Ok(false);
@@ -419,7 +402,7 @@ fn is_refuted_inside(
         format.fields.as_slice(),
         sizes.fields.as_slice(),
         field,
-        source.rest() - from,
+        source.cursor.rest() - source.from,
     ) else {
         return Ok(false);
     };
@@ -431,7 +414,13 @@ fn is_refuted_inside(
         arguments,
         path: path.as_str(),
     };
-    is_refuted(alloc, &there, inside, source, from + offset)
+    is_refuted(
+        alloc,
+        &there,
+        inside,
+        source.cursor,
+        source.from + offset,
+    )
 }
 
 /// How many bits the header fields before this one have, where each has one length by its bounds, and they are no more than so many.

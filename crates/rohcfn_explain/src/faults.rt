@@ -8,7 +8,7 @@ use fn_normal::Method;
 use fn_profile::Profile;
 use fn_rules::CheckFault;
 use fn_source::Span;
-use rohcfn_report::check_faults::{format_name, method_name};
+use rohcfn_report::names::{format_name, method_name};
 use std::alloc::{AllocError, Global};
 
 /// What is at fault, by the names of a certificate's text: a method, with a node of its tree, or with a format, a plan and a step.

@@ -3,7 +3,7 @@
 use crate::places::{method_place, place_text};
 use fn_profile::Profile;
 use fn_trees::{Told, all_told};
-use rohcfn_report::check_faults::format_name;
+use rohcfn_report::names::format_name;
 use std::alloc::{AllocError, Global};
 
 /// So many bits are shown at most.

@@ -9,7 +9,7 @@ use fn_order::FieldSide;
 use fn_plans::{Knowledge, NeedRule, enables, lacking, rule_of};
 use fn_profile::Profile;
 use fn_source::Span;
-use rohcfn_report::check_faults::field_name;
+use rohcfn_report::names::field_name;
 use sqlite_items::Items;
 use std::alloc::{AllocError, Global};
 

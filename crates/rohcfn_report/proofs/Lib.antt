@@ -1,9 +1,5 @@
 pub mod AcceptingCertificates
+pub mod CandidatesCapped
 pub mod CheckFaultLines
-pub mod FieldsListed
 pub mod ProfileLinesListed
-pub mod BitTextsSpelled
-pub mod WarningsTables
-pub mod Linted
-pub mod DrawLemmas
-pub mod Warned
+pub mod TableLists

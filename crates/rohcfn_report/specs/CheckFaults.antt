@@ -8,28 +8,9 @@ use Rattle.fn_cert.specs.declared.certificate.Direction.TheVariants.{Read, Write
 use Rattle.fn_cert_text.specs.declared.reading.CertificateError.{CertificateError}
 use Rattle.fn_cert_text.specs.declared.reading.CertificateError.TheVariants.{BadWord, UnknownName, AboveLimits, OutOfMemory}
 use Rattle.fn_cert_text.specs.Text.{name_of, side_word}
+use Rattle.rohcfn_report.specs.Names.{method_name, format_name, field_name, names}
 use Rattle.fn_rules.specs.declared.fault.CheckFault.{CheckFault}
 use Rattle.fn_rules.specs.declared.fault.CheckFault.TheVariants.{NoMethod, NoFormat, NotEnabled, NeverLearnt, WrongLeaf, ShortFormat, OutOfRange, BeyondWord, TooMany, TooLong}
-
--- the name of a method, of a format of it, and of a field of that; one that has none is called -
-abbrev pub method_name : List Method → ℕ → List ℕ
-method_name methods k = name_of (option_map (λ m. m.name) (slice_get methods k))
-
-abbrev pub format_at : List Method → ℕ → ℕ → Option Format
-format_at methods k n = option_and_then (λ m. slice_get m.formats n) (slice_get methods k)
-
-abbrev pub format_name : List Method → ℕ → ℕ → List ℕ
-format_name methods k n = name_of (option_and_then (λ f. f.name) (format_at methods k n))
-
-abbrev pub field_at : List Method → ℕ → ℕ → ℕ → Option Field
-field_at methods k n i = option_and_then (λ f. slice_get f.fields i) (format_at methods k n)
-
-abbrev pub field_name : List Method → ℕ → ℕ → ℕ → List ℕ
-field_name methods k n i = name_of (option_map (λ d. d.declared.name) (field_at methods k n i))
-
--- both names
-abbrev pub names : List Method → ℕ → ℕ → List ℕ
-names methods k n = method_name methods k ++ codes " " ++ format_name methods k n
 
 -- the format after a point, where there is one
 abbrev pub format_words : List Method → ℕ → Option ℕ → List ℕ

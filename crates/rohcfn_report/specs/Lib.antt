@@ -1,14 +1,9 @@
 pub mod Accepting
-pub mod BitTexts
 pub mod Candidates
-pub mod Draw
-pub mod Fields
-pub mod Lint
+pub mod CheckFaults
+pub mod Names
+pub mod Obstacles
 pub mod ProfileLines
 pub mod Prove
-pub mod Why
 pub mod Reports
-pub mod Stats
 pub mod Table
-pub mod CheckFaults
-pub mod Warnings

@@ -1,14 +1,14 @@
 //! The lines of what is wrong with a certificate.
 
 ghost use Rattle.std.specs.Prelude.{◌≡◌, ◌++◌, codes, decimal, IfOk, string_bytes};
-ghost use Rattle.std.specs.Option.{option_copied};
 ghost use Rattle.fn_cert_text.specs.Text as text;
 ghost use Rattle.rohcfn_report.specs.CheckFaults as spec;
 
+use crate::names::{method_name, format_name, field_name, names};
 use fn_cert::Direction;
 use fn_cert_text::CertificateError;
 use fn_expr::Side;
-use fn_normal::{Field, Format, Method, Name};
+use fn_normal::Method;
 use fn_rules::CheckFault;
 use std::alloc::{AllocError, Global};
 
@@ -222,84 +222,6 @@ fn beyond_words(alloc: Global, name: &str, node: usize) -> Result<String, AllocE
     ensures { IfOk result (λ text. string_bytes text ≡ codes "check: V9 " ++ name.now ++ codes " node " ++ decimal node) }
 {
     format!(in alloc; "check: V9 {name} node {node}")
-}
-
-/// The names of a method and of a format of it.
-pub(crate) fn names(
-    alloc: Global,
-    methods: &[Method],
-    method: usize,
-    format: usize,
-) -> Result<String, AllocError>
-    ensures { IfOk result (λ text. string_bytes text ≡ spec.names methods.now method format) }
-{
-    both(
-        alloc,
-        method_name(methods, method),
-        format_name(methods, method, format),
-    )
-}
-
-fn both(alloc: Global, name: &str, format: &str) -> Result<String, AllocError>
-    ensures { IfOk result (λ text. string_bytes text ≡ name.now ++ codes " " ++ format.now) }
-{
-    format!(in alloc; "{name} {format}")
-}
-
-/// The name, or `-`.
-fn name_of(name: &Option<Name>) -> &str
-    ensures { result.now ≡ text.name_of name.now }
-{
-    match name {
-        Some(name) => name.as_str(),
-        None => "-",
-    }
-}
-
-/// The name of a method, or `-`.
-pub fn method_name(methods: &[Method], method: usize) -> &str
-    ensures { result.now ≡ spec.method_name methods.now method }
-{
-    match methods.get(method) {
-        Some(method) => method.name.as_str(),
-        None => "-",
-    }
-}
-
-pub(crate) fn format_at(methods: &[Method], method: usize, format: usize) -> Option<&Format>
-    ensures { option_copied result ≡ spec.format_at methods.now method format }
-{
-    methods.get(method)?.formats.get(format)
-}
-
-/// The name of a format of a method, or `-`.
-pub fn format_name(methods: &[Method], method: usize, format: usize) -> &str
-    ensures { result.now ≡ spec.format_name methods.now method format }
-{
-    match format_at(methods, method, format) {
-        Some(format) => name_of(&format.name),
-        None => "-",
-    }
-}
-
-pub fn field_name(methods: &[Method], method: usize, format: usize, field: usize) -> &str
-    ensures { result.now ≡ spec.field_name methods.now method format field }
-{
-    match field_at(methods, method, format, field) {
-        Some(field) => field.declared.name.as_str(),
-        None => "-",
-    }
-}
-
-pub(crate) fn field_at(
-    methods: &[Method],
-    method: usize,
-    format: usize,
-    field: usize,
-) -> Option<&Field>
-    ensures { option_copied result ≡ spec.field_at methods.now method format field }
-{
-    format_at(methods, method, format)?.fields.get(field)
 }
 
 pub(crate) fn direction_word(direction: Direction) -> &'static str

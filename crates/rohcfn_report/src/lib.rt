@@ -1,16 +1,12 @@
-//! What `show`, `prove`, `check`, `lint` and `draw` print, what `fields` prints of a filling, what `stats` prints of counts, and what `why` prints of reasons.
+//! What `show`, `prove` and `check` print, who accepts a profile with its certificate for the other calls, and the words for what a profile has: names, places, obstacles, candidates, tables.
 #![tactic(auto)]
 
 pub mod candidates;
 pub mod check;
 pub mod check_faults;
-pub mod draw;
-pub mod fields;
-pub mod lint;
+pub mod names;
+pub mod obstacles;
 pub mod profile_and_certificate;
 pub mod prove;
 pub mod show;
-pub mod stats;
 pub mod table;
-mod warnings;
-pub mod why;

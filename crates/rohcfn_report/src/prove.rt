@@ -6,7 +6,8 @@ ghost use Rattle.fn_cert_text.specs.Text.{certificate_text};
 ghost use Rattle.rohcfn_report.specs.Prove as spec;
 ghost use Rattle.rohcfn_report.specs.Prove.{Proves};
 
-use crate::check_faults::{direction_word, field_name, format_name, method_name, names, side_word};
+use crate::check_faults::{direction_word, side_word};
+use crate::names::{field_name, format_name, method_name, names};
 use crate::show::error_line;
 use fn_cert::{Certificate, Direction, Version};
 use fn_cert_text::print;

@@ -47,7 +47,7 @@ fn listing(alloc: Global, octets: &[u8], profile: &Profile) -> Result<String, Al
 }
 
 /// The line of a profile that has no normal form.
-pub(crate) fn error_line(
+pub fn error_line(
     alloc: Global,
     octets: &[u8],
     error: ReadError,

@@ -38,7 +38,7 @@ impl Cell {
         })
     }
 
-    pub(crate) fn as_str(&self) -> &str
+    pub fn as_str(&self) -> &str
         ensures { result.now ≡ self.now }
     {
         self.text.as_str()
@@ -125,7 +125,7 @@ fn push_cell(output: &mut String, gap: usize, cell: &str) -> Result<(), AllocErr
     output.push_str(cell)
 }
 
-pub(crate) fn push_blanks(output: &mut String, count: usize) -> Result<(), AllocError>
+pub fn push_blanks(output: &mut String, count: usize) -> Result<(), AllocError>
     ensures { OnOk result (string_bytes output.new ≡ string_bytes output.old ++ replicate count 32) }
 {
     for _ in 0..count {

@@ -22,7 +22,7 @@ use Rattle.rohcfn_tool.proofs.PacketLines.{packet_faults}
 use Rattle.rohcfn_input.specs.OneLine.{IsLine}
 use Rattle.fn_reasons.specs.Reasons.{Verdicts}
 use Rattle.fn_reasons.specs.declared.line.Line as reasons
-use Rattle.rohcfn_report.specs.Why.{reasons_text}
+use Rattle.rohcfn_items.specs.Why.{reasons_text}
 use Rattle.rohcfn_tool.specs.Printed.{ExplainsItem, ExplainsPacket, HasLine, IsItemFault, RefusesItem, RefusesPacket, head_of, item_setting, packet_setting, IsFoundText, IsItemStep, IsPacketFault, IsPacketStep, IsReadLine, IsRefusedItem, IsRefusedPacket, IsTaken, IsWrittenText, SaysItem, SaysPacket, tree_text}
 use Rattle.rohcfn_tool.specs.declared.packets.Shape.{Shape}
 use Rattle.rohcfn_tool.specs.declared.packets.Shape.TheVariants.{Line, Tree, Why}

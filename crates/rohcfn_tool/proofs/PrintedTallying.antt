@@ -26,7 +26,7 @@ use Rattle.rohcfn_input.specs.declared.status.Answer.{Answer}
 use Rattle.rohcfn_input.specs.declared.status.Status.{Status}
 use Rattle.rohcfn_input.specs.declared.status.Status.TheVariants as status
 use Rattle.rohcfn_input.proofs.RefusalsHeld.{refusal_is}
-use Rattle.rohcfn_report.specs.Stats.{stats_text}
+use Rattle.rohcfn_items.specs.Stats.{stats_text}
 use Rattle.rohcfn_words.specs.declared.words.Direction.TheVariants.{Pack}
 use Rattle.rohcfn_tool.specs.Printed.{CountsItem, CountsItems, IsItemFault, IsPrintedStats, IsRefusedBelow, Packs, StatsBy, StatsFor, StatsIn, bad_entry, bad_item, bad_line_text, context_line, counted_by, counts_packed, counts_refused, packs_none, packs_one, refuses_one}
 

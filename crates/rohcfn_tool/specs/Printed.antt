@@ -41,13 +41,14 @@ use Rattle.fn_expr.specs.declared.expr.Side.TheVariants.{Uncompressed, Compresse
 use Rattle.fn_reasons.specs.Reasons.{Verdicts}
 use Rattle.fn_reasons.specs.Settings.{Setting}
 use Rattle.fn_reasons.specs.declared.line.Line as reasons
-use Rattle.rohcfn_report.specs.Fields.{fields_text, head_text}
-use Rattle.rohcfn_report.specs.Why.{reasons_text}
-use Rattle.rohcfn_report.specs.Stats.{stats_text}
-use Rattle.rohcfn_report.specs.CheckFaults.{format_name, format_words, method_name}
+use Rattle.rohcfn_items.specs.Fields.{fields_text, head_text}
+use Rattle.rohcfn_items.specs.Why.{reasons_text}
+use Rattle.rohcfn_items.specs.Stats.{stats_text}
+use Rattle.rohcfn_report.specs.Names.{format_name, method_name}
+use Rattle.rohcfn_report.specs.CheckFaults.{format_words}
 use Rattle.rohcfn_explain.specs.Explained.{Explained}
-use Rattle.rohcfn_report.specs.Draw.{DrawnBy}
-use Rattle.rohcfn_report.specs.Lint.{LintedBy}
+use Rattle.rohcfn_survey.specs.Draw.{DrawnBy}
+use Rattle.rohcfn_survey.specs.Lint.{LintedBy}
 use Rattle.rohcfn_report.specs.Reports.{ShownBy, CheckedOctets, ProvedOctets}
 use Rattle.rohcfn_input.specs.Refusals.{Holds}
 

@@ -15,7 +15,7 @@ use fn_expr::Side;
 use fn_filling::Item;
 use fn_reasons::{Line, Spot, reasons};
 use rohcfn_input::spelling::push_line;
-use rohcfn_report::why::push_reasons;
+use rohcfn_items::why::push_reasons;
 use sqlite_items::Items;
 use std::alloc::{AllocError, Global};
 

@@ -16,7 +16,7 @@ use rohcfn_input::refusals::refusal;
 use rohcfn_input::spelling::push_line;
 use rohcfn_input::status::{Answer, Status};
 use rohcfn_report::profile_and_certificate::{Judged, Origin, accept};
-use rohcfn_report::stats::stats_text;
+use rohcfn_items::stats::stats_text;
 use rohcfn_words::words::{Direction, Order};
 use sqlite_items::Items;
 use std::alloc::{AllocError, Global};

@@ -13,4 +13,4 @@ returns-then-is_told c =
       path = c.args.place.now.path;
     } in
     all_refuted c.args.place.now c.args.number c.in-Some.start inner refl c.in-Some.ensures.found c.alike.result c.alike.ensures.count c.alike.ensures.share
-    c.args.index c.args.format.now c.args.field c.args.called.now c.args.arguments.now (drop c.args.from c.args.source.now.left) (c.in_ok-is_told.ensures c.if-is_told.true)
+    c.args.index c.args.format.now c.args.field c.args.called.now c.args.arguments.now (drop c.args.source.now.from c.args.source.now.cursor.now.left) (c.in_ok-is_told.ensures c.if-is_told.true)

@@ -9,13 +9,13 @@ use Rattle.fn_writer.proofs.foresight.foreseen_call.Goals as goal
 
 pub radix_of-requires : goal.radix_of-requires
 radix_of-requires c = record {
-  within = foreseen.has_count c.args.place.now c.args.index c.args.format.now c.args.asked.now c.args.number c.args.field c.args.before c.args.choices.now c.requires.stands c.in-Some.called.now c.in-Call.method c.in-Call.arguments
+  within = foreseen.has_count c.args.place.now c.args.index c.args.format.now c.args.source.now.asked.now c.args.number c.args.field c.args.before c.args.choices.now c.requires.stands c.in-Some.called.now c.in-Call.method c.in-Call.arguments
       (ap (λ xs. slice_get xs c.args.field) (sym c.as_slice.ensures) ∙ sym c.in-Some.ensures) (sym c.get.ensures ∙ c.in-Call.is);
 }
 
 pub alike_inside-requires-clause-there : goal.alike_inside-requires-clause-there
 alike_inside-requires-clause-there c =
-    foreseen.within c.args.place.now c.args.index c.args.format.now c.args.asked.now c.args.number c.args.field c.args.before c.args.choices.now c.requires.stands c.in-Some.called.now c.in-Call.method c.in-Call.arguments
+    foreseen.within c.args.place.now c.args.index c.args.format.now c.args.source.now.asked.now c.args.number c.args.field c.args.before c.args.choices.now c.requires.stands c.in-Some.called.now c.in-Call.method c.in-Call.arguments
     (ap (λ xs. slice_get xs c.args.field) (sym c.as_slice.ensures) ∙ sym c.in-Some.ensures) (sym c.get.ensures ∙ c.in-Call.is)
 
 pub alike_inside-requires-clause-below : goal.alike_inside-requires-clause-below
@@ -29,11 +29,11 @@ alike_up_to-requires-clause-fits c =
 pub returns : goal.returns
 returns c =
     let place = c.args.place.now in
-    let bits = drop c.args.from c.args.source.now.left in
+    let bits = drop c.args.source.now.from c.args.source.now.cursor.now.left in
     let values = rw c.in-Some-2.is at c.in_ok-values.ensures in
     let told = subst (λ es. vals (told_numbers c.args.format.now place.arguments.now c.args.choices.now) es ≡ Some c.in-Some-2.values.items) c.as_slice-2.ensures values in
     let inside = rw c.in-Some-3.is at c.in_ok-many.ensures in
     let are = subst (λ z. AreRefutedInside place c.args.index c.args.format.now c.args.field c.in-Some.called.now c.in-Call.method z c.next-digit.result c.in-Some-3.many bits) c.as_slice-3.ensures inside in
-    foreseen.call_fails place c.args.index c.args.format.now c.args.asked.now c.args.number c.args.field c.args.before c.args.choices.now c.requires.stands c.in-Some.called.now c.in-Call.method c.in-Call.arguments
+    foreseen.call_fails place c.args.index c.args.format.now c.args.source.now.asked.now c.args.number c.args.field c.args.before c.args.choices.now c.requires.stands c.in-Some.called.now c.in-Call.method c.in-Call.arguments
     (ap (λ xs. slice_get xs c.args.field) (sym c.as_slice.ensures) ∙ sym c.in-Some.ensures) (sym c.get.ensures ∙ c.in-Call.is) c.radix_of.result c.radix_of.ensures c.next-digit.new.self c.next-digit.result
     c.next-digit.ensures.split c.next-digit.ensures.read c.in-Some-2.values.items c.in-Some-3.many bits are told c.alike_up_to.result c.alike_up_to.ensures.count c.alike_up_to.ensures.share

@@ -1,5 +1,5 @@
 use Rattle.std.proofs.Common.{rules}
-use Rattle.rohcfn_report.proofs.Warned.{many_bits}
+use Rattle.rohcfn_report.proofs.CandidatesCapped.{many_bits}
 use Rattle.rohcfn_report.proofs.candidates.power.Goals as goal
 
 pub returns-then-bits-ge64 : goal.returns-then-bits-ge64

@@ -1,5 +1,5 @@
 use Rattle.rohcfn_report.specs.Table.{width}
-use Rattle.rohcfn_report.proofs.WarningsTables.{one_more}
+use Rattle.rohcfn_report.proofs.TableLists.{one_more}
 use Rattle.rohcfn_report.proofs.table.widths.Goals as goal
 
 pub loop-column-preserved : goal.loop-column-preserved

@@ -1,0 +1,2 @@
+pub mod BitTextsSpelled
+pub mod FieldsListed

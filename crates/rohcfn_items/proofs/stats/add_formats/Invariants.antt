@@ -1,0 +1,7 @@
+use Rattle.std.proofs.Common.{◌++◌}
+use Rattle.rohcfn_items.specs.Stats.{format_rows, formats_rows}
+use Rattle.rohcfn_report.proofs.TableLists.{Goes}
+use Rattle.rohcfn_items.proofs.stats.add_formats.Given as goal
+
+abbrev pub invariant-loop-number : goal.invariant-loop-number
+invariant-loop-number l = Goes (λ f. format_rows l.methods l.top f.0 f.1.listing l.counts) l.formats l.number l.rows (l.fn.rows ++ formats_rows l.methods l.top l.formats l.counts)

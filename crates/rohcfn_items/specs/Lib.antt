@@ -1,0 +1,4 @@
+pub mod BitTexts
+pub mod Fields
+pub mod Stats
+pub mod Why

@@ -1,0 +1,114 @@
+-- What `why` prints of the reasons that stand against formats: a line for each (docs/FORMATS.md).
+use Rattle.std.specs.Prelude.{ℕ, List, ◌++◌, Option, None, codes, decimal, flat_map, replicate, slice_get, string_bytes}
+use Rattle.std.specs.Fmt.{signed_decimal}
+use Rattle.std.specs.Option.{option_and_then, unwrap_or}
+use Rattle.fn_source.specs.declared.span.Span.{Span}
+use Rattle.fn_source.specs.Places.{line_of, column_of}
+use Rattle.fn_expr.specs.declared.expr.Measure.{Measure}
+use Rattle.fn_expr.specs.declared.expr.Measure.TheVariants.{Value, Length}
+use Rattle.fn_expr.specs.declared.expr.Side.{Side}
+use Rattle.fn_expr.specs.declared.expr.Side.TheVariants.{Uncompressed, Compressed}
+use Rattle.fn_expr.specs.declared.expr.Subject.{Subject}
+use Rattle.fn_expr.specs.declared.expr.Subject.TheVariants as subject
+use Rattle.fn_expr.specs.declared.inputs.Input.{Input}
+use Rattle.fn_expr.specs.declared.inputs.Input.TheVariants as input
+use Rattle.fn_normal.specs.declared.profile.Method.{Method}
+use Rattle.fn_lint.specs.declared.obstacle.Obstacle.TheVariants as obstacle
+use Rattle.fn_profile.specs.Resolved.{Resolved}
+use Rattle.fn_cert_text.specs.Text.{name_of}
+use Rattle.fn_reasons.specs.declared.figures.Figure.{Figure}
+use Rattle.fn_reasons.specs.declared.line.Line.{Line}
+use Rattle.fn_reasons.specs.declared.reason.Reason.{Reason}
+use Rattle.fn_reasons.specs.declared.reason.Reason.TheVariants.{Dead, Short, Long, Cut, NoReference, Differs, NoSide, Untrue, Undefined, Inside, Nothing}
+use Rattle.rohcfn_items.specs.BitTexts.{bits_text}
+use Rattle.rohcfn_items.specs.Fields.{encoding_at, method_word}
+use Rattle.rohcfn_report.specs.Obstacles.{first_bracket, obstacle_words}
+pub use Rattle.rohcfn_report.specs.Obstacles.{place_of}
+pub use Rattle.rohcfn_report.specs.Names.{field_name}
+use Rattle.rohcfn_report.specs.Names.{constraints_at, format_name, method_name, method_place}
+
+-- the place of a field: its bracket, first that of what is sent, else the method's name
+abbrev pub field_place : List Method → ℕ → ℕ → ℕ → Span
+field_place methods k n i = unwrap_or (first_bracket i Compressed (constraints_at methods k n)) (unwrap_or (first_bracket i Uncompressed (constraints_at methods k n)) (method_place methods k))
+
+-- where in the profile the reason stands
+abbrev pub reason_place : List Method → ℕ → ℕ → Reason → Span
+reason_place methods k n (Dead o) = place_of methods (record { method = k; format = n; obstacle = o })
+reason_place methods k n (Short length least) = method_place methods k
+reason_place methods k n (Long length most) = method_place methods k
+reason_place methods k n (Cut i left due) = field_place methods k n i
+reason_place methods k n (NoReference i path) = field_place methods k n i
+reason_place methods k n (Differs i side found due) = field_place methods k n i
+reason_place methods k n (NoSide i side found) = field_place methods k n i
+reason_place methods k n (Undefined at) = at
+reason_place methods k n (Untrue j figures) = place_of methods (record { method = k; format = n; obstacle = obstacle.NeverTrue j })
+reason_place methods k n (Inside i) = field_place methods k n i
+reason_place methods k n Nothing = method_place methods k
+
+-- what has that side
+abbrev pub side_word : Side → List ℕ
+side_word Uncompressed = codes "header"
+side_word Compressed = codes "packet"
+
+-- what encodes the field, and its name
+abbrev pub coded_words : List Method → ℕ → ℕ → ℕ → List ℕ
+coded_words methods k n i = method_word methods (encoding_at methods k n i) None ++ codes " of " ++ field_name methods k n i
+
+-- ---- the numbers by which a condition goes
+
+abbrev pub parameter_at : List Method → ℕ → ℕ → Option (List ℕ)
+parameter_at methods k i = option_and_then (λ m. slice_get m.parameters i) (slice_get methods k)
+
+abbrev pub parameter_name : List Method → ℕ → ℕ → List ℕ
+parameter_name methods k i = name_of (parameter_at methods k i)
+
+abbrev pub subject_name : List Method → ℕ → ℕ → Subject → List ℕ
+subject_name methods k n (subject.Field i) = field_name methods k n i
+subject_name methods k n subject.This = codes "THIS"
+
+abbrev pub attribute_word : Side → Measure → List ℕ
+attribute_word Uncompressed Value = codes "UVALUE"
+attribute_word Uncompressed Length = codes "ULENGTH"
+attribute_word Compressed Value = codes "CVALUE"
+attribute_word Compressed Length = codes "CLENGTH"
+
+abbrev pub input_name : List Method → ℕ → ℕ → Input → List ℕ
+input_name methods k n (input.Parameter i) = parameter_name methods k i
+input_name methods k n (input.Attribute t) = subject_name methods k n t.subject ++ codes "." ++ attribute_word t.side t.measure
+
+-- one number, and that of an attribute or a parameter
+abbrev pub figure_words : List Method → ℕ → ℕ → Figure → List ℕ
+figure_words methods k n f = codes "; " ++ input_name methods k n f.input ++ codes " is " ++ signed_decimal f.value
+
+abbrev pub false_words : List Method → ℕ → ℕ → List Figure → List ℕ
+false_words methods k n figures = codes "the condition is false" ++ flat_map (figure_words methods k n) figures
+
+abbrev pub reason_words : Resolved → ℕ → ℕ → Reason → List ℕ
+reason_words p k n (Dead o) = obstacle_words p k n o
+reason_words p k n (Short length least) = decimal length ++ codes " bits are there, and at least " ++ decimal least ++ codes " are due"
+reason_words p k n (Long length most) = decimal length ++ codes " bits are there, and at most " ++ decimal most ++ codes " may be"
+reason_words p k n (Cut i left due) = coded_words p.methods k n i ++ codes ": " ++ decimal left ++ codes " bits are left, and " ++ decimal due ++ codes " are due"
+reason_words p k n (NoReference i path) = coded_words p.methods k n i ++ codes ": the context has no entry " ++ string_bytes path ++ codes ", and INITIAL gives none"
+reason_words p k n (Differs i side found due) = coded_words p.methods k n i ++ codes ": the " ++ side_word side ++ codes " has " ++ bits_text found ++ codes ", and " ++ bits_text due ++ codes " is due"
+reason_words p k n (NoSide i side found) = coded_words p.methods k n i ++ codes ": the " ++ side_word side ++ codes " has " ++ bits_text found ++ codes ", with which nothing goes"
+reason_words p k n (Untrue j figures) = false_words p.methods k n figures
+reason_words p k n (Undefined at) = codes "this has no value, since it divides by 0"
+reason_words p k n (Inside i) = codes "nothing goes in " ++ field_name p.methods k n i ++ codes ", by no format of " ++ method_word p.methods (encoding_at p.methods k n i) None
+reason_words p k n Nothing = codes "nothing simple stands against it"
+
+-- two blanks for each call on the way
+abbrev pub indent : ℕ → List ℕ
+indent depth = replicate depth 32 ++ replicate depth 32
+
+-- a line and a column of the profile, the method and the format after some blanks, and what stands against it
+abbrev pub reason_text : ℕ → ℕ → List ℕ → List ℕ → List ℕ → List ℕ → List ℕ
+reason_text line column blanks method format words = codes "\n" ++ decimal line ++ codes ":" ++ decimal column ++ codes ": " ++ blanks ++ method ++ codes "." ++ format ++ codes ": " ++ words
+
+abbrev pub reason_line : List ℕ → Resolved → Line → List ℕ
+reason_line octets p l =
+    reason_text (line_of octets (reason_place p.methods l.method l.format l.reason).from) (column_of octets (reason_place p.methods l.method l.format l.reason).from) (indent l.depth)
+    (method_name p.methods l.method) (format_name p.methods l.method l.format) (reason_words p l.method l.format l.reason)
+
+-- each after a line feed
+abbrev pub reasons_text : List ℕ → Resolved → List Line → List ℕ
+reasons_text octets p lines = flat_map (reason_line octets p) lines

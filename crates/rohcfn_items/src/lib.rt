@@ -1,0 +1,6 @@
+//! What is told of items and packets: `fields` prints the fields of a filling, `stats` what formats and fields cost, and `why` the reasons of a refusal.
+#![tactic(auto)]
+
+pub mod fields;
+pub mod stats;
+pub mod why;

@@ -1,0 +1,3 @@
+pub mod DrawLemmas
+pub mod LintLemmas
+pub mod WarningsLemmas

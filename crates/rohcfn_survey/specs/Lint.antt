@@ -1,0 +1,66 @@
+-- What `lint` prints: a line for each format by which nothing can be packed (docs/FORMATS.md).
+use Rattle.std.specs.Prelude.{◌≡◌, ℕ, Bool, List, [], ◌∷◌, ◌++◌, ◌&&◌, nat_eq, Option, Some, None, codes, decimal, flat_map, option_map, option_and_then, slice_get, string_bytes, unwrap_or, if◌then◌else◌}
+use Rattle.std.specs.Option.{option_or}
+use Rattle.fn_normal.specs.declared.profile.Format.{Format}
+use Rattle.fn_source.specs.declared.span.Span.{Span}
+use Rattle.fn_source.specs.Places.{line_of, column_of}
+use Rattle.fn_expr.specs.declared.expr.Side.{Side}
+use Rattle.fn_expr.specs.declared.expr.Side.TheVariants.{Uncompressed, Compressed}
+use Rattle.fn_normal.specs.declared.profile.Bounds.{Bounds}
+use Rattle.fn_normal.specs.declared.profile.Constraint.{Constraint}
+use Rattle.fn_normal.specs.declared.profile.Constraint.TheVariants.{Bracket, Enforce}
+use Rattle.fn_normal.specs.declared.profile.FormatSizes.{FormatSizes}
+use Rattle.fn_normal.specs.declared.profile.Method.{Method}
+use Rattle.fn_normal.specs.declared.profile.MethodSizes.{MethodSizes}
+use Rattle.fn_profile.specs.Resolved.{Resolved}
+use Rattle.fn_rules.specs.Facts.{same_side}
+use Rattle.fn_names.specs.Readings.{Reads}
+use Rattle.fn_lint.specs.declared.formats.DeadFormat.{DeadFormat}
+use Rattle.fn_lint.specs.declared.obstacle.Obstacle.{Obstacle}
+use Rattle.fn_lint.specs.declared.obstacle.Obstacle.TheVariants as obstacle
+use Rattle.fn_lint.specs.Listing.{AreDead}
+use Rattle.fn_bounds.specs.Faults.{side_bounds}
+use Rattle.fn_fits.specs.Bounded.{sizes_at}
+use Rattle.rohcfn_input.specs.declared.status.Answer.{Answer}
+use Rattle.rohcfn_input.specs.declared.status.Status.{Status}
+use Rattle.rohcfn_input.specs.declared.status.Status.TheVariants as status
+use Rattle.rohcfn_input.specs.Refusals.{Holds}
+use Rattle.rohcfn_report.specs.ProfileLines.{IsFaultLine}
+use Rattle.rohcfn_report.specs.Names.{format_name, method_name}
+use Rattle.rohcfn_report.specs.Obstacles.{obstacle_words, place_of}
+use Rattle.rohcfn_survey.specs.Warnings.{AreWarnings}
+
+-- ---- the place of a line
+
+-- ---- its words
+
+-- ---- the lines
+
+-- a line and a column of the profile, the method and the format, and what keeps every filling from it
+abbrev pub lint_words : ℕ → ℕ → List ℕ → List ℕ → List ℕ → List ℕ
+lint_words line column method format words =
+    decimal line ++ codes ":" ++ decimal column ++ codes ": warning " ++ method ++ codes "." ++ format ++ codes ": " ++ words ++ codes ": nothing fits this format\n"
+
+abbrev pub lint_line : List ℕ → Resolved → DeadFormat → List ℕ
+lint_line octets p d =
+    lint_words (line_of octets (place_of p.methods d).from) (column_of octets (place_of p.methods d).from) (method_name p.methods d.method) (format_name p.methods d.method d.format)
+    (obstacle_words p d.method d.format d.obstacle)
+
+abbrev pub lint_text : List ℕ → Resolved → List DeadFormat → List ℕ
+lint_text octets p found = flat_map (lint_line octets p) found
+
+-- What is answered to `lint`.
+pub data LintedBy (top octets : List ℕ) : Status → List ℕ → Type 0 where
+  -- the profile is at fault
+  no_lint : (text : List ℕ) → IsFaultLine top octets text → LintedBy top octets status.Refused (text ++ 10 ∷ [])
+  -- the formats of the normal form by which nothing can be packed, and below them warnings
+  linted : (p : Resolved) (found : List DeadFormat) (warnings : List ℕ) → Reads octets top p → AreDead p 0 0 found → AreWarnings octets p warnings
+      → LintedBy top octets status.Done (lint_text octets p found ++ warnings)
+
+-- the formats of a profile by which nothing can be packed, and warnings
+abbrev pub LintsProfile : List ℕ → Resolved → Answer → Type 0
+LintsProfile octets p a =
+    (found : List DeadFormat) × AreDead p 0 0 found × (a.status ≡ status.Done) × (warnings : List ℕ) × AreWarnings octets p warnings × (string_bytes a.output ≡ lint_text octets p found ++ warnings)
+
+abbrev pub Lints : List ℕ → List ℕ → Answer → Type 0
+Lints top octets = Holds (LintedBy top octets)

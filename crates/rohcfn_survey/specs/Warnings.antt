@@ -1,0 +1,135 @@
+-- What `lint` prints below the lines on formats by which nothing can be packed: warnings (docs/FORMATS.md).
+use Rattle.std.specs.Prelude.{◌≡◌, ℕ, Bool, true, false, List, [], ◌∷◌, ◌++◌, codes, decimal, flat_map, nat_eq, nat_lt, option_map, slice_get, string_bytes, unwrap_or, if◌then◌else◌}
+use Rattle.std.specs.List.{enumerate_from}
+use Rattle.fn_source.specs.declared.span.Span.{Span}
+use Rattle.fn_source.specs.Places.{line_of, column_of}
+use Rattle.fn_normal.specs.declared.profile.Format.{Format}
+use Rattle.fn_normal.specs.declared.profile.Method.{Method}
+use Rattle.fn_profile.specs.Resolved.{Resolved}
+use Rattle.fn_cert.specs.declared.certificate.Version.TheVariants.{One}
+use Rattle.fn_cert.specs.Kept.{Certified, Entries, candidate_limit}
+use Rattle.fn_prover.specs.Proved.{IsProved, IsUnproved}
+use Rattle.fn_prover.specs.declared.unproved.Unproved.{Unproved}
+use Rattle.fn_prover.specs.declared.unproved.Unproved.TheVariants.{OutOfMemory}
+use Rattle.fn_lint.specs.declared.needs.Needing.{Needing}
+use Rattle.fn_lint.specs.declared.spelled.Misspelled.{Misspelled}
+use Rattle.rohcfn_report.specs.declared.candidates.Counts.{Counts}
+use Rattle.rohcfn_report.specs.declared.candidates.Factor.{Factor}
+use Rattle.rohcfn_report.specs.Candidates.{AreCounted, factors_of, format_count, method_count, write_steps}
+use Rattle.rohcfn_report.specs.Names.{field_name, format_name, method_name, method_place}
+
+-- ---- where a line begins
+
+-- a line and a column of the profile, and the method there
+abbrev pub head_words : ℕ → ℕ → List ℕ → List ℕ
+head_words line column method = decimal line ++ codes ":" ++ decimal column ++ codes ": warning " ++ method
+
+abbrev pub method_head : List ℕ → List Method → ℕ → List ℕ
+method_head octets methods k = head_words (line_of octets (method_place methods k).from) (column_of octets (method_place methods k).from) (method_name methods k)
+
+-- the same of a format of the method
+abbrev pub format_head : List ℕ → List Method → ℕ → ℕ → List ℕ
+format_head octets methods k n = method_head octets methods k ++ codes "." ++ format_name methods k n
+
+-- ---- by rules, which are tested
+
+-- a format that needs an entry of the context
+abbrev pub needing_words : List ℕ → List ℕ → List ℕ
+needing_words head path = head ++ codes " is never used: it needs " ++ path ++ codes " in the context, which no format that can come before puts there\n"
+
+abbrev pub needing_line : List ℕ → List Method → Needing → List ℕ
+needing_line octets methods w = needing_words (format_head octets methods w.method w.format) (string_bytes w.path)
+
+abbrev pub needing_lines : List ℕ → List Method → List Needing → List ℕ
+needing_lines octets methods found = flat_map (needing_line octets methods) found
+
+-- a name that may be misspelled, and the header field that may be meant
+abbrev pub misspelled_words : List ℕ → List ℕ → List ℕ → List ℕ
+misspelled_words head name meant = head ++ codes ": " ++ name ++ codes " is listed here alone, and " ++ meant ++ codes " is a field of the header: is it meant?\n"
+
+abbrev pub misspelled_line : List ℕ → List Method → Misspelled → List ℕ
+misspelled_line octets methods w =
+    misspelled_words (format_head octets methods w.method w.format) (field_name methods w.method w.format w.field) (field_name methods w.method w.format w.meant)
+
+abbrev pub misspelled_lines : List ℕ → List Method → List Misspelled → List ℕ
+misspelled_lines octets methods found = flat_map (misspelled_line octets methods) found
+
+-- a path of the context at which no format has a field
+abbrev pub unknown_line : List ℕ → List ℕ
+unknown_line path = codes "context: warning " ++ path ++ codes ": no format has a field there\n"
+
+abbrev pub unknown_lines : List (List ℕ) → List ℕ
+unknown_lines paths = flat_map unknown_line paths
+
+-- ---- candidates
+
+-- a method with more candidates than the limit
+abbrev pub crowded_words : List ℕ → ℕ → List ℕ
+crowded_words head count = head ++ codes ": " ++ decimal count ++ codes " candidates an item, and the limit is " ++ decimal candidate_limit ++ codes "\n"
+
+abbrev pub candidate_word : ℕ → List ℕ
+candidate_word count = if nat_eq count 1 then codes " candidate" else codes " candidates"
+
+-- what multiplies: each field with its number of ways, after a sign
+abbrev pub sign_at : ℕ → List ℕ
+sign_at place = if nat_eq place 0 then codes " = " else codes " x "
+
+abbrev pub factor_words : List ℕ → List ℕ → ℕ → List ℕ
+factor_words sign name count = sign ++ name ++ codes " " ++ decimal count
+
+abbrev pub factor_text : List Method → ℕ → ℕ → ℕ → Factor → List ℕ
+factor_text methods k n place f = factor_words (sign_at place) (field_name methods k n f.field) f.count
+
+abbrev pub factors_text : List Method → ℕ → ℕ → List Factor → List ℕ
+factors_text methods k n fs = flat_map (λ (f : ℕ × Factor). factor_text methods k n f.0 f.1) (enumerate_from 0 fs)
+
+abbrev pub ways_words : List ℕ → ℕ → List ℕ → List ℕ → List ℕ
+ways_words head count word factors = head ++ codes ": " ++ decimal count ++ word ++ factors ++ codes "\n"
+
+-- the candidates of a format, with what multiplies in its write plan
+abbrev pub ways_line : List ℕ → List Method → Entries → Counts → ℕ → ℕ → Format → List ℕ
+ways_line octets methods cert counts k n format =
+    ways_words (format_head octets methods k n) (format_count counts k n) (candidate_word (format_count counts k n))
+    (factors_text methods k n (factors_of counts.methods format (write_steps cert k n)))
+
+abbrev pub ways_lines : List ℕ → List Method → Entries → Counts → ℕ → List Format → List ℕ
+ways_lines octets methods cert counts k formats = flat_map (λ (f : ℕ × Format). ways_line octets methods cert counts k f.0 f.1) (enumerate_from 0 formats)
+
+-- a method, where it has more than the limit, and then each format of it
+abbrev pub crowded_lines : List ℕ → List Method → Entries → Counts → ℕ → Method → List ℕ
+crowded_lines octets methods cert counts k m =
+    if nat_lt candidate_limit (method_count counts k) then crowded_words (method_head octets methods k) (method_count counts k) ++ ways_lines octets methods cert counts k m.formats else []
+
+abbrev pub candidates_text : List ℕ → List Method → Entries → Counts → List ℕ
+candidates_text octets methods cert counts = flat_map (λ (m : ℕ × Method). crowded_lines octets methods cert counts m.0 m.1) (enumerate_from 0 methods)
+
+-- by the numbers of a certificate
+pub record AreCountedLines (octets : List ℕ) (p : Resolved) (cert : Entries) (text : List ℕ) : Type 0 where
+  pub counts : Counts
+  pub are_counted : AreCounted p.methods cert counts
+  pub text_is : text ≡ candidates_text octets p.methods cert counts
+
+-- a refusal for want of memory is none of the profile
+abbrev pub is_of_profile : Unproved → Bool
+is_of_profile OutOfMemory = false
+is_of_profile _ = true
+
+-- The lines on methods with too many candidates by the certificate of version 1 that the prover makes. Where it makes none there are no lines.
+pub data AreCandidates (octets : List ℕ) (p : Resolved) : List ℕ → Type 0 where
+  unproved : (why : Unproved) → IsUnproved One p why → is_of_profile why ≡ true → AreCandidates octets p []
+  counted : {text : List ℕ} (cert : Certified) → IsProved One p cert → AreCountedLines octets p cert.methods text → AreCandidates octets p text
+
+-- ---- all of them
+
+abbrev pub warning_lines : List ℕ → List Method → List Needing → List Misspelled → List ℕ → List (List ℕ) → List ℕ
+warning_lines octets methods needing misspelled candidates unknown =
+    needing_lines octets methods needing ++ misspelled_lines octets methods misspelled ++ candidates ++ unknown_lines unknown
+
+-- The text is lines on formats that need an entry, on names, on candidates and on paths of the context. Which formats, names and paths these are is said by rules, which are tested.
+pub record AreWarnings (octets : List ℕ) (p : Resolved) (text : List ℕ) : Type 0 where
+  pub needing : List Needing
+  pub misspelled : List Misspelled
+  pub candidates : List ℕ
+  pub unknown : List (List ℕ)
+  pub are_candidates : AreCandidates octets p candidates
+  pub text_is : text ≡ warning_lines octets p.methods needing misspelled candidates unknown

@@ -1,0 +1,98 @@
+//! What is answered to `lint`.
+
+ghost use Rattle.std.specs.Prelude.{◌≡◌, ◌++◌, IfOk, OnOk, string_bytes};
+ghost use Rattle.rohcfn_survey.specs.Lint as spec;
+
+use rohcfn_report::names::{format_name, method_name};
+use rohcfn_report::obstacles::{obstacle_words, place_of};
+use rohcfn_report::show::error_line;
+use crate::warnings::warnings;
+use fn_lint::{DeadFormat, dead_formats};
+use fn_names::read;
+use fn_profile::Profile;
+use fn_source::line_column;
+use rohcfn_input::refusals::refusal;
+use rohcfn_input::status::{Answer, Status};
+use std::alloc::{AllocError, Global};
+
+/// A line for each format of the profile by which no header can ever be packed, whatever the context holds: where in the profile the reason stands, and what it is. For a
+/// profile with a fault its line.
+/// Below them stand warnings: what the rules of fn_lint find, which are tested, and methods with too many candidates. The octets of a context may be given, with which a flow
+/// begins.
+pub fn answer_lint(
+    alloc: Global,
+    top: &str,
+    octets: &[u8],
+    context: Option<&[u8]>,
+) -> Result<Answer, AllocError>
+    ensures { IfOk result (spec.Lints top.now octets.now) }
+{
+    match read(alloc, octets, top.as_bytes()) {
+        Ok(profile) => answer_profile(alloc, octets, &profile, context),
+        Err(error) => {
+            let line = error_line(alloc, octets, error)?;
+            refusal(alloc, line.as_str())
+        }
+    }
+}
+
+/// The answer by a profile.
+fn answer_profile(
+    alloc: Global,
+    octets: &[u8],
+    profile: &Profile,
+    context: Option<&[u8]>,
+) -> Result<Answer, AllocError>
+    ensures { IfOk result (spec.LintsProfile octets.now profile.now) }
+{
+    let found = dead_formats(alloc, profile)?;
+    let mut output = String::new(alloc);
+    for dead in found.as_slice() {
+        push_line(alloc, &mut output, octets, profile, *dead)?;
+    }
+    let warnings = warnings(alloc, octets, profile, context)?;
+    output.push_str(warnings.as_str())?;
+    Ok(Answer {
+        status: Status::Done,
+        output,
+    })
+}
+
+/// Adds the line of a format.
+fn push_line(
+    alloc: Global,
+    output: &mut String,
+    octets: &[u8],
+    profile: &Profile,
+    dead: DeadFormat,
+) -> Result<(), AllocError>
+    ensures { OnOk result (string_bytes output.new ≡ string_bytes output.old ++ spec.lint_line octets.now profile.now dead) }
+{
+    let words = obstacle_words(alloc, profile, dead.method, dead.format, dead.obstacle)?;
+    let methods = profile.methods();
+    let place = line_column(octets, place_of(methods, dead).from as usize);
+    let line = line_text(
+        alloc,
+        place.line,
+        place.column,
+        method_name(methods, dead.method),
+        format_name(methods, dead.method, dead.format),
+        words.as_str(),
+    )?;
+    output.push_str(line.as_str())
+}
+
+fn line_text(
+    alloc: Global,
+    line: usize,
+    column: usize,
+    method: &str,
+    format: &str,
+    words: &str,
+) -> Result<String, AllocError>
+    ensures { IfOk result (λ text. string_bytes text ≡ spec.lint_words line column method.now format.now words.now) }
+{
+    format!(in alloc;
+        "{line}:{column}: warning {method}.{format}: {words}: nothing fits this format\n"
+    )
+}
