@@ -161,7 +161,15 @@ fn foreseen_step(
         }
         Step::Choose(field) => {
             read_choice(
-                alloc, place, index, format, field, digits, choices, source.asked, number,
+                alloc,
+                place,
+                index,
+                format,
+                field,
+                digits,
+                choices,
+                source.asked,
+                number,
             )?;
             let told = Told {
                 format,
@@ -176,7 +184,16 @@ fn foreseen_step(
             }
         }
         Step::Ask(field) => {
-            note_asked(place, index, format, field, *digits, choices, source.asked, number)?;
+            note_asked(
+                place,
+                index,
+                format,
+                field,
+                *digits,
+                choices,
+                source.asked,
+                number,
+            )?;
             Ok(None)
         }
         _ => Ok(None),
@@ -414,13 +431,7 @@ fn is_refuted_inside(
         arguments,
         path: path.as_str(),
     };
-    is_refuted(
-        alloc,
-        &there,
-        inside,
-        source.cursor,
-        source.from + offset,
-    )
+    is_refuted(alloc, &there, inside, source.cursor, source.from + offset)
 }
 
 /// How many bits the header fields before this one have, where each has one length by its bounds, and they are no more than so many.

@@ -9,11 +9,11 @@ ghost use Rattle.rohcfn_items.specs.Fields as spec;
 ghost use Rattle.rohcfn_report.specs.Names.{format_name as name_at, method_name as name_of};
 ghost use Rattle.rohcfn_report.specs.CheckFaults.{format_words};
 
-use rohcfn_report::names::{field_at, format_name, method_name};
-use rohcfn_report::table::{Cell, push_table};
 use fn_bits::Bits;
 use fn_filling::{FilledField, Filling};
 use fn_normal::{Encoding, Library, Method, Part};
+use rohcfn_report::names::{field_at, format_name, method_name};
+use rohcfn_report::table::{Cell, push_table};
 use sqlite_items::Items;
 use std::alloc::{AllocError, Global};
 

@@ -7,10 +7,7 @@ ghost use Rattle.rohcfn_items.specs.BitTexts.{bits_text};
 ghost use Rattle.rohcfn_items.specs.Fields.{encoding_at as encoding_of, method_word};
 ghost use Rattle.rohcfn_items.specs.Why as spec;
 
-use rohcfn_report::names::{constraints_at, field_name, format_name, method_name, method_place};
 use crate::fields::{bits_cell, encoding_at, method_cell};
-use rohcfn_report::obstacles::{bracket_or, obstacle_words, place_of};
-use rohcfn_report::table::push_blanks;
 use fn_bits::Bits;
 use fn_expr::{Input, Measure, Side, Subject};
 use fn_lint::{DeadFormat, Obstacle};
@@ -19,6 +16,9 @@ use fn_profile::Profile;
 use fn_reasons::{Figure, Line, Reason};
 use fn_source::{Span, line_column};
 use itoa::Buffer;
+use rohcfn_report::names::{constraints_at, field_name, format_name, method_name, method_place};
+use rohcfn_report::obstacles::{bracket_or, obstacle_words, place_of};
+use rohcfn_report::table::push_blanks;
 use std::alloc::{AllocError, Global};
 
 /// Adds a line for each, after a line feed: where in the profile it stands, the method and the format, and what stands against that. Each method that a field

@@ -4,7 +4,7 @@ ghost use Rattle.std.specs.Prelude.{◌≡◌, ◌++◌, codes, decimal, IfOk, s
 ghost use Rattle.fn_cert_text.specs.Text as text;
 ghost use Rattle.rohcfn_report.specs.CheckFaults as spec;
 
-use crate::names::{method_name, format_name, field_name, names};
+use crate::names::{field_name, format_name, method_name, names};
 use fn_cert::Direction;
 use fn_cert_text::CertificateError;
 use fn_expr::Side;

@@ -76,12 +76,7 @@ pub fn format_at(methods: &[Method], method: usize, format: usize) -> Option<&Fo
     methods.get(method)?.formats.get(format)
 }
 
-pub fn field_at(
-    methods: &[Method],
-    method: usize,
-    format: usize,
-    field: usize,
-) -> Option<&Field>
+pub fn field_at(methods: &[Method], method: usize, format: usize, field: usize) -> Option<&Field>
     ensures { option_copied result ≡ spec.field_at methods.now method format field }
 {
     format_at(methods, method, format)?.fields.get(field)
@@ -96,11 +91,7 @@ pub fn formats_of(methods: &[Method], method: usize) -> &[Format]
     }
 }
 
-pub fn constraints_at(
-    methods: &[Method],
-    method: usize,
-    format: usize,
-) -> &[Shared<Constraint>]
+pub fn constraints_at(methods: &[Method], method: usize, format: usize) -> &[Shared<Constraint>]
     ensures { result.now ≡ spec.constraints_at methods.now method format }
 {
     match format_at(methods, method, format) {

@@ -31,12 +31,7 @@ pub fn place_of(methods: &[Method], dead: DeadFormat) -> Span
 }
 
 /// The place of the first bracket of this side of the field, or another.
-pub fn bracket_or(
-    constraints: &[Shared<Constraint>],
-    field: usize,
-    side: Side,
-    other: Span,
-) -> Span
+pub fn bracket_or(constraints: &[Shared<Constraint>], field: usize, side: Side, other: Span) -> Span
     ensures { result ≡ unwrap_or (spec.first_bracket field side constraints.now) other }
 {
     match first_bracket(constraints, field, side) {

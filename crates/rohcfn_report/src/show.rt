@@ -47,11 +47,7 @@ fn listing(alloc: Global, octets: &[u8], profile: &Profile) -> Result<String, Al
 }
 
 /// The line of a profile that has no normal form.
-pub fn error_line(
-    alloc: Global,
-    octets: &[u8],
-    error: ReadError,
-) -> Result<String, AllocError>
+pub fn error_line(alloc: Global, octets: &[u8], error: ReadError) -> Result<String, AllocError>
     ensures { (top : List ℕ) → Refuses octets.now top error → IfOk result (λ text. IsFaultLine top octets.now (string_bytes text)) }
 {
     match error {

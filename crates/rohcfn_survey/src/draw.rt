@@ -6,9 +6,6 @@ ghost use Rattle.fn_fits.specs.Bounded.{sizes_at};
 ghost use Rattle.rohcfn_survey.specs.Draw as spec;
 ghost use Rattle.rohcfn_report.specs.Names as naming;
 
-use rohcfn_report::names::{field_at, field_name, format_name, formats_of, method_name};
-use rohcfn_report::show::error_line;
-use rohcfn_report::table::push_blanks;
 use fn_draw::{Column, columns_at};
 use fn_names::read;
 use fn_normal::{Bounds, Encoding, Format, FormatSizes, Method};
@@ -16,6 +13,9 @@ use fn_profile::Profile;
 use itoa::Buffer;
 use rohcfn_input::refusals::refusal;
 use rohcfn_input::status::{Answer, Status};
+use rohcfn_report::names::{field_at, field_name, format_name, formats_of, method_name};
+use rohcfn_report::show::error_line;
+use rohcfn_report::table::push_blanks;
 use std::alloc::{AllocError, Global};
 
 const RULE: &str = "  +---+---+---+---+---+---+---+---+\n";

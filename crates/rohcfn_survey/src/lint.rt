@@ -3,9 +3,6 @@
 ghost use Rattle.std.specs.Prelude.{◌≡◌, ◌++◌, IfOk, OnOk, string_bytes};
 ghost use Rattle.rohcfn_survey.specs.Lint as spec;
 
-use rohcfn_report::names::{format_name, method_name};
-use rohcfn_report::obstacles::{obstacle_words, place_of};
-use rohcfn_report::show::error_line;
 use crate::warnings::warnings;
 use fn_lint::{DeadFormat, dead_formats};
 use fn_names::read;
@@ -13,6 +10,9 @@ use fn_profile::Profile;
 use fn_source::line_column;
 use rohcfn_input::refusals::refusal;
 use rohcfn_input::status::{Answer, Status};
+use rohcfn_report::names::{format_name, method_name};
+use rohcfn_report::obstacles::{obstacle_words, place_of};
+use rohcfn_report::show::error_line;
 use std::alloc::{AllocError, Global};
 
 /// A line for each format of the profile by which no header can ever be packed, whatever the context holds: where in the profile the reason stands, and what it is. For a

@@ -3,8 +3,6 @@
 ghost use Rattle.std.specs.Prelude.{◌≡◌, ◌++◌, [], IfOk, OnOk, codes, map, string_bytes, true};
 ghost use Rattle.rohcfn_survey.specs.Warnings as spec;
 
-use rohcfn_report::candidates::{Counts, Factor, count_all, factors, format_count, method_count, write_steps};
-use rohcfn_report::names::{field_name, format_name, method_name, method_place};
 use fn_bits::lines::lines;
 use fn_cert::{CANDIDATE_LIMIT, Certificate, MethodPlans, Version};
 use fn_lint::{Misspelled, Needing, misspelled_names, needing_formats, unknown_paths};
@@ -12,6 +10,10 @@ use fn_normal::{Format, Method};
 use fn_profile::Profile;
 use fn_prover::{Unproved, prove};
 use fn_source::line_column;
+use rohcfn_report::candidates::{
+    Counts, Factor, count_all, factors, format_count, method_count, write_steps,
+};
+use rohcfn_report::names::{field_name, format_name, method_name, method_place};
 use sqlite_items::Items;
 use std::alloc::{AllocError, Global};
 

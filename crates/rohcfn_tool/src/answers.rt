@@ -15,11 +15,11 @@ use rohcfn_input::inputs::{BadLine, read_context, read_items, read_packets};
 use rohcfn_input::refusals::refusal;
 use rohcfn_input::status::Answer;
 use rohcfn_report::check::answer_check;
-use rohcfn_survey::draw::answer_draw;
-use rohcfn_survey::lint::answer_lint;
 use rohcfn_report::profile_and_certificate::{Judged, Origin, accept};
 use rohcfn_report::prove::answer_prove;
 use rohcfn_report::show::answer_listing;
+use rohcfn_survey::draw::answer_draw;
+use rohcfn_survey::lint::answer_lint;
 use rohcfn_words::words::{Command, Direction, Order};
 use std::alloc::{AllocError, Global};
 
