@@ -1,7 +1,7 @@
 //! What the choices, the asked values and the calls of a plan tell, before the plan is followed: often the header has other bits than the chosen values give
 //! it, or a filling inside can't have its digit.
 
-ghost use Rattle.std.specs.Prelude.{◌≡◌, ◌<◌, [], Some, ℕ, drop, length, IsTrue, IfOk, IfSome, IfNone, OnOk, slice_get};
+ghost use Rattle.std.specs.Prelude.{◌≡◌, ◌<◌, ◌≤◌, [], Some, ℕ, length, IsTrue, IfOk, IfSome, IfNone, OnOk, slice_get};
 ghost use Rattle.fn_cert.specs.declared.certificate.Step.TheVariants as steps;
 ghost use Rattle.fn_rules.specs.Counts.{ways};
 ghost use Rattle.fn_writer.specs.Foresight as spec;
