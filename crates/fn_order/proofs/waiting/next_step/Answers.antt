@@ -1,11 +1,19 @@
-use Rattle.std.proofs.Common.{◌≡◌, refl, sym, ◌∙◌, ap, ◌+◌, false, ◌∷◌, map, drop, cond, find}
-use Rattle.std.specs.Prelude.{Bool, Some}
-use Rattle.std.proofs.lemmas.List.{drop_more}
+use Rattle.std.proofs.Common.{refl, sym, ◌∙◌}
 use Rattle.std.proofs.lemmas.Option.{slice_get_read}
 use Rattle.fn_plans.specs.Knowing.{shows}
-use Rattle.fn_order.specs.Searching.{Ruled, ruled, gives_more}
-use Rattle.fn_order.proofs.SearchingAwaiting.{waits_more, passed_over}
+use Rattle.fn_order.proofs.SearchingAwaiting.{waits_more, found_here, none_here}
 use Rattle.fn_order.proofs.waiting.next_step.Goals as goal
+
+pub returns-then-is_due-clause-next : goal.returns-then-is_due-clause-next
+returns-then-is_due-clause-next c =
+    let format = c.args.format.now in
+    let xs = c.args.possible.now in
+    let i = c.loop-index.index in
+    let p = c.index-possible-index.result in
+    sym (found_here (shows c.args.known.now) format xs c.loop-index.waits.rests c.loop-index.waits.firsts i p c.loop-index.invariant c.loop-index-test.true c.index-possible-index.is (sym c.rest_of-rest.ensures.next ∙ (sym c.is_due.ensures ∙ c.if-is_due.true)))
+
+pub returns-clause-next : goal.returns-clause-next
+returns-clause-next c = sym (none_here (shows c.args.known.now) c.args.format.now c.args.possible.now c.loop-index.waits.rests c.loop-index.waits.firsts c.loop-index.index c.loop-index.invariant c.loop-index-test.false)
 
 pub loop-index-preserved : goal.loop-index-preserved
 loop-index-preserved c =
@@ -13,8 +21,6 @@ loop-index-preserved c =
     let xs = c.args.possible.now in
     let i = c.loop-index.index in
     let p = c.index-possible-index.result in
-    let more : drop i xs ≡ p ∷ drop (i + 1) xs = drop_more xs i p c.loop-index-test.true ∙ ap (λ z. z ∷ drop (i + 1) xs) (sym c.index-possible-index.is) in
-    let here = slice_get_read xs _ i p refl c.loop-index-test.true c.index-possible-index.is in (
-      passed_over (λ q. gives_more (shows c.args.known.now) q.rule) (map (ruled format) (drop i xs)) (ruled format p) (map (ruled format) (drop (i + 1) xs)) (ap (map (ruled format)) more) (sym c.is_next-is_next.ensures.next ∙ c.if-is_next.false) ∙ c.loop-index.invariant.0,
-      waits_more format xs c.loop-index.waits c.set.new.self i p c.is_next-is_next.new.waits_for c.loop-index.invariant.1 here c.is_next-is_next.ensures.waits c.set.ensures,
-    )
+    let here = slice_get_read xs _ i p refl c.loop-index-test.true c.index-possible-index.is in
+    waits_more (shows c.args.known.now) format xs c.loop-index.waits.rests c.set.new.self c.loop-index.waits.firsts c.note_first.new.firsts i p c.rest_of-rest.result c.loop-index.invariant here c.rest_of-rest.ensures.rests
+    (c.rest_of-rest.ensures.still (sym c.is_due.ensures ∙ c.if-is_due.false)) c.set.ensures c.note_first.ensures.each c.note_first.ensures.noted
