@@ -29,6 +29,7 @@ pub(crate) fn begin_level<'a>(
     Ok(Sheet {
         format,
         arguments: desk.arguments,
+        header: desk.header,
         fields,
         ahead: from,
     })

@@ -39,7 +39,8 @@ pub fn sketch_item(
     item: &Item,
     number: u64,
 ) -> Result<Option<Filling>, AllocError> {
-    let desk = top(accepted, context, item.asked.as_slice());
+    let mut desk = top(accepted, context, item.asked.as_slice());
+    desk.header = Some(&item.header);
     let source = Cursor::new(&item.header);
     drawn(alloc, &desk, Goal::Write(number), &source)
 }
@@ -60,6 +61,7 @@ fn top<'a>(accepted: &'a Accepted, context: &'a Context, asked: &'a [AskedValue]
         arguments: &[],
         path: "",
         asked,
+        header: None,
     }
 }
 
@@ -231,6 +233,7 @@ fn draw_inside<'x>(
         arguments,
         path,
         asked: &[],
+        header: None,
     };
     if inside.takes {
         draw(depth - 1, alloc, &desk, goal, source, sheet.ahead)

@@ -8,12 +8,13 @@ use fn_normal::Format;
 use sqlite_items::{Items, at};
 use std::alloc::{AllocError, Global};
 
-/// A level that is being drawn: its format, the values of the parameters, the fields so far, and how many places after the cursor's what is next of the source
-/// stands. Of a side whose length alone is known there are so many zeros.
+/// A level that is being drawn: its format, the values of the parameters, its header where that is known from the start, the fields so far, and how many places
+/// after the cursor's what is next of the source stands. Of a side whose length alone is known there are so many zeros.
 #[derive(Drop)]
 pub(crate) struct Sheet<'a> {
     pub(crate) format: &'a Format,
     pub(crate) arguments: &'a [i128],
+    pub(crate) header: Option<&'a Bits>,
     pub(crate) fields: Vec<FilledField>,
     pub(crate) ahead: usize,
 }

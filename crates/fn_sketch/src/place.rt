@@ -3,7 +3,7 @@
 use crate::no_sketch::Stop;
 use fn_accepted::{Accepted, Picked};
 use fn_acts::ActList;
-use fn_bits::Cursor;
+use fn_bits::{Bits, Cursor};
 use fn_context::Context;
 use fn_expr::Side;
 use fn_filling::AskedValue;
@@ -12,7 +12,7 @@ use sqlite_items::at;
 use std::alloc::Global;
 
 /// Where a method is drawn: under the values of its arguments, below the path of the field that the filling fills. In writing it has the values of its asked
-/// fields.
+/// fields, and of the top its header.
 #[derive(Clone, Copy)]
 pub(crate) struct Desk<'a> {
     pub(crate) accepted: &'a Accepted,
@@ -21,6 +21,7 @@ pub(crate) struct Desk<'a> {
     pub(crate) arguments: &'a [i128],
     pub(crate) path: &'a str,
     pub(crate) asked: &'a [AskedValue],
+    pub(crate) header: Option<&'a Bits>,
 }
 
 /// What a drawing goes by: the packed bits, or the header and the number of a candidate. Their source is the cursor's bits, so many places after its own.

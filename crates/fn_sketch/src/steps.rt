@@ -4,7 +4,7 @@ use crate::beginning::spelled;
 use crate::level::Sheet;
 use crate::no_sketch::Stop;
 use crate::place::{Desk, Digits};
-use crate::values::{number_of, whole_of};
+use crate::values::{known_whole, number_of, whole_of};
 use fn_acts::{Act, Count};
 use fn_bits::{Bits, Cursor};
 use fn_cert::Step;
@@ -329,19 +329,31 @@ fn lowered(
 /// The packed side of a checksum.
 #[inline(never)]
 fn summed(alloc: Global, sheet: &Sheet<'_>, crc: &CrcArguments) -> Result<Bits, Stop> {
+    match crc.subject {
+        Subject::Field(field) => sum_of(alloc, sheet, crc, sheet.bits(field, crc.side)?),
+        Subject::This => match known_whole(sheet, crc.side) {
+            Some(whole) => sum_of(alloc, sheet, crc, whole),
+            None => match whole_of(alloc, sheet, crc.side) {
+                Some(whole) => sum_of(alloc, sheet, crc, &whole),
+                None => Err(Stop::Nowhere),
+            },
+        },
+    }
+}
+
+/// The packed side of a checksum over these bits.
+fn sum_of(
+    alloc: Global,
+    sheet: &Sheet<'_>,
+    crc: &CrcArguments,
+    covered: &Bits,
+) -> Result<Bits, Stop> {
     let bits = reckoned(alloc, sheet, &crc.bits)?;
     let polynomial = reckoned(alloc, sheet, &crc.polynomial)?;
     let initial = reckoned(alloc, sheet, &crc.initial)?;
     let length = reckoned(alloc, sheet, &crc.length)?;
-    let covered = match crc.subject {
-        Subject::Field(field) => sheet.bits(field, crc.side)?.copy(alloc)?,
-        Subject::This => match whole_of(alloc, sheet, crc.side) {
-            Some(whole) => whole,
-            None => return Err(Stop::Nowhere),
-        },
-    };
     let none = Bits::new(alloc);
-    match crc_down(alloc, bits, polynomial, initial, &covered, length, &none)? {
+    match crc_down(alloc, bits, polynomial, initial, covered, length, &none)? {
         Some(sum) => Ok(sum),
         None => Err(Stop::Nowhere),
     }

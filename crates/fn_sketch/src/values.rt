@@ -67,14 +67,33 @@ fn attribute_value(alloc: Global, sheet: &Sheet<'_>, attribute: Attribute) -> Op
             Err(_) => None,
         },
         (Subject::This, Measure::Value) => {
-            Some(whole_of(alloc, sheet, attribute.side)?.value()? as i128)
+            Some(whole_value(alloc, sheet, attribute.side)? as i128)
         }
         (Subject::This, Measure::Length) => Some(length_of(sheet, attribute.side) as i128),
     }
 }
 
+/// The side of the whole, where it is known from the start.
+pub(crate) fn known_whole<'a>(sheet: &Sheet<'a>, side: Side) -> Option<&'a Bits> {
+    match side {
+        Side::Uncompressed => sheet.header,
+        Side::Compressed => None,
+    }
+}
+
+/// The number that the side of the whole spells, as far as it was drawn.
+fn whole_value(alloc: Global, sheet: &Sheet<'_>, side: Side) -> Option<u64> {
+    match known_whole(sheet, side) {
+        Some(whole) => whole.value(),
+        None => whole_of(alloc, sheet, side)?.value(),
+    }
+}
+
 /// How many bits the side of the whole has, as far as they were drawn.
 fn length_of(sheet: &Sheet<'_>, side: Side) -> usize {
+    if let Some(whole) = known_whole(sheet, side) {
+        return whole.len();
+    }
     let mut count: usize = 0;
     match side {
         Side::Uncompressed => {
