@@ -1,11 +1,12 @@
 //! The text of a certificate.
 
-ghost use Rattle.std.specs.Prelude.{◌≡◌, IfOk, flat_map, map, slice_get, string_bytes};
+ghost use Rattle.std.specs.Prelude.{◌≡◌, ◌++◌, ◌∷◌, [], IfOk, OnOk, codes, decimal, flat_map, map, slice_get, string_bytes};
 ghost use Rattle.fn_cert_text.specs.Text as spec;
 
 use fn_cert::{Certificate, FormatPlans, MethodPlans, Node, Plans, Step, Version};
 use fn_expr::Side;
 use fn_normal::Name;
+use itoa::Buffer;
 use std::alloc::{AllocError, Global};
 
 /// The text of a certificate: its version, of each method that it names the tree and of each format that it names there the plans, and `end`, each
@@ -183,44 +184,71 @@ fn steps_text(alloc: Global, fields: &[Name], steps: &[Step]) -> Result<String, 
 {
     let mut output = String::new(alloc);
     for step in steps {
-        let line = step_text(alloc, name_at(fields, step.field()), *step)?;
-        output.push_str(line.as_str())?;
+        push_step(name_at(fields, step.field()), *step, &mut output)?;
     }
     Ok(output)
 }
 
-/// A step, by the name of its field.
-#[tactic(auto, using(crate::proofs::TextLines::texts_joined))]
-fn step_text(alloc: Global, name: &str, step: Step) -> Result<String, AllocError>
-    ensures { IfOk result (λ text. string_bytes text ≡ spec.ended (spec.step_words name.now step)) }
+/// Appends the line of a step, by the name of its field.
+fn push_step(name: &str, step: Step, output: &mut String) -> Result<(), AllocError>
+    ensures { OnOk result (string_bytes output.new ≡ string_bytes output.old ++ spec.ended (spec.step_words name.now step)) }
 {
     match step {
-        Step::Take(_) => format!(in alloc; "take {name}\n"),
-        Step::Call(_) => format!(in alloc; "call {name}\n"),
-        Step::LibraryUp(_) => format!(in alloc; "library {name} up\n"),
-        Step::LibraryDown(_) => format!(in alloc; "library {name} down\n"),
-        Step::MethodLength(_, side) => method_length(alloc, name, side_word(side)),
+        Step::Take(_) => push_named("take ", name, "\n", output),
+        Step::Call(_) => push_named("call ", name, "\n", output),
+        Step::LibraryUp(_) => push_named("library ", name, " up\n", output),
+        Step::LibraryDown(_) => push_named("library ", name, " down\n", output),
+        Step::MethodLength(_, side) => push_named("length ", name, method_words(side), output),
         Step::ConstraintLength(_, side, constraint) => {
-            let side = side_word(side);
-            format!(in alloc; "length {name} {side} {constraint}\n")
+            push_numbered("length ", name, side_words(side), constraint, output)
         }
-        Step::Solve(_, constraint) => format!(in alloc; "solve {name} {constraint}\n"),
-        Step::Choose(_) => format!(in alloc; "choose {name}\n"),
-        Step::Ask(_) => format!(in alloc; "ask {name}\n"),
+        Step::Solve(_, constraint) => push_numbered("solve ", name, " ", constraint, output),
+        Step::Choose(_) => push_named("choose ", name, "\n", output),
+        Step::Ask(_) => push_named("ask ", name, "\n", output),
     }
 }
 
-fn method_length(alloc: Global, name: &str, side: &str) -> Result<String, AllocError>
-    ensures { IfOk result (λ text. string_bytes text ≡ spec.ended (spec.method_length name.now side.now)) }
+/// Appends a name between two texts.
+fn push_named(before: &str, name: &str, after: &str, output: &mut String) -> Result<(), AllocError>
+    ensures { OnOk result (string_bytes output.new ≡ string_bytes output.old ++ (before.now ++ (name.now ++ after.now))) }
 {
-    format!(in alloc; "length {name} {side} method\n")
+    output.push_str(before)?;
+    output.push_str(name)?;
+    output.push_str(after)
 }
 
-fn side_word(side: Side) -> &'static str
-    ensures { result.now ≡ spec.side_word side }
+/// The same, and then a number and a line feed.
+fn push_numbered(
+    before: &str,
+    name: &str,
+    after: &str,
+    number: usize,
+    output: &mut String,
+) -> Result<(), AllocError>
+    ensures { OnOk result (string_bytes output.new ≡ string_bytes output.old ++ (before.now ++ (name.now ++ (after.now ++ (decimal number ++ 10 ∷ []))))) }
+{
+    push_named(before, name, after, output)?;
+    let mut buffer = Buffer::new();
+    output.push_str(buffer.format(number))?;
+    output.push_str("\n")
+}
+
+/// What follows the name where the library method gives the length of a side.
+fn method_words(side: Side) -> &'static str
+    ensures { result.now ≡ codes " " ++ spec.side_word side ++ codes " method\n" }
 {
     match side {
-        Side::Uncompressed => "U",
-        Side::Compressed => "C",
+        Side::Uncompressed => " U method\n",
+        Side::Compressed => " C method\n",
+    }
+}
+
+/// What stands between the name and the number of a constraint that gives the length of a side.
+fn side_words(side: Side) -> &'static str
+    ensures { result.now ≡ codes " " ++ spec.side_word side ++ codes " " }
+{
+    match side {
+        Side::Uncompressed => " U ",
+        Side::Compressed => " C ",
     }
 }
