@@ -2,3 +2,4 @@ pub mod EntriesOverrides
 pub mod TextLines
 pub mod Paths
 pub mod EntriesReadings
+mod EntriesInOrder

@@ -1,5 +1,5 @@
 -- A context: the bits that fields had last, by their paths, in order.
-use Rattle.std.specs.Prelude.{ℕ, Bool, List, [], ◌∷◌, Option, fold, if◌then◌else◌}
+use Rattle.std.specs.Prelude.{◌≡◌, ℕ, Bool, List, [], ◌∷◌, ◌++◌, Option, fold, map, if◌then◌else◌}
 use Rattle.std.specs.List.{IsDistinct}
 use Rattle.std.specs.Map.{lookup, keys_of}
 use Rattle.std.specs.Str.{bytes_eq}
@@ -20,6 +20,12 @@ AreDistinct es = IsDistinct bytes_eq (keys_of es)
 abbrev pub with_entry : Entries → List ℕ → List Bool → Entries
 with_entry [] path bits = (path, bits) ∷ []
 with_entry (e ∷ es) path bits = if bytes_eq path e.0 then (e.0, bits) ∷ es else e ∷ with_entry es path bits
+
+-- these bits are those of entries whose paths come first among the paths
+pub record IsFront (paths : List (List ℕ)) (values : List (List Bool)) (es : Entries) : Type 0 where
+  pub values_are : values ≡ map (λ e. e.1) es
+  pub rest : List (List ℕ)
+  pub paths_are : paths ≡ keys_of es ++ rest
 
 -- the entries with each of others in turn
 abbrev pub overridden : Entries → Entries → Entries

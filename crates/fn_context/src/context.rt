@@ -1,14 +1,16 @@
-ghost use Rattle.std.specs.Prelude.{◌≡◌, ◌+◌, ◌<◌, ◌≤◌, [], length, map, slice_get, IfOk, IsOk, IsSomeAnd, IsTrue, OnOk, OnErr, string_bytes};
+ghost use Rattle.std.specs.Prelude.{◌≡◌, ◌+◌, ◌<◌, ◌≤◌, Some, [], length, map, slice_get, IfOk, IfSome, IsOk, IsSomeAnd, IsTrue, OnOk, OnErr, string_bytes};
 ghost use Rattle.std.specs.String.{string_eq};
-ghost use Rattle.indexmap.specs.IndexMap.{IsUnique, insert_entry, spare};
+ghost use Rattle.indexmap.specs.IndexMap.{IsUnique, insert_entry, set_value_at, spare};
 ghost use Rattle.std.specs.Option.{option_copied};
-ghost use Rattle.fn_context.specs.Entries.{AreDistinct, bits_at, overridden, with_entry};
+ghost use Rattle.std.specs.Map.{keys_of};
+ghost use Rattle.fn_context.specs.Entries.{AreDistinct, Entries, IsFront, bits_at, overridden, with_entry};
 
 use crate::path::are_same;
 use fn_bits::Bits;
 use indexmap::IndexMap;
 use std::alloc::{AllocError, Global};
 use std::marker::Model;
+use std::mem::swap;
 
 /// How many entries are looked through for a path: more are looked up by its hash, which costs as much as some comparisons.
 const FEW: usize = 4;
@@ -66,6 +68,26 @@ impl Context {
         None
     }
 
+    /// The path of the entry at a place, the first at 0, or `None` past the last.
+    pub fn path_at(&self, place: usize) -> Option<&str>
+        ensures { IfSome result (λ path. slice_get (keys_of self.now) place ≡ Some path.now) }
+    {
+        match self.kept.get_index(place) {
+            Some((path, _)) => Some(path.as_str()),
+            None => None,
+        }
+    }
+
+    /// Puts bits in the first entries, in their order. It takes no memory.
+    pub fn put_in_order(&mut self, values: Vec<Bits>)
+        ensures { (es : Entries) → IsFront (keys_of self.old) values.items es → self.new ≡ overridden self.old es }
+    {
+        let mut values = values;
+        for place in 0..values.len() {
+            exchange(&mut self.kept, place, &mut values[place]);
+        }
+    }
+
     /// Puts bits at each path in turn: a path that is there keeps its place, a new one goes last, and of two entries for one
     /// path the later counts. Where memory runs out the context is as before.
     pub fn replace(&mut self, entries: Vec<(String, Bits)>) -> Result<(), AllocError>
@@ -99,6 +121,17 @@ impl Context {
             kept.insert(String::from_str(alloc, path.as_str())?, bits.copy(alloc)?)?;
         }
         Ok(Context { kept })
+    }
+}
+
+/// Puts bits in the entry of that place, if there is one, and gives those that were there.
+fn exchange(kept: &mut IndexMap<String, Bits>, place: usize, bits: &mut Bits)
+    requires unique { IsUnique string_eq kept.old }
+    ensures entries { kept.new.entries ≡ set_value_at kept.old.entries place bits.old }
+    ensures unique { IsUnique string_eq kept.new }
+{
+    if let Some(found) = kept.get_index_mut(place) {
+        swap(found, bits);
     }
 }
 

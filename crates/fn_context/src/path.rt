@@ -26,8 +26,30 @@ fn is_name_octet(octet: u8) -> bool
     octet.is_ascii_alphanumeric() || octet == b'_'
 }
 
-/// Whether two names or paths have the same octets. One by one that is less work than the comparison of texts, since they are short.
+/// Whether two names or paths have the same octets: eight at a time, and then one by one. That is less work than the comparison of texts, since they are short.
 pub fn are_same(octets: &[u8], others: &[u8]) -> bool
+    ensures { IsTrue result ↔ (octets.now ≡ others.now) }
+{
+    if octets.len() != others.len() {
+        return false;
+    }
+    let mut rest = octets;
+    let mut other = others;
+    while let Some((eight, more)) = rest.split_first_chunk::<8>() {
+        let Some((other_eight, beyond)) = other.split_first_chunk::<8>() else {
+            return false;
+        };
+        if *eight != *other_eight {
+            return false;
+        }
+        rest = more;
+        other = beyond;
+    }
+    are_few_same(rest, other)
+}
+
+/// The same of a few octets.
+fn are_few_same(octets: &[u8], others: &[u8]) -> bool
     ensures { IsTrue result ↔ (octets.now ≡ others.now) }
 {
     if octets.len() != others.len() {

@@ -3,7 +3,7 @@ use Rattle.std.specs.Prelude.{ℕ, Bool, List, [], ◌∷◌, ◌++◌, Option, 
 use Rattle.std.specs.List.{flat_map}
 use Rattle.fn_normal.specs.declared.profile.Part.{Part}
 use Rattle.fn_normal.specs.declared.profile.Part.TheVariants.{Header, Control, Local}
-use Rattle.fn_context.specs.Entries.{Entries, overridden}
+use Rattle.fn_context.specs.Entries.{Entries, IsFront, overridden}
 use Rattle.fn_filling.specs.declared.filling.Filling.{Filling}
 use Rattle.fn_filling.specs.declared.filling.FilledField.TheOpen.{FilledField-F, Filling-F}
 use Rattle.fn_filling.specs.declared.filling.FilledField.TheFolds.{fold-Filling}
@@ -47,6 +47,10 @@ entries_below = fold-Filling (Path → Entries) (Path → Entries) field_entries
 
 abbrev pub entries : Filling → Entries
 entries f = entries_below f []
+
+-- bits that were those of the first entries of a context, with more behind them, are so again
+abbrev pub GoesOn : List Path → List (List Bool) → List (List Bool) → Entries → Type 0
+GoesOn paths old new es = (before : Entries) → IsFront paths old before → IsFront paths new (before ++ es)
 
 -- the context after a filling: of two entries for one path the later counts, and others stay
 abbrev pub next : Entries → Filling → Entries

@@ -1,14 +1,21 @@
 //! What a filling leaves in the context.
 
-ghost use Rattle.std.specs.Prelude.{◌≡◌, ◌++◌, map, IfOk, OnOk, OnErr, string_bytes};
-ghost use Rattle.fn_filling.specs.Entries.{below, own_entry, entries, entries_below, next};
+ghost use Rattle.std.specs.Prelude.{◌≡◌, ◌++◌, [], map, IfOk, IfSome, IsTrue, OnOk, OnErr, string_bytes};
+ghost use Rattle.std.specs.Map.{keys_of};
+ghost use Rattle.fn_context.specs.Entries.{IsFront};
+ghost use Rattle.fn_filling.specs.Entries.{Path, below, own_entry, entries, entries_below, next, GoesOn};
+ghost use Rattle.fn_filling.specs.Laws.{entries_at};
 
-use crate::filling::Filling;
+use crate::filling::{FilledField, Filling};
 use fn_bits::Bits;
 use fn_context::Context;
+use fn_context::path::are_same;
 use fn_normal::Part;
 use std::alloc::{AllocError, Global};
 use std::marker::Model;
+
+/// For how many bits of entries room is made at once, at most: a context may have many more entries than a filling.
+const MANY: usize = 128;
 
 impl Filling {
     ghost use Rattle.std.specs.Prelude.{◌≡◌, map, IfOk, string_bytes};
@@ -140,12 +147,116 @@ fn add_last(
     }
 }
 
+/// The bits of the entries that a filling leaves, where the first entries of the context have their paths, in their order. So they are put there without a path.
+fn values_in_order(
+    alloc: Global,
+    context: &Context,
+    filling: &Filling,
+) -> Result<Option<Vec<Bits>>, AllocError>
+    ensures { IfOk result (λ o. IfSome o (λ values. IsFront (keys_of context.now) values.items (entries filling.now))) }
+{
+    let mut values = Vec::with_capacity(alloc, context.len().min(MANY))?;
+    if !add_in_order(alloc, &mut values, context, filling, "")? {
+        return Ok(None);
+    }
+    Ok(Some(values))
+}
+
+/// Adds the bits of the entries of a filling below a path, where those of the context that come next have their paths. Whether they have.
+fn add_in_order(
+    alloc: Global,
+    values: &mut Vec<Bits>,
+    context: &Context,
+    filling: &Filling,
+    path: &str,
+) -> Result<bool, AllocError>
+    ensures { IfOk result (λ is. IsTrue is → GoesOn (keys_of context.now) values.old.items values.new.items (entries_below filling.now path.now)) }
+{
+    for field in filling.fields.as_slice() {
+        if leaves_nothing(field) {
+            continue;
+        }
+        let Some(here) = add_next(
+            alloc,
+            values,
+            context,
+            field.declared.part,
+            path,
+            field.declared.name.as_str(),
+            &field.uncompressed,
+        )?
+        else {
+            return Ok(false);
+        };
+        if let Some(inner) = &field.inner {
+            if !add_in_order(alloc, values, context, inner, here)? {
+                return Ok(false);
+            }
+        }
+    }
+    Ok(true)
+}
+
+/// Whether a field leaves no entry: a local one with no filling inside.
+fn leaves_nothing(field: &FilledField) -> bool
+    ensures { IsTrue result → (path : Path) → entries_at path field.now ≡ [] }
+{
+    match field.declared.part {
+        Part::Header | Part::Control => false,
+        Part::Local => field.inner.is_none(),
+    }
+}
+
+/// Adds the bits of the entry that a field of that part and name leaves below a path, where the context's entry that comes next has this path, which is given.
+fn add_next<'a>(
+    alloc: Global,
+    values: &mut Vec<Bits>,
+    context: &'a Context,
+    part: Part,
+    path: &str,
+    name: &str,
+    bits: &Bits,
+) -> Result<Option<&'a str>, AllocError>
+    ensures { IfOk result (λ o. IfSome o (λ here. (here.now ≡ below path.now name.now) × GoesOn (keys_of context.now) values.old.items values.new.items (own_entry part here.now bits.now))) }
+{
+    if let Part::Local = part {
+        return Ok(None);
+    }
+    let Some(here) = context.path_at(values.len()) else {
+        return Ok(None);
+    };
+    if !is_below(here, path, name) {
+        return Ok(None);
+    }
+    values.push(bits.copy(alloc)?)?;
+    Ok(Some(here))
+}
+
+/// Whether a path is that of a field of that name below another.
+fn is_below(here: &str, path: &str, name: &str) -> bool
+    ensures { IsTrue result → here.now ≡ below path.now name.now }
+{
+    let octets = here.as_bytes();
+    if path.is_empty() {
+        return are_same(octets, name.as_bytes());
+    }
+    let front = path.len();
+    if front >= octets.len() || octets[front] != b'.' {
+        return false;
+    }
+    are_same(&octets[front + 1..], name.as_bytes()) && are_same(&octets[..front], path.as_bytes())
+}
+
 /// Puts what a filling leaves into the context: a path that is there keeps its place, a new one goes last, and of two entries
 /// for one path the later counts. Where memory runs out the context is as before.
 pub fn advance(alloc: Global, context: &mut Context, filling: &Filling) -> Result<(), AllocError>
     ensures ok { OnOk result (context.new ≡ next context.old filling.now) }
     ensures err { OnErr result (context.new ≡ context.old) }
 {
+    if let Some(values) = values_in_order(alloc, context, filling)? {
+        context.put_in_order(values);
+        return Ok(());
+    }
     let entries = filling.entries(alloc)?;
     context.replace(entries)
 }

@@ -7,11 +7,15 @@ ghost use Rattle.fn_filling.specs.Entries.{below};
 ghost use Rattle.fn_filling.specs.Fillings.{header, packed};
 ghost use Rattle.fn_fits.specs.Fits as spec;
 
+use arrayvec::ArrayString;
 use fn_bits::{Bits, BitsError, Cursor};
 use fn_context::Context;
 use fn_filling::{Filling, below};
 use fn_normal::{Field, Part};
 use std::alloc::{AllocError, Global};
+
+/// The longest path that is put together without an allocation.
+const SHORT: usize = 64;
 
 /// The two sides of a whole filling: its header and its packed bits.
 #[derive(Drop)]
@@ -86,7 +90,7 @@ pub fn reference_of<'a>(context: &'a Context, field: &'a Field, path: &str) -> O
     }
 }
 
-/// The reference of a field below a path, which is empty at the top, likewise. No path is made for a field of the top. The error is want of memory.
+/// The reference of a field below a path, which is empty at the top, likewise. No path is made for a field of the top, and a short one takes no memory. The error is want of memory.
 pub fn reference_below<'a>(
     alloc: Global,
     context: &'a Context,
@@ -98,6 +102,13 @@ pub fn reference_below<'a>(
     let name = field.declared.name.as_str();
     if path.is_empty() {
         return Ok(reference_of(context, field, name));
+    }
+    if path.len().saturating_add(name.len()) < SHORT {
+        let mut here = ArrayString::<SHORT>::new();
+        here.push_str(path);
+        here.push('.');
+        here.push_str(name);
+        return Ok(reference_of(context, field, here.as_str()));
     }
     let here = below(alloc, path, name)?;
     Ok(reference_of(context, field, here.as_str()))

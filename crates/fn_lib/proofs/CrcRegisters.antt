@@ -1,9 +1,12 @@
-use Rattle.std.proofs.Common.{◌≡◌, ℕ, suc, ◌+◌, ◌-◌, ◌*◌, ◌/◌, ◌%◌, ◌^◌, ◌<◌, ◌≤◌, ◌==◌, Bool, true, false, cond, List, [], ◌∷◌, ◌++◌, length, take, drop, replicate, sym, ap, ◌∙◌, arith}
+use Rattle.std.proofs.Common.{◌≡◌, refl, ℕ, zero, suc, ◌+◌, ◌-◌, ◌*◌, ◌/◌, ◌%◌, ◌^◌, ◌<◌, ◌≤◌, ◌==◌, Bool, true, false, cond, List, [], ◌∷◌, ◌++◌, length, take, drop, replicate, sym, ap, ◌∙◌, arith}
 use Rattle.std.specs.Prelude.{fold, reverse, bit_xor, unwrap_or, Option, Some, None}
 use Rattle.std.specs.Option.{SomeIff}
 use Rattle.std.proofs.lemmas.List.{reverse-append, length-take-le, length-drop, drop-drop}
 use Rattle.std.proofs.lemmas.List.Sums.{fold-append}
-use Rattle.std.proofs.lemmas.Nat.{xor_lt, shr-shr}
+use Rattle.std.specs.Int.Bits.{xor_assoc, xor_self, xor_zero_r}
+use Rattle.std.proofs.lemmas.Nat.{xor_lt, xor_comm, xor_mod, xor_shr, shr-shr}
+use Rattle.std.proofs.Math.Nat.{div-eq_of_lt}
+use Rattle.std.proofs.Math.Pow.{pow_mono}
 use Rattle.fn_bits.specs.Number.{num, enc, bit}
 use Rattle.fn_bits.proofs.Numbers.{enc-num, enc_nil}
 use Rattle.fn_bits.proofs.NumberWindows.{part_padded}
@@ -15,22 +18,70 @@ unfolding enc
 turned_more n v = reverse-append (enc n (v / 2)) ((v % 2 == 1) ∷ [])
 
 -- the register before an octet's bits, after one more of them, and after all
-pub octet_first : (poly register o : ℕ) → fold (crc_step poly) register (reverse (enc (8 - 0) (o / 2 ^ 0))) ≡ fold (crc_step poly) register (reverse (enc 8 o))
+octet_first : (poly register o : ℕ) → fold (crc_step poly) register (reverse (enc (8 - 0) (o / 2 ^ 0))) ≡ fold (crc_step poly) register (reverse (enc 8 o))
 octet_first poly register o =
     let e : o / 1 ≡ o = omega arith in
     ap (λ v. fold (crc_step poly) register (reverse (enc 8 v))) e
 
-pub octet_more : (poly register new o k : ℕ) → k < 8 → new ≡ crc_step poly register ((o / 2 ^ k) % 2 == 1)
+octet_more : (poly register new o k : ℕ) → k < 8 → new ≡ crc_step poly register ((o / 2 ^ k) % 2 == 1)
     → fold (crc_step poly) new (reverse (enc (8 - (k + 1)) (o / 2 ^ (k + 1)))) ≡ fold (crc_step poly) register (reverse (enc (8 - k) (o / 2 ^ k)))
 octet_more poly register new o k h is =
     let n : 8 - k ≡ suc (8 - (k + 1)) = omega arith in
     (λ i. fold (crc_step poly) (is i) (reverse (enc (8 - (k + 1)) (sym (shr-shr o k 1) i))))
     ∙ sym (ap (λ m. fold (crc_step poly) register (reverse (enc m (o / 2 ^ k)))) n ∙ ap (fold (crc_step poly) register) (turned_more (8 - (k + 1)) (o / 2 ^ k)))
 
-pub octet_last : (poly register o k : ℕ) → 8 ≤ k → fold (crc_step poly) register (reverse (enc (8 - k) (o / 2 ^ k))) ≡ register
+octet_last : (poly register o k : ℕ) → 8 ≤ k → fold (crc_step poly) register (reverse (enc (8 - k) (o / 2 ^ k))) ≡ register
 octet_last poly register o k h =
     let z : 8 - k ≡ 0 = omega arith in
     ap (λ m. fold (crc_step poly) register (reverse (enc m (o / 2 ^ k)))) z ∙ ap (λ l. fold (crc_step poly) register (reverse l)) (enc_nil (o / 2 ^ k))
+
+-- ---- the register with the bits of an octet that are left over it
+
+-- one more of them
+mixed_step : (poly mixed left : ℕ) → bit_xor (crc_step poly mixed false) (left / 2) ≡ crc_step poly (bit_xor mixed left) (left % 2 == 1)
+mixed_step poly mixed left = go (mixed % 2) (left % 2) refl refl (omega arith) (omega arith)
+  where
+    low : ℕ → ℕ
+    low d = bit_xor (cond (d == 0) (mixed / 2) (bit_xor (mixed / 2) poly)) (left / 2)
+
+    high : ℕ → ℕ → ℕ → ℕ
+    high t e y = cond (t == bit (e == 1)) y (bit_xor y poly)
+
+    turned : bit_xor (bit_xor (mixed / 2) poly) (left / 2) ≡ bit_xor (bit_xor (mixed / 2) (left / 2)) poly
+    turned = xor_assoc (mixed / 2) poly (left / 2) ∙ ap (bit_xor (mixed / 2)) (xor_comm poly (left / 2)) ∙ sym (xor_assoc (mixed / 2) (left / 2) poly)
+
+    cases : (d e : ℕ) → d < 2 → e < 2 → low d ≡ high (bit_xor d e) e (bit_xor (mixed / 2) (left / 2))
+    cases zero zero p q = refl
+    cases zero (suc zero) p q = refl
+    cases zero (suc (suc e)) p q = absurd (omega arith)
+    cases (suc zero) zero p q = turned
+    cases (suc zero) (suc zero) p q = turned
+    cases (suc zero) (suc (suc e)) p q = absurd (omega arith)
+    cases (suc (suc d)) e p q = absurd (omega arith)
+
+    go : (d e : ℕ) → mixed % 2 ≡ d → left % 2 ≡ e → d < 2 → e < 2 → low (mixed % 2) ≡ high (bit_xor mixed left % 2) (left % 2) (bit_xor mixed left / 2)
+    go d e is and p q =
+        ap low is ∙ cases d e p q ∙ (λ i. high (sym (xor_mod mixed left 1 ∙ (λ j. bit_xor (is j) (and j))) i) (sym and i) (sym (xor_shr mixed left 1) i))
+
+pub mixed_first : (poly before o wide : ℕ) → wide ≡ o → fold (crc_step poly) (bit_xor (bit_xor before wide) (o / 2 ^ 0)) (reverse (enc (8 - 0) (o / 2 ^ 0))) ≡ fold (crc_step poly) before (reverse (enc 8 o))
+mixed_first poly before o wide is =
+    let whole : o / 1 ≡ o = omega arith in
+    let same : bit_xor (bit_xor before wide) (o / 1) ≡ before =
+    (λ i. bit_xor (bit_xor before (is i)) (whole i)) ∙ xor_assoc before o o ∙ ap (bit_xor before) (xor_self o) ∙ xor_zero_r before in
+    ap (λ r. fold (crc_step poly) r (reverse (enc 8 (o / 1)))) same ∙ octet_first poly before o
+
+pub mixed_more : (poly mixed new o k : ℕ) → k < 8 → new ≡ crc_step poly mixed false
+    → fold (crc_step poly) (bit_xor new (o / 2 ^ (k + 1))) (reverse (enc (8 - (k + 1)) (o / 2 ^ (k + 1)))) ≡ fold (crc_step poly) (bit_xor mixed (o / 2 ^ k)) (reverse (enc (8 - k) (o / 2 ^ k)))
+mixed_more poly mixed new o k h is =
+    octet_more poly (bit_xor mixed (o / 2 ^ k)) (bit_xor new (o / 2 ^ (k + 1))) o k h
+    (ap (λ z. bit_xor z (o / 2 ^ (k + 1))) is ∙ ap (bit_xor (crc_step poly mixed false)) (sym (shr-shr o k 1)) ∙ mixed_step poly mixed (o / 2 ^ k))
+
+pub mixed_last : (poly mixed o k : ℕ) → 8 ≤ k → o < 2 ^ 8 → fold (crc_step poly) (bit_xor mixed (o / 2 ^ k)) (reverse (enc (8 - k) (o / 2 ^ k))) ≡ mixed
+mixed_last poly mixed o k h small =
+    let none : o / 2 ^ k ≡ 0 = div-eq_of_lt (omega (arith, small, pow_mono h)) in
+    octet_last poly (bit_xor mixed (o / 2 ^ k)) o k h ∙ ap (bit_xor mixed) none ∙ xor_zero_r mixed
+
+-- ---- octets
 
 -- what `octet` answers, where there is an octet
 pub octet_there : (r : Option ℕ) (xs : List Bool) (place o : ℕ) → 8 * place < length xs → SomeIff r (8 * place < length xs) (num (take 8 (drop (8 * place) (xs ++ replicate 8 false)))) → o ≡ unwrap_or r 0 → o ≡ num (take 8 (drop (8 * place) (xs ++ replicate 8 false)))

@@ -1,5 +1,5 @@
 //! The method that sends a checksum, and its register.
-ghost use Rattle.std.specs.Prelude.{◌≡◌, ℕ, ◌+◌, ◌%◌, ◌^◌, ◌<◌, ◌≤◌, ◌↔◌, Bool, List, Option, length, reverse, take, drop, fold, IsTrue, IfOk, IfSome, IfNone};
+ghost use Rattle.std.specs.Prelude.{◌≡◌, ℕ, ◌+◌, ◌%◌, ◌^◌, ◌<◌, ◌≤◌, ◌↔◌, Bool, false, List, Option, length, reverse, take, drop, fold, IsTrue, IfOk, IfSome, IfNone};
 ghost use Rattle.fn_bits.specs.Number.{num, enc};
 ghost use Rattle.fn_lib.specs.Crc.{crc_step, crc_register};
 ghost use Rattle.fn_lib.specs.Methods.{Lib, IsOnly, CrcHolds, crc};
@@ -80,21 +80,22 @@ pub fn crc_of(bits: usize, polynomial: u64, initial: u64, covered: &Bits) -> u64
 fn after_octet(polynomial: u64, before: u64, octet: u8) -> u64
     ensures { result ≡ fold (crc_step polynomial) before (reverse (enc 8 octet)) }
 {
-    let mut register = before;
+    // The octet is put over the register at once: so a bit differs where the lowest bit is one.
+    let mut mixed = before ^ u64::from(octet);
     for k in 0..8u32 {
-        register = after_bit(polynomial, register, (octet >> k) % 2 == 1);
+        mixed = after_bit(polynomial, mixed);
     }
-    register
+    mixed
 }
 
-/// The register after one more bit.
-fn after_bit(polynomial: u64, register: u64, bit: bool) -> u64
-    ensures { result ≡ crc_step polynomial register bit }
+/// The register after one more bit, where the bits that are left are put over it.
+fn after_bit(polynomial: u64, mixed: u64) -> u64
+    ensures { result ≡ crc_step polynomial mixed false }
 {
-    if register % 2 == u64::from(bit) {
-        register / 2
+    if mixed % 2 == 0 {
+        mixed / 2
     } else {
-        (register / 2) ^ polynomial
+        (mixed / 2) ^ polynomial
     }
 }
 

@@ -1,8 +1,8 @@
 -- Steps that needn't be looked at aren't next.
-use Rattle.std.proofs.Common.{◌≡◌, refl, sym, ◌∙◌, ap, subst, ℕ, zero, suc, ◌+◌, ◌<◌, ◌≤◌, Bool, true, false, List, [], ◌∷◌, length, replicate, get_or, map, drop, inl, inr, cond, find, arith}
+use Rattle.std.proofs.Common.{◌≡◌, refl, sym, ◌∙◌, ap, subst, ℕ, zero, suc, ◌+◌, ◌<◌, ◌≤◌, Bool, true, false, List, [], ◌∷◌, length, replicate, get_or, map, drop, min, inl, inr, cond, find, arith}
 use Rattle.std.specs.Prelude.{Some, None, slice_get, slice_set, nat_lt, ◌&&◌, ◌||◌, not, is_some}
 use Rattle.std.specs.List.{list_all}
-use Rattle.std.proofs.lemmas.Bool.{cases_eq, ltb-true, ltb-false}
+use Rattle.std.proofs.lemmas.Bool.{cases_eq}
 use Rattle.std.proofs.lemmas.List.{get_or-set_same, get_or-set_other, length-set, drop_more, drop_all}
 use Rattle.std.proofs.lemmas.Option.{slice_get_within}
 use Rattle.fn_normal.specs.declared.profile.Format.{Format}
@@ -17,7 +17,7 @@ use Rattle.fn_plans.proofs.NeedingUnknown.{all_known_is, found_lacks}
 use Rattle.fn_order.specs.declared.possible.Possible.{Possible}
 use Rattle.fn_order.specs.declared.waiting.Rest.{Rest}
 use Rattle.fn_order.specs.declared.waiting.Rest.TheVariants.{Due, Until, Over}
-use Rattle.fn_order.specs.Searching.{Ruled, ruled, gives_more, gives_none, KnowsAll, RestsBy, is_still, first_for, AreWaiting, lesser, woken}
+use Rattle.fn_order.specs.Searching.{Ruled, ruled, gives_more, gives_none, KnowsAll, RestsBy, is_still, first_for, AreWaiting, woken}
 
 never : (b : Bool) → (b && false) ≡ false
 never true = refl
@@ -188,34 +188,28 @@ none_here known format possible rests firsts i are past = sym (rest_before known
 
 -- ---- after facts are learnt
 
-lesser_first : (a b : ℕ) → lesser a b ≤ a
-lesser_first a b = by (nat_lt b a) refl where
-  by : (c : Bool) → nat_lt b a ≡ c → cond c b a ≤ a
-  by true h = let l = ltb-true b a h in omega (arith, l)
-  by false h = omega arith
+min_first : (a b : ℕ) → min a b ≤ a
+min_first a b = omega arith
 
-lesser_second : (a b : ℕ) → lesser a b ≤ b
-lesser_second a b = by (nat_lt b a) refl where
-  by : (c : Bool) → nat_lt b a ≡ c → cond c b a ≤ b
-  by true h = omega arith
-  by false h = let l = ltb-false b a h in omega (arith, l)
+min_second : (a b : ℕ) → min a b ≤ b
+min_second a b = omega arith
 
 woken_from : (firsts : List ℕ) (from : ℕ) (xs : List Fact) → woken firsts from xs ≤ from
 woken_from firsts from [] = omega arith
 woken_from firsts from (x ∷ xs) =
     let f = get_or firsts (field_of x) 0 in
-    let a = woken_from firsts (lesser from f) xs in
-    let b = lesser_first from f in
+    let a = woken_from firsts (min from f) xs in
+    let b = min_first from f in
     omega (arith, a, b)
 
 woken_first : (firsts : List ℕ) (from : ℕ) (xs : List Fact) (x : Fact) → has xs x ≡ true → woken firsts from xs ≤ get_or firsts (field_of x) 0
 woken_first firsts from [] x e = absurd (cc)
-woken_first firsts from (y ∷ ys) x e = by (same_fact y x) refl e (λ h. woken_first firsts (lesser from (get_or firsts (field_of y) 0)) ys x h) where
-  by : (b : Bool) → same_fact y x ≡ b → (b || has ys x) ≡ true → (has ys x ≡ true → woken firsts (lesser from (get_or firsts (field_of y) 0)) ys ≤ get_or firsts (field_of x) 0) →
-      woken firsts (lesser from (get_or firsts (field_of y) 0)) ys ≤ get_or firsts (field_of x) 0
+woken_first firsts from (y ∷ ys) x e = by (same_fact y x) refl e (λ h. woken_first firsts (min from (get_or firsts (field_of y) 0)) ys x h) where
+  by : (b : Bool) → same_fact y x ≡ b → (b || has ys x) ≡ true → (has ys x ≡ true → woken firsts (min from (get_or firsts (field_of y) 0)) ys ≤ get_or firsts (field_of x) 0) →
+      woken firsts (min from (get_or firsts (field_of y) 0)) ys ≤ get_or firsts (field_of x) 0
   by true h e rest =
-      let a = woken_from firsts (lesser from (get_or firsts (field_of y) 0)) ys in
-      let b = lesser_second from (get_or firsts (field_of y) 0) in
+      let a = woken_from firsts (min from (get_or firsts (field_of y) 0)) ys in
+      let b = min_second from (get_or firsts (field_of y) 0) in
       let s : get_or firsts (field_of y) 0 ≡ get_or firsts (field_of x) 0 = ap (λ z. get_or firsts z 0) (same_field y x h) in
       omega (arith, a, b, s)
   by false h e rest = rest e

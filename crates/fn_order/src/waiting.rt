@@ -190,15 +190,9 @@ pub(crate) fn woken(firsts: &Items<usize>, from: usize, facts: &[Fact]) -> usize
 {
     let mut earliest = from;
     for fact in facts {
-        earliest = lesser(earliest, first_at(firsts, field_of(*fact)));
+        earliest = earliest.min(first_at(firsts, field_of(*fact)));
     }
     earliest
-}
-
-fn lesser(one: usize, other: usize) -> usize
-    ensures { result ≡ spec.lesser one other }
-{
-    if other < one { other } else { one }
 }
 
 /// The field of a fact.

@@ -13,6 +13,9 @@ use Rattle.fn_rules.specs.Rules.{listed_before, headers_before}
 use Rattle.fn_plans.specs.declared.needs.Need.{Need}
 use Rattle.fn_plans.specs.declared.needs.Need.TheVariants as need
 use Rattle.fn_plans.specs.declared.needs.NeedRule.{NeedRule}
+use Rattle.fn_plans.specs.declared.few.FewFacts.{FewFacts}
+use Rattle.fn_plans.specs.declared.few.FewFacts.TheVariants as few
+use Rattle.fn_plans.specs.Few.{facts_in}
 use Rattle.fn_plans.specs.declared.knowledge.FieldKnowledge.{FieldKnowledge}
 use Rattle.fn_plans.specs.declared.knowledge.Knowledge.{Knowledge}
 use Rattle.fn_plans.specs.Knowing.{shows_of, shows}
@@ -31,15 +34,15 @@ facts_of_all format needs = flat_map (facts_of format) needs
 
 -- the rule with its facts
 abbrev pub told : Format → NeedRule → Rule
-told format r = record { needs = facts_of_all format r.needs; absent = r.absent; gives = r.gives }
+told format r = record { needs = facts_of_all format r.needs; absent = facts_in r.absent; gives = facts_in r.gives }
 
 -- a rule that nothing hinders but what it needs
-abbrev pub free : List Need → List Fact → NeedRule
-free needs gives = record { needs = needs; absent = []; gives = gives }
+abbrev pub free : List Need → FewFacts → NeedRule
+free needs gives = record { needs = needs; absent = few.None; gives = gives }
 
 -- one that is followed once for a field
-abbrev pub once : ℕ → List Need → List Fact → NeedRule
-once i needs gives = record { needs = needs; absent = Done i ∷ []; gives = gives }
+abbrev pub once : ℕ → List Need → FewFacts → NeedRule
+once i needs gives = record { needs = needs; absent = few.One (Done i ∷ []); gives = gives }
 
 -- the first of the facts that isn't known
 abbrev pub first_unknown : Knowledge → List Fact → Option Fact

@@ -5,6 +5,7 @@ ghost use Rattle.fn_normal.specs.declared.profile.Format.{Format};
 ghost use Rattle.fn_rules.specs.Facts as facts;
 ghost use Rattle.fn_plans.specs.Needing as spec;
 
+use crate::few::FewFacts;
 use fn_cert::Fact;
 use fn_expr::{Expr, Measure, Side, Subject};
 use sqlite_items::Items;
@@ -29,8 +30,8 @@ pub enum Need<'a> {
 #[derive(Drop)]
 pub struct NeedRule<'a> {
     pub needs: Items<Need<'a>>,
-    pub absent: Items<Fact>,
-    pub gives: Items<Fact>,
+    pub absent: FewFacts,
+    pub gives: FewFacts,
 }
 
 /// Appends what the expressions need.

@@ -6,7 +6,7 @@ ghost use Rattle.fn_filling.specs.Fillings.{inner_of, sides_of};
 ghost use Rattle.fn_filling.specs.declared.filling.Filling.{out-Filling};
 ghost use Rattle.rohcfn_items.specs.BitTexts.{bits_text};
 ghost use Rattle.rohcfn_items.specs.Fields as spec;
-ghost use Rattle.rohcfn_report.specs.Names.{format_name as name_at, method_name as name_of};
+ghost use Rattle.rohcfn_report.specs.Names.{method_name as name_of};
 ghost use Rattle.rohcfn_report.specs.CheckFaults.{format_words};
 
 use fn_bits::Bits;
@@ -44,6 +44,7 @@ pub fn fields_text(
     Ok(text)
 }
 
+/// The first line of an item: what it is and its number, its format, and the count of its packed bits, without an end of line.
 pub fn head_line(alloc: Global, head: Head<'_>, format: &str) -> Result<String, AllocError>
     ensures { IfOk result (λ text. string_bytes text ≡ spec.head_text head.entry.what.now head.entry.number format.now head.entry.bits) }
 {

@@ -29,6 +29,7 @@ pub fn format_name(methods: &[Method], method: usize, format: usize) -> &str
     }
 }
 
+/// The name of a field of a format; "-" where there is no such field.
 pub fn field_name(methods: &[Method], method: usize, format: usize, field: usize) -> &str
     ensures { result.now ≡ spec.field_name methods.now method format field }
 {
@@ -70,18 +71,21 @@ fn name_of(name: &Option<Name>) -> &str
     }
 }
 
+/// The format of a method by their places; None where there is none.
 pub fn format_at(methods: &[Method], method: usize, format: usize) -> Option<&Format>
     ensures { option_copied result ≡ spec.format_at methods.now method format }
 {
     methods.get(method)?.formats.get(format)
 }
 
+/// The field of a format by its place; None where there is none.
 pub fn field_at(methods: &[Method], method: usize, format: usize, field: usize) -> Option<&Field>
     ensures { option_copied result ≡ spec.field_at methods.now method format field }
 {
     format_at(methods, method, format)?.fields.get(field)
 }
 
+/// The formats of a method, in the order of the profile text; none where there is no such method.
 pub fn formats_of(methods: &[Method], method: usize) -> &[Format]
     ensures { result.now ≡ spec.formats_of methods.now method }
 {
@@ -91,6 +95,7 @@ pub fn formats_of(methods: &[Method], method: usize) -> &[Format]
     }
 }
 
+/// The constraints of a format, in the order of the profile text; none where there is no such format.
 pub fn constraints_at(methods: &[Method], method: usize, format: usize) -> &[Shared<Constraint>]
     ensures { result.now ≡ spec.constraints_at methods.now method format }
 {

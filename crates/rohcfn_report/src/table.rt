@@ -38,6 +38,7 @@ impl Cell {
         })
     }
 
+    /// The text of the cell, without blanks around it.
     pub fn as_str(&self) -> &str
         ensures { result.now ≡ self.now }
     {
@@ -125,6 +126,7 @@ fn push_cell(output: &mut String, gap: usize, cell: &str) -> Result<(), AllocErr
     output.push_str(cell)
 }
 
+/// Puts so many blanks at the end of the text. It fails only where memory is refused.
 pub fn push_blanks(output: &mut String, count: usize) -> Result<(), AllocError>
     ensures { OnOk result (string_bytes output.new ≡ string_bytes output.old ++ replicate count 32) }
 {

@@ -8,6 +8,7 @@ ghost use Rattle.rohcfn_tool.specs.Line as spec;
 ghost use Rattle.rohcfn_input.specs.OneLine.{IsLine};
 
 use crate::events::read_events;
+use crate::packets::{asked_line, plain_line};
 use fn_accepted::Accepted;
 use fn_engine::PackFault;
 use fn_filling::Item;
@@ -172,27 +173,15 @@ fn event_fault(alloc: Global, number: usize, fault: PackFault) -> Result<String,
     ensures line { IfOk result (λ text. IsLine (string_bytes text)) }
 {
     match fault {
-        PackFault::HeaderLength => plain_event(alloc, number, ": F1 HeaderLength"),
+        PackFault::HeaderLength => plain_line(alloc, "event ", number, ": F1 HeaderLength"),
         PackFault::Asked(name) => {
             name.keeps();
-            asked_event(alloc, number, name.as_str())
+            asked_line(alloc, "event ", number, name.as_str())
         }
-        PackFault::NoFormat => plain_event(alloc, number, ": F3 NoFormat"),
-        PackFault::Flow => plain_event(alloc, number, ": F4 Flow"),
+        PackFault::NoFormat => plain_line(alloc, "event ", number, ": F3 NoFormat"),
+        PackFault::Flow => plain_line(alloc, "event ", number, ": F4 Flow"),
         PackFault::OutOfMemory => Err(AllocError),
     }
-}
-
-fn plain_event(alloc: Global, number: usize, words: &str) -> Result<String, AllocError>
-    ensures { IfOk result (λ text. string_bytes text ≡ codes "event " ++ decimal number ++ words.now) }
-{
-    format!(in alloc; "event {number}{words}")
-}
-
-fn asked_event(alloc: Global, number: usize, name: &str) -> Result<String, AllocError>
-    ensures { IfOk result (λ text. string_bytes text ≡ codes "event " ++ decimal number ++ codes ": F2 Asked " ++ name.now) }
-{
-    format!(in alloc; "event {number}: F2 Asked {name}")
 }
 
 // ---- the receiving end

@@ -293,27 +293,39 @@ pub(crate) fn item_fault(
     ensures line { IfOk result (λ text. IsLine (string_bytes text)) }
 {
     match fault {
-        PackFault::HeaderLength => plain_line(alloc, number, ": F1 HeaderLength"),
+        PackFault::HeaderLength => plain_line(alloc, "item ", number, ": F1 HeaderLength"),
         PackFault::Asked(name) => {
             name.keeps();
-            asked_line(alloc, number, name.as_str())
+            asked_line(alloc, "item ", number, name.as_str())
         }
-        PackFault::NoFormat => plain_line(alloc, number, ": F3 NoFormat"),
+        PackFault::NoFormat => plain_line(alloc, "item ", number, ": F3 NoFormat"),
         PackFault::Flow => unreachable!(),
         PackFault::OutOfMemory => Err(AllocError),
     }
 }
 
-fn plain_line(alloc: Global, number: usize, words: &str) -> Result<String, AllocError>
-    ensures { IfOk result (λ text. string_bytes text ≡ codes "item " ++ decimal number ++ words.now) }
+/// The line of a fault of an item or an event, whose word with a blank is the head.
+pub(crate) fn plain_line(
+    alloc: Global,
+    head: &str,
+    number: usize,
+    words: &str,
+) -> Result<String, AllocError>
+    ensures { IfOk result (λ text. string_bytes text ≡ head.now ++ decimal number ++ words.now) }
 {
-    format!(in alloc; "item {number}{words}")
+    format!(in alloc; "{head}{number}{words}")
 }
 
-fn asked_line(alloc: Global, number: usize, name: &str) -> Result<String, AllocError>
-    ensures { IfOk result (λ text. string_bytes text ≡ codes "item " ++ decimal number ++ codes ": F2 Asked " ++ name.now) }
+/// The line of asked values that don't suit the asked fields.
+pub(crate) fn asked_line(
+    alloc: Global,
+    head: &str,
+    number: usize,
+    name: &str,
+) -> Result<String, AllocError>
+    ensures { IfOk result (λ text. string_bytes text ≡ head.now ++ decimal number ++ codes ": F2 Asked " ++ name.now) }
 {
-    format!(in alloc; "item {number}: F2 Asked {name}")
+    format!(in alloc; "{head}{number}: F2 Asked {name}")
 }
 
 // ---- packets

@@ -1,0 +1,10 @@
+use Rattle.std.proofs.Common.{subst}
+use Rattle.std.specs.Map.{keys_of}
+use Rattle.fn_filling.specs.Entries.{entries, GoesOn}
+use Rattle.fn_filling.proofs.EntriesInOrder.{from_first}
+use Rattle.fn_filling.proofs.entries.values_in_order.Goals as goal
+
+pub returns : goal.returns
+returns c =
+    from_first (keys_of c.args.context.now) c.add_in_order.new.values.items (entries c.args.filling.now)
+    (subst (λ v. GoesOn (keys_of c.args.context.now) v c.add_in_order.new.values.items (entries c.args.filling.now)) c.in_ok-values.ensures.items (c.in_ok-add_in_order.ensures c.if-not-branch.false))
