@@ -11,8 +11,8 @@ use crate::unfinished::Unfinished;
 use fn_accepted::Accepted;
 use fn_bits::{Bits, Cursor};
 use fn_context::Context;
-use fn_engine::{Read, UnpackFault, most_octets, unpack, unpack_drawn};
-use fn_filling::Item;
+use fn_engine::{UnpackFault, Unpacked, most_octets, unpack_drawn, unpack_filling};
+use fn_filling::{Item, advance};
 use std::alloc::{AllocError, Global};
 
 /// How many octets are looked at ahead, at most: longer packets are tried octet by octet.
@@ -43,13 +43,13 @@ fn try_packet(
     ensures err { IfErr result (λ e. BlamesPacket e accepted.now context.old (drop 1 begun.now)) }
 {
     let mut cursor = Cursor::new(begun.bits());
-    match unpack(alloc, accepted, context, &mut cursor) {
+    match unpack_filling(alloc, accepted, context, &mut cursor) {
         Ok(read) => {
             if !is_zero(&cursor) {
                 return Err(LineFault::Padding);
             }
-            let Read { item, entries, .. } = read;
-            context.replace(entries)?;
+            let Unpacked { item, filling, .. } = read;
+            advance(alloc, context, &filling)?;
             Ok(Some(item))
         }
         Err(fault) => match fault {
@@ -85,8 +85,8 @@ fn whole_packet(
     let Some(_own) = Bits::from_octets(alloc, &octets[..count], read.bits)? else {
         return Ok(None);
     };
-    let Read { item, entries, .. } = read;
-    context.replace(entries)?;
+    let Unpacked { item, filling, .. } = read;
+    advance(alloc, context, &filling)?;
     Ok(Some((item, count)))
 }
 

@@ -13,8 +13,8 @@ use crate::flow::{Flow, LineVersion, no_contexts};
 use fn_accepted::Accepted;
 use fn_bits::Bits;
 use fn_context::Context;
-use fn_engine::{PackFault, pack};
-use fn_filling::Item;
+use fn_engine::{PackFault, Packed, pack_filling};
+use fn_filling::{Item, advance};
 use std::alloc::{AllocError, Global};
 use std::marker::Model;
 
@@ -119,13 +119,13 @@ fn put_packet(
     ensures err { OnErr result ((context.new ≡ context.old) × (out.new.items ≡ out.old.items)) }
     ensures fault { IfErr result (λ e. writing.Blames e accepted.now context.old item.now) }
 {
-    let written = match pack(alloc, accepted, context, item) {
-        Ok(written) => written,
+    let found = match pack_filling(alloc, accepted, context, item) {
+        Ok(found) => found,
         Err(fault) => return Err(fault),
     };
-    let packed = written.packed;
+    let Packed { filling, packed } = found;
     out.reserve((packed.len() + 7) / 8 + 1)?;
-    context.replace(written.entries)?;
+    advance(alloc, context, &filling)?;
     match out.push(flow) {
         Ok(()) => {}
         Err(_) => unreachable!(),

@@ -1,4 +1,4 @@
-//! Answers rows on bits, texts, expressions, library methods, contexts, fillings, plans, trees and lines of flows: line N of the output answers line N of the input, and is empty where
+//! Answers rows on bits, texts, expressions, library methods, contexts, fillings, trees and lines of flows: line N of the output answers line N of the input, and is empty where
 //! that is empty or a comment (`#`). In a row `%0a` stands for the octet 0a and so on, and so it does in an answer for what isn't visible ASCII.
 #![tactic(auto)]
 
@@ -8,9 +8,7 @@ mod expressions;
 mod fillings;
 mod library;
 mod lines;
-mod lists;
 mod octets;
-mod plans;
 mod sources;
 mod trees;
 mod words;
@@ -61,7 +59,6 @@ fn answer(alloc: Global, out: &mut String, profile: &mut String, row: &[u8]) -> 
         "profile" => keep(profile, rest),
         "holds" => fillings::judged(alloc, out, profile.as_str(), rest),
         "judged" => fillings::judged_often(alloc, out, profile.as_str(), rest),
-        "plan" => planned(alloc, out, profile.as_str(), rest),
         "flow" => lines::flow(out, rest),
         "pieces" | "wide" | "cuttings" | "tables" => accepted(
             alloc,
@@ -87,7 +84,6 @@ fn answer(alloc: Global, out: &mut String, profile: &mut String, row: &[u8]) -> 
         "peek" => octets::peeked(alloc, out, rest),
         "octet" => octets::octet(alloc, out, rest),
         "cut" => octets::cut(alloc, out, rest),
-        "lists" => lists::compared(alloc, out, rest),
         "registers" => library::registers(alloc, out, rest),
         "register" => library::register(alloc, out, rest),
         _ => library::answer(alloc, out, verb, rest),
@@ -118,8 +114,4 @@ fn by_accepted(
         "cuttings" => lines::cuttings(alloc, out, accepted, rest),
         _ => trees::tables(alloc, out, accepted, rest),
     }
-}
-
-fn planned(alloc: Global, out: &mut String, profile: &str, rest: &str) -> Result<()> {
-    plans::ordered(alloc, out, &fillings::read_profile(alloc, profile)?, rest)
 }

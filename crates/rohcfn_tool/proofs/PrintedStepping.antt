@@ -1,9 +1,9 @@
 -- The line of one item or packet.
-use Rattle.std.proofs.Common.{◌≡◌, ◌∙◌, ℕ, Bool, List, [], ◌∷◌, ◌++◌, map, codes, decimal, true, false, refl, ap, sym, subst, append_assoc, length}
-use Rattle.std.specs.Prelude.{string_bytes}
+use Rattle.std.proofs.Common.{◌≡◌, ◌∙◌, ℕ, Bool, List, [], ◌∷◌, ◌++◌, codes, decimal, true, false, refl, ap, sym, subst, append_assoc, length}
 use Rattle.fn_bits.specs.Cursor.{Place}
 use Rattle.fn_bits.specs.Text.{IsText}
-use Rattle.fn_context.specs.Entries.{Entries, overridden}
+use Rattle.fn_context.specs.Entries.{Entries}
+use Rattle.fn_filling.specs.Entries.{next}
 use Rattle.fn_normal.specs.declared.profile.Method.{Method}
 use Rattle.fn_profile.specs.Named.{AreWords}
 use Rattle.fn_profile.specs.Resolved.{IsSound, Resolved}
@@ -12,11 +12,11 @@ use Rattle.fn_filling.specs.Fillings.{item, packed}
 use Rattle.fn_accepted.specs.Accepted.{Accepting}
 use Rattle.fn_engine.specs.Reading as reading
 use Rattle.fn_engine.specs.Writing as writing
-use Rattle.fn_engine.specs.declared.reader.Read.{Read}
+use Rattle.fn_engine.specs.declared.reader.Unpacked.{Unpacked}
 use Rattle.fn_engine.specs.declared.reader.UnpackFault.{UnpackFault}
 use Rattle.fn_engine.specs.declared.writer.PackFault.{PackFault}
 use Rattle.fn_engine.specs.declared.writer.PackFault.TheVariants as writer
-use Rattle.fn_engine.specs.declared.writer.Written.{Written}
+use Rattle.fn_engine.specs.declared.search.Packed.{Packed}
 use Rattle.rohcfn_input.specs.ItemTexts.{HasMore, IsItemText}
 use Rattle.rohcfn_tool.proofs.PacketLines.{packet_faults}
 use Rattle.rohcfn_input.specs.OneLine.{IsLine}
@@ -30,17 +30,17 @@ use Rattle.rohcfn_tool.specs.declared.packets.Shape.TheVariants.{Line, Tree, Why
 -- ---- items
 
 -- what is printed of the filling that was written is said of the item
-written_says : (shape : Shape) (a : Accepting) (ctx : Entries) (before after : List ℕ) (n : ℕ) (it : Item) (w : Written) → writing.IsWritten a ctx it w → IsWrittenText shape a n w.packed w.filling before after → HasLine (SaysItem shape a ctx n it w.filling) before after
+written_says : (shape : Shape) (a : Accepting) (ctx : Entries) (before after : List ℕ) (n : ℕ) (it : Item) (w : Packed) → writing.IsPacked a ctx it w → IsWrittenText shape a n w.packed w.filling before after → HasLine (SaysItem shape a ctx n it w.filling) before after
 written_says Line a ctx before after n it w is text = (text.0, record { best = is.best; spelled = subst (IsText text.0) is.packed_is text.1 }, text.2)
 written_says Tree a ctx before after n it w is text =
     (text.0, record { best = is.best; listed = text.1 ∙ ap (λ bits. tree_text a (codes "item") n (length bits) w.filling) is.packed_is }, text.2)
 written_says (Why profile) a ctx before after n it w is text =
     (text.0, record { best = is.best; said = text.1 ∙ ap (λ bits. head_of a (codes "item") n (length bits) w.filling) is.packed_is }, text.2)
 
-pub packed_step : (shape : Shape) (a : Accepting) (old new : Entries) (before after : List ℕ) (n : ℕ) (it : Item) (w : Written) → writing.IsWritten a old it w → IsWrittenText shape a n w.packed w.filling before after
-    → new ≡ overridden old (map (λ e. (string_bytes e.0, e.1)) w.entries.items) → IsItemStep shape a old new before after n it false
+pub packed_step : (shape : Shape) (a : Accepting) (old new : Entries) (before after : List ℕ) (n : ℕ) (it : Item) (w : Packed) → writing.IsPacked a old it w → IsWrittenText shape a n w.packed w.filling before after
+    → new ≡ next old w.filling → IsItemStep shape a old new before after n it false
 packed_step shape a old new before after n it w is text reached =
-    (w.filling, written_says shape a old before after n it w is text, reached ∙ ap (overridden old) is.entries_are)
+    (w.filling, written_says shape a old before after n it w is text, reached)
 
 -- of an item no missing flow is blamed
 pub no_flow_blamed : (a : Accepting) (ctx : Entries) (it : Item) (e : PackFault) → writing.Blames e a ctx it → ¬ (e ≡ writer.Flow)
@@ -57,7 +57,7 @@ item_explained profile a ctx n it e blames plain text is single lines told all =
 -- ---- packets
 
 -- what is printed of the filling that was read is said of the packet
-found_says : (shape : Shape) (a : Accepting) (ctx : Entries) (before after : List ℕ) (n : ℕ) (packet : List Bool) (r : Read) → reading.Fronts a ctx packet r.filling → r.item ≡ item r.filling → r.bits ≡ length (packed r.filling)
+found_says : (shape : Shape) (a : Accepting) (ctx : Entries) (before after : List ℕ) (n : ℕ) (packet : List Bool) (r : Unpacked) → reading.Fronts a ctx packet r.filling → r.item ≡ item r.filling → r.bits ≡ length (packed r.filling)
     → IsFoundText shape a (codes "packet") n r.bits r.item r.filling before after → HasLine (SaysPacket shape a ctx n packet r.filling) before after
 found_says Line a ctx before after n packet r fits item_is bits_is text =
     let item_here = subst (λ it. IsTaken it r.bits text.0) item_is text.1 in
@@ -67,11 +67,11 @@ found_says Tree a ctx before after n packet r fits item_is bits_is text =
 found_says (Why profile) a ctx before after n packet r fits item_is bits_is text =
     (text.0, record { fits = fits; said = text.1 ∙ ap (λ k. head_of a (codes "packet") n k r.filling) bits_is }, text.2)
 
-pub read_step : (shape : Shape) (a : Accepting) (old new : Entries) (before after : List ℕ) (n : ℕ) (packet : List Bool) (from to : Place) (r : Read) → from ≡ record { used = []; left = packet } → reading.IsRead a old from to r
-    → IsFoundText shape a (codes "packet") n r.bits r.item r.filling before after → new ≡ overridden old (map (λ e. (string_bytes e.0, e.1)) r.entries.items) → IsPacketStep shape a old new before after n packet false
+pub read_step : (shape : Shape) (a : Accepting) (old new : Entries) (before after : List ℕ) (n : ℕ) (packet : List Bool) (from to : Place) (r : Unpacked) → from ≡ record { used = []; left = packet } → reading.IsUnpacked a old from to r
+    → IsFoundText shape a (codes "packet") n r.bits r.item r.filling before after → new ≡ next old r.filling → IsPacketStep shape a old new before after n packet false
 read_step shape a old new before after n packet from to r start is text reached =
     let fits : reading.Fronts a old packet r.filling = record { fits = is.fits; rest = to.left; front = sym (ap (λ (p : Place). p.left) start) ∙ is.advances.left } in
-    (r.filling, found_says shape a old before after n packet r fits is.item_is is.bits_is text, reached ∙ ap (overridden old) is.entries_are)
+    (r.filling, found_says shape a old before after n packet r fits is.item_is is.bits_is text, reached)
 
 pub packet_refused : (a : Accepting) (ctx : Entries) (before after : List ℕ) (n : ℕ) (packet : List Bool) (e : UnpackFault) → reading.Blames e a ctx packet → IsRefusedPacket a e n before after → HasLine (RefusesPacket a ctx n packet) before after
 packet_refused a ctx before after n packet e blames is = (is.0, (e, blames, is.1.0, is.1.1), is.2)

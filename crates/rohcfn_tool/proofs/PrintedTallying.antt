@@ -6,10 +6,10 @@ use Rattle.std.specs.Prelude.{Option, Some, None, Result, Ok, Err, IfOk, OnOk, S
 use Rattle.std.specs.declared.alloc.AllocError.{AllocError}
 use Rattle.std.proofs.lemmas.List.{append-nil, drop_all, drop_more, map-append}
 use Rattle.fn_accepted.specs.Accepted.{Accepting}
-use Rattle.fn_context.specs.Entries.{Entries, overridden}
+use Rattle.fn_context.specs.Entries.{Entries}
 use Rattle.fn_engine.specs.Writing as writing
 use Rattle.fn_engine.specs.declared.writer.PackFault.{PackFault}
-use Rattle.fn_engine.specs.declared.writer.Written.{Written}
+use Rattle.fn_engine.specs.declared.search.Packed.{Packed}
 use Rattle.fn_filling.specs.Entries.{next}
 use Rattle.fn_filling.specs.declared.filling.Filling.{Filling}
 use Rattle.fn_filling.specs.declared.filling.Item.{Item}
@@ -75,11 +75,11 @@ module _ (a : Accepting) (start : Entries) (items : List Item) where
 
 -- ---- one item
 
-pub one_counted : {T : Type 0} (a : Accepting) (old new : Entries) (before after : List Count) (above : List ℕ) (n : ℕ) (it : Item) (w : Written) (c : Count) (r : Result T AllocError) → writing.IsWritten a old it w → c ≡ counted w.filling → after ≡ before ++ c ∷ []
-    → OnOk r (new ≡ overridden old (map (λ e. (string_bytes e.0, e.1)) w.entries.items)) → OnOk r (CountsItem a old new before after above above n it)
+pub one_counted : {T : Type 0} (a : Accepting) (old new : Entries) (before after : List Count) (above : List ℕ) (n : ℕ) (it : Item) (w : Packed) (c : Count) (r : Result T AllocError) → writing.IsPacked a old it w → c ≡ counted w.filling → after ≡ before ++ c ∷ []
+    → OnOk r (new ≡ next old w.filling) → OnOk r (CountsItem a old new before after above above n it)
 one_counted a old new before after above n it w c (Err e) is same grown reached = tt
 one_counted a old new before after above n it w c (Ok x) is same grown reached =
-    counts_packed w.filling is.best (reached ∙ ap (overridden old) is.entries_are) (grown ∙ ap (λ z. before ++ z ∷ []) same) refl
+    counts_packed w.filling is.best reached (grown ∙ ap (λ z. before ++ z ∷ []) same) refl
 
 pub one_refused : {T : Type 0} (a : Accepting) (ctx : Entries) (cs : List Count) (above below : List ℕ) (n : ℕ) (it : Item) (e : PackFault) (r : Result T AllocError) → writing.Blames e a ctx it → OnOk r (IsRefusedBelow e n above below) → OnOk r (CountsItem a ctx ctx cs cs above below n it)
 one_refused a ctx cs above below n it e (Err x) blames is = tt

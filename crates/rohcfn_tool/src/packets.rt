@@ -10,8 +10,8 @@ use crate::explaining::{explain_item, explain_packet};
 use fn_accepted::Accepted;
 use fn_bits::{Bits, Cursor};
 use fn_context::Context;
-use fn_engine::{PackFault, Read, UnpackFault, Written, pack, unpack};
-use fn_filling::{Filling, Item};
+use fn_engine::{PackFault, Packed, UnpackFault, Unpacked, pack_filling, unpack_filling};
+use fn_filling::{Filling, Item, advance};
 use fn_normal::Method;
 use fn_reader::Blamed;
 use itoa::Buffer;
@@ -155,16 +155,10 @@ fn pack_one(
 ) -> Result<bool, AllocError>
     ensures { IfOk result (spec.IsItemStep shape.entry accepted.now context.old context.new (string_bytes output.old) (string_bytes output.new) number item.now) }
 {
-    match pack(alloc, accepted, context, item) {
-        Ok(
-            Written {
-                packed,
-                filling,
-                entries,
-            },
-        ) => {
+    match pack_filling(alloc, accepted, context, item) {
+        Ok(Packed { filling, packed }) => {
             push_written(alloc, shape, accepted, output, number, &packed, &filling)?;
-            context.replace(entries)?;
+            advance(alloc, context, &filling)?;
             Ok(false)
         }
         Err(fault) => {
@@ -343,19 +337,18 @@ fn unpack_one(
     ensures { IfOk result (spec.IsPacketStep shape.entry accepted.now context.old context.new (string_bytes output.old) (string_bytes output.new) number packet.now) }
 {
     let mut cursor = Cursor::new(packet);
-    match unpack(alloc, accepted, context, &mut cursor) {
+    match unpack_filling(alloc, accepted, context, &mut cursor) {
         Ok(
-            Read {
+            Unpacked {
                 item,
                 filling,
                 bits,
-                entries,
             },
         ) => {
             let what = "packet";
             let head = Head { what, number, bits };
             push_found(alloc, shape, accepted, output, head, &item, &filling)?;
-            context.replace(entries)?;
+            advance(alloc, context, &filling)?;
             Ok(false)
         }
         Err(fault) => {

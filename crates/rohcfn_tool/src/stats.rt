@@ -7,8 +7,8 @@ use crate::answers::{bad_line, context_line};
 use crate::packets::item_fault;
 use fn_accepted::Accepted;
 use fn_context::Context;
-use fn_engine::{PackFault, Written, pack};
-use fn_filling::Item;
+use fn_engine::{PackFault, Packed, pack_filling};
+use fn_filling::{Item, advance};
 use fn_stats::{Count, count_of};
 use rohcfn_input::bundle::Parts;
 use rohcfn_input::inputs::{BadLine, read_context, read_items};
@@ -130,17 +130,11 @@ fn count_one(
 ) -> Result<(), AllocError>
     ensures { OnOk result (spec.CountsItem accepted.now context.old context.new counts.old counts.new (string_bytes refused.old) (string_bytes refused.new) number item.now) }
 {
-    match pack(alloc, accepted, context, item) {
-        Ok(
-            Written {
-                packed: _,
-                filling,
-                entries,
-            },
-        ) => {
+    match pack_filling(alloc, accepted, context, item) {
+        Ok(Packed { filling, packed: _ }) => {
             let count = count_of(alloc, &filling)?;
             counts.push(count)?;
-            context.replace(entries)
+            advance(alloc, context, &filling)
         }
         Err(fault) => add_refused(alloc, refused, number, fault),
     }

@@ -1,17 +1,18 @@
-use Rattle.std.proofs.Common.{◌≡◌, refl, ap, true, false, map, string_bytes, drop}
+use Rattle.std.proofs.Common.{◌≡◌, refl, ap, true, false, drop}
+use Rattle.fn_filling.specs.Entries.{entries}
 use Rattle.fn_line.proofs.StepsTrying.{taken, badly_filled, awaited, refused}
 use Rattle.fn_line.proofs.packet.try_packet.Goals as goal
 
 pub returns-then-not-is_zero-clause-err : goal.returns-then-not-is_zero-clause-err
 returns-then-not-is_zero-clause-err c =
-    badly_filled c.args.accepted.now c.args.context.now (drop 1 c.args.begun.now) c.bits.result.now c.in-Ok.read.filling c.new-cursor.result c.unpack.new.cursor c.bits.ensures.value c.requires c.in-Ok.ensures.read.fits
+    badly_filled c.args.accepted.now c.args.context.now (drop 1 c.args.begun.now) c.bits.result.now c.in-Ok.read.filling c.new-cursor.result c.unpack_filling.new.cursor c.bits.ensures.value c.requires c.in-Ok.ensures.read.fits
     c.new-cursor.ensures c.in-Ok.ensures.read.advances (λ z. let never : false ≡ true = c.if-not-is_zero.ensures.1 z in cc)
 
-pub returns-in_ok-replace-in-Ok-clause-ok : goal.returns-in_ok-replace-in-Ok-clause-ok
-returns-in_ok-replace-in-Ok-clause-ok c =
-    taken c.args.accepted.now c.args.context.now c.replace.new.self (drop 1 c.args.begun.now) c.bits.result.now c.in-Ok.read.filling c.new-cursor.result c.unpack.new.cursor
-    (map (λ e. (string_bytes e.0, e.1)) c.in-Ok.read.entries.items) c.in-Ok.read.item c.bits.ensures.fit c.bits.ensures.value c.requires c.in-Ok.ensures.read.fits
-    c.new-cursor.ensures c.in-Ok.ensures.read.advances (c.if-not-is_zero.ensures.0 refl) c.in-Ok.ensures.read.entries_are c.in_ok-replace-in-Ok.ensures.ok c.in-Ok.ensures.read.item_is
+pub returns-in_ok-advance-in-Ok-clause-ok : goal.returns-in_ok-advance-in-Ok-clause-ok
+returns-in_ok-advance-in-Ok-clause-ok c =
+    taken c.args.accepted.now c.args.context.now c.advance.new.context (drop 1 c.args.begun.now) c.bits.result.now c.in-Ok.read.filling c.new-cursor.result c.unpack_filling.new.cursor
+    (entries c.in-Ok.read.filling) c.in-Ok.read.item c.bits.ensures.fit c.bits.ensures.value c.requires c.in-Ok.ensures.read.fits
+    c.new-cursor.ensures c.in-Ok.ensures.read.advances (c.if-not-is_zero.ensures.0 refl) refl c.in_ok-advance-in-Ok.ensures.ok c.in-Ok.ensures.read.item_is
 
 pub returns-in-Truncated-clause-ok : goal.returns-in-Truncated-clause-ok
 returns-in-Truncated-clause-ok c =

@@ -1,4 +1,5 @@
-use Rattle.std.proofs.Common.{◌∙◌, refl, sym, ap, ◌+◌, ◌/◌, ◌≤◌, subst, length, map, string_bytes}
+use Rattle.std.proofs.Common.{◌∙◌, refl, sym, ap, ◌+◌, ◌/◌, ◌≤◌, subst, length}
+use Rattle.fn_filling.specs.Entries.{entries}
 use Rattle.fn_line.proofs.StepsTrying.{count_within, told_at_once}
 use Rattle.fn_line.proofs.packet.whole_packet.Goals as goal
 
@@ -11,6 +12,6 @@ returns-clause-some c =
     let within = count_within octets c.in-Some.bits _ c.new-cursor.result c.unpack_drawn.new.cursor c.in-Some-2.read.bits held.1 c.new-cursor.ensures read.advances read.bits_is in
     let over = c.in-Some-checked_add.ensures.1 in (
       subst (λ n. n / 8 ≤ length octets) (sym over) within,
-      told_at_once c.args.accepted.now c.args.context.now c.replace.new.self octets (c.in-Some-checked_add.over / 8) c.in-Some.bits c.in-Some-3._own c.in-Some-2.read.filling c.new-cursor.result c.unpack_drawn.new.cursor
-          (map (λ e. (string_bytes e.0, e.1)) c.in-Some-2.read.entries.items) c.in-Some-2.read.item held.1 read.fits c.new-cursor.ensures read.advances own.1 (own.0 ∙ read.bits_is) read.entries_are c.in_ok-replace.ensures.ok read.item_is,
+      told_at_once c.args.accepted.now c.args.context.now c.advance.new.context octets (c.in-Some-checked_add.over / 8) c.in-Some.bits c.in-Some-3._own c.in-Some-2.read.filling c.new-cursor.result c.unpack_drawn.new.cursor
+          (entries c.in-Some-2.read.filling) c.in-Some-2.read.item held.1 read.fits c.new-cursor.ensures read.advances own.1 (own.0 ∙ read.bits_is) refl c.in_ok-advance.ensures.ok read.item_is,
     )
