@@ -1,14 +1,14 @@
 //! Where the fault of a certificate stands: in the profile, and in the certificate's text.
 
 use crate::counting::count_notes;
-use crate::places::{constraint_place, format_at, method_place, place_text};
+use crate::places::{constraint_place, place_text};
 use fn_bits::lines::lines;
 use fn_cert::{Certificate, Direction, Step};
 use fn_normal::Method;
 use fn_profile::Profile;
 use fn_rules::CheckFault;
 use fn_source::Span;
-use rohcfn_report::names::{format_name, method_name};
+use rohcfn_names::names::{format_at, format_name, method_name, method_place};
 use std::alloc::{AllocError, Global};
 
 /// What is at fault, by the names of a certificate's text: a method, with a node of its tree, or with a format, a plan and a step.
@@ -22,7 +22,7 @@ struct Site {
 }
 
 /// The place of a fault in the profile, and its line in the text of the certificate, where it has one. Of the candidates their number.
-pub(crate) fn fault_notes(
+pub fn fault_notes(
     alloc: Global,
     octets: &[u8],
     profile: &Profile,

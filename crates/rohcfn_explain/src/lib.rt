@@ -3,8 +3,7 @@
 #![tactic(auto)]
 
 mod counting;
-pub mod explaining;
-mod faults;
-mod parting;
+pub mod faults;
+pub mod parting;
 mod places;
-mod waiting;
+pub mod waiting;

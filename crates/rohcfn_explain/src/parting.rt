@@ -1,16 +1,16 @@
 //! What two formats are known to begin with, which no tree parts.
 
-use crate::places::{method_place, place_text};
+use crate::places::place_text;
 use fn_profile::Profile;
 use fn_trees::{Told, all_told};
-use rohcfn_report::names::format_name;
+use rohcfn_names::names::{format_name, method_place};
 use std::alloc::{AllocError, Global};
 
 /// So many bits are shown at most.
 const SHOWN: u128 = 64;
 
 /// The first bits of two formats of a method, as far as they are known of all packets, and that this is no proof of two readings.
-pub(crate) fn tree_notes(
+pub fn tree_notes(
     alloc: Global,
     octets: &[u8],
     profile: &Profile,

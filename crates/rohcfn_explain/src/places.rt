@@ -1,7 +1,7 @@
 //! Where in the text of a profile something stands.
 
 use fn_expr::{Expr, Subject};
-use fn_normal::{Constraint, CrcArguments, Encoding, Field, Format, Library, Method};
+use fn_normal::{Constraint, CrcArguments, Encoding, Field, Format, Library};
 use fn_source::{Span, line_column};
 use std::alloc::{AllocError, Global};
 
@@ -9,18 +9,6 @@ use std::alloc::{AllocError, Global};
 pub(crate) fn place_text(alloc: Global, octets: &[u8], place: Span) -> Result<String, AllocError> {
     let position = line_column(octets, place.from as usize);
     format!(in alloc; "{}:{}: ", position.line, position.column)
-}
-
-/// The place of a method's name.
-pub(crate) fn method_place(methods: &[Method], method: usize) -> Span {
-    match methods.get(method) {
-        Some(method) => method.place,
-        None => Span { from: 0, to: 0 },
-    }
-}
-
-pub(crate) fn format_at(methods: &[Method], method: usize, format: usize) -> Option<&Format> {
-    methods.get(method)?.formats.get(format)
 }
 
 /// The place of a constraint: of its bracket, or of the first token of its conjunct.

@@ -1,7 +1,7 @@
 //! Which step of a plan waits first, and for what. All steps are taken that can be, as the prover takes them. Of the first side that is missing then, the first step
 //! is told that would give it, with the first fact that it lacks. A fact that a field was taken or called is followed to the step that takes or calls it.
 
-use crate::places::{constraint_place, format_at, method_place, naming_place, place_text};
+use crate::places::{constraint_place, naming_place, place_text};
 use fn_cert::{Direction, Fact, Step, Version};
 use fn_expr::Side;
 use fn_normal::{Format, FormatSizes, MethodSizes};
@@ -9,7 +9,7 @@ use fn_order::FieldSide;
 use fn_plans::{Knowledge, NeedRule, enables, lacking, rule_of};
 use fn_profile::Profile;
 use fn_source::Span;
-use rohcfn_report::names::field_name;
+use rohcfn_names::names::{field_name, format_at, method_place};
 use sqlite_items::Items;
 use std::alloc::{AllocError, Global};
 
@@ -28,7 +28,7 @@ struct Waiting {
 }
 
 /// The line of the first step that waits, of a format that has no plan in a direction, where these sides are missing.
-pub(crate) fn plan_notes(
+pub fn plan_notes(
     alloc: Global,
     octets: &[u8],
     profile: &Profile,

@@ -8,7 +8,7 @@ use Rattle.fn_filling.specs.declared.filling.FilledField.{FilledField, out-Fille
 use Rattle.fn_normal.specs.declared.profile.Encoding.{Encoding}
 use Rattle.fn_normal.specs.declared.profile.Method.{Method}
 use Rattle.rohcfn_items.specs.Fields.{Listed, callee, encoding_at, field_row, field_rows, inner_rows, level_rows, listed}
-use Rattle.rohcfn_report.specs.Table.{Row}
+use Rattle.rohcfn_names.specs.Table.{Row}
 
 -- the number of a filling's format
 abbrev pub format_in : Filling → ℕ

@@ -13,9 +13,9 @@ use Rattle.fn_normal.specs.declared.profile.Method.{Method}
 use Rattle.fn_normal.specs.declared.profile.Part.{Part}
 use Rattle.fn_normal.specs.declared.profile.Part.TheVariants.{Header, Control, Local}
 use Rattle.rohcfn_items.specs.BitTexts.{bits_text}
-use Rattle.rohcfn_report.specs.Table.{Row, table}
-use Rattle.rohcfn_report.specs.Names.{field_at, format_name, method_name}
-use Rattle.rohcfn_report.specs.CheckFaults.{format_words}
+use Rattle.rohcfn_names.specs.Table.{Row, table}
+use Rattle.rohcfn_names.specs.Names.{field_at, format_name, method_name}
+use Rattle.rohcfn_names.specs.CheckFaults.{format_words}
 
 abbrev pub part_word : Part → List ℕ
 part_word Header = codes "header"

@@ -6,8 +6,8 @@ use Rattle.fn_normal.specs.declared.profile.Method.{Method}
 use Rattle.fn_stats.specs.declared.counts.Count.{Count}
 use Rattle.fn_stats.specs.declared.counts.Tally.{Tally}
 use Rattle.fn_stats.specs.Counts.{tally_all, tally_field, tally_format}
-use Rattle.rohcfn_report.specs.Table.{Row, table}
-use Rattle.rohcfn_report.specs.Names.{field_name, format_name, formats_of}
+use Rattle.rohcfn_names.specs.Table.{Row, table}
+use Rattle.rohcfn_names.specs.Names.{field_name, format_name, formats_of}
 
 abbrev pub tenths_text : ℕ → List ℕ
 tenths_text tenths = decimal (tenths / 10) ++ codes "." ++ decimal (tenths % 10)

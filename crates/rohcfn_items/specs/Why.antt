@@ -22,10 +22,10 @@ use Rattle.fn_reasons.specs.declared.reason.Reason.{Reason}
 use Rattle.fn_reasons.specs.declared.reason.Reason.TheVariants.{Dead, Short, Long, Cut, NoReference, Differs, NoSide, Untrue, Undefined, Inside, Nothing}
 use Rattle.rohcfn_items.specs.BitTexts.{bits_text}
 use Rattle.rohcfn_items.specs.Fields.{encoding_at, method_word}
-use Rattle.rohcfn_report.specs.Obstacles.{first_bracket, obstacle_words}
-pub use Rattle.rohcfn_report.specs.Obstacles.{place_of}
-pub use Rattle.rohcfn_report.specs.Names.{field_name}
-use Rattle.rohcfn_report.specs.Names.{constraints_at, format_name, method_name, method_place}
+use Rattle.rohcfn_names.specs.Obstacles.{first_bracket, obstacle_words}
+pub use Rattle.rohcfn_names.specs.Obstacles.{place_of}
+pub use Rattle.rohcfn_names.specs.Names.{field_name}
+use Rattle.rohcfn_names.specs.Names.{constraints_at, format_name, method_name, method_place}
 
 -- the place of a field: its bracket, first that of what is sent, else the method's name
 abbrev pub field_place : List Method → ℕ → ℕ → ℕ → Span

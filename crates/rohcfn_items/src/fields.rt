@@ -6,14 +6,14 @@ ghost use Rattle.fn_filling.specs.Fillings.{inner_of, sides_of};
 ghost use Rattle.fn_filling.specs.declared.filling.Filling.{out-Filling};
 ghost use Rattle.rohcfn_items.specs.BitTexts.{bits_text};
 ghost use Rattle.rohcfn_items.specs.Fields as spec;
-ghost use Rattle.rohcfn_report.specs.Names.{method_name as name_of};
-ghost use Rattle.rohcfn_report.specs.CheckFaults.{format_words};
+ghost use Rattle.rohcfn_names.specs.Names.{method_name as name_of};
+ghost use Rattle.rohcfn_names.specs.CheckFaults.{format_words};
 
 use fn_bits::Bits;
 use fn_filling::{FilledField, Filling};
 use fn_normal::{Encoding, Library, Method, Part};
-use rohcfn_report::names::{field_at, format_name, method_name};
-use rohcfn_report::table::{Cell, push_table};
+use rohcfn_names::names::{field_at, format_name, method_name};
+use rohcfn_names::table::{Cell, push_table};
 use sqlite_items::Items;
 use std::alloc::{AllocError, Global};
 

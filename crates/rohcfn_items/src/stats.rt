@@ -6,8 +6,8 @@ ghost use Rattle.rohcfn_items.specs.Stats as spec;
 use fn_normal::{Format, Method};
 use fn_stats::{Count, Tally, tally_all, tally_field, tally_format};
 use itoa::Buffer;
-use rohcfn_report::names::{field_name, format_name, formats_of};
-use rohcfn_report::table::{Cell, push_table};
+use rohcfn_names::names::{field_name, format_name, formats_of};
+use rohcfn_names::table::{Cell, push_table};
 use sqlite_items::Items;
 use std::alloc::{AllocError, Global};
 

@@ -16,9 +16,9 @@ use fn_profile::Profile;
 use fn_reasons::{Figure, Line, Reason};
 use fn_source::{Span, line_column};
 use itoa::Buffer;
-use rohcfn_report::names::{constraints_at, field_name, format_name, method_name, method_place};
-use rohcfn_report::obstacles::{bracket_or, obstacle_words, place_of};
-use rohcfn_report::table::push_blanks;
+use rohcfn_names::names::{constraints_at, field_name, format_name, method_name, method_place};
+use rohcfn_names::obstacles::{bracket_or, obstacle_words, place_of};
+use rohcfn_names::table::push_blanks;
 use std::alloc::{AllocError, Global};
 
 /// Adds a line for each, after a line feed: where in the profile it stands, the method and the format, and what stands against that. Each method that a field

@@ -39,7 +39,7 @@ use Rattle.rohcfn_input.specs.declared.status.Status.TheVariants as status
 use Rattle.rohcfn_input.specs.Refusals.{IsRefusal}
 use Rattle.rohcfn_report.specs.Reports.{ProvedOctets, ProvesOctets, none_proved, proved_by}
 use Rattle.rohcfn_report.specs.Prove.{IsUnprovedLine, ProvedBy, Proves, printed, unproved}
-use Rattle.rohcfn_report.specs.CheckFaults.{IsErrorLine, line_of_certificate, verdict_line}
+use Rattle.rohcfn_names.specs.CheckFaults.{IsErrorLine, line_of_certificate, verdict_line}
 use Rattle.rohcfn_report.specs.Accepting.{AcceptsProfile, IsCertificate, IsFound, IsGiven, IsJudged, IsMade, IsVerdict, JudgesOctets, LacksCertificate, RefusesCertificate, RefusesProfile, at_fault, broken, broken_text, invalid, lacking, read, unaccepted, unmade, unread}
 use Rattle.rohcfn_input.proofs.RefusalsHeld.{done_is}
 

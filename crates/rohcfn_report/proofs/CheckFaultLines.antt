@@ -31,8 +31,8 @@ use Rattle.fn_source.specs.declared.span.Span.{Span}
 use Rattle.rohcfn_input.specs.OneLine.{IsLine}
 use Rattle.rohcfn_report.specs.ProfileLines.{IsFaultLine, profile_line, text_fault, profile_fault}
 use Rattle.rohcfn_report.specs.Prove.{IsUnprovedLine, plan_line, side_words, tree_line}
-use Rattle.rohcfn_report.specs.CheckFaults.{IsErrorLine, direction_word, line_of_certificate, node_words, verdict_line}
-use Rattle.rohcfn_report.specs.Names.{field_name, format_name, method_name, names}
+use Rattle.rohcfn_names.specs.CheckFaults.{IsErrorLine, direction_word, line_of_certificate, node_words, verdict_line}
+use Rattle.rohcfn_names.specs.Names.{field_name, format_name, method_name, names}
 use Rattle.rohcfn_input.proofs.OneLineLemmas.{and_parts, joined, number, name}
 
 -- ---- the names in methods

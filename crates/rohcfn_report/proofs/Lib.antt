@@ -1,5 +1,5 @@
 pub mod AcceptingCertificates
-pub mod CandidatesCapped
 pub mod CheckFaultLines
+pub mod ExplainingNotes
 pub mod ProfileLinesListed
-pub mod TableLists
+pub mod SurveysAnswered

@@ -24,7 +24,7 @@ use Rattle.rohcfn_report.specs.declared.profile_and_certificate.Origin.TheVarian
 use Rattle.rohcfn_input.specs.OneLine.{IsLine}
 use Rattle.rohcfn_report.specs.ProfileLines.{IsFaultLine}
 use Rattle.rohcfn_report.specs.Prove.{IsUnprovedLine}
-use Rattle.rohcfn_report.specs.CheckFaults.{IsErrorLine, line_of_certificate, verdict_line}
+use Rattle.rohcfn_names.specs.CheckFaults.{IsErrorLine, line_of_certificate, verdict_line}
 
 -- where a certificate comes from: the part, or the prover, which makes one of that version
 abbrev pub origin_of : Version → Option (Bor (List ℕ)) → Origin

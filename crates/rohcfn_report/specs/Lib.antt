@@ -1,9 +1,6 @@
 pub mod Accepting
-pub mod Candidates
-pub mod CheckFaults
-pub mod Names
-pub mod Obstacles
+pub mod Explained
 pub mod ProfileLines
 pub mod Prove
 pub mod Reports
-pub mod Table
+pub mod Surveys

@@ -14,8 +14,8 @@ use Rattle.rohcfn_input.specs.declared.status.Answer.{Answer}
 use Rattle.rohcfn_input.specs.declared.status.Status.{Status}
 use Rattle.rohcfn_input.specs.declared.status.Status.TheVariants as status
 use Rattle.rohcfn_input.specs.OneLine.{IsLine}
-use Rattle.rohcfn_report.specs.Names.{names, method_name, format_name, field_name}
-use Rattle.rohcfn_report.specs.CheckFaults.{direction_word}
+use Rattle.rohcfn_names.specs.Names.{names, method_name, format_name, field_name}
+use Rattle.rohcfn_names.specs.CheckFaults.{direction_word}
 
 -- a side of a field of a format, after a blank
 abbrev pub side_words : List Method → ℕ → ℕ → FieldSide → List ℕ

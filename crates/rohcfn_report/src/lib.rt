@@ -1,12 +1,10 @@
-//! What `show`, `prove` and `check` print, who accepts a profile with its certificate for the other calls, and the words for what a profile has: names, places, obstacles, candidates, tables.
+//! What is answered of a profile by its octets: `show`, `prove`, `check` with what explains them, `lint` and `draw`; and who accepts a profile with its certificate
+//! for the other calls.
 #![tactic(auto)]
 
-pub mod candidates;
 pub mod check;
-pub mod check_faults;
-pub mod names;
-pub mod obstacles;
+pub mod explaining;
 pub mod profile_and_certificate;
 pub mod prove;
 pub mod show;
-pub mod table;
+pub mod surveys;

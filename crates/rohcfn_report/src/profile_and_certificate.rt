@@ -5,9 +5,8 @@ ghost use Rattle.std.specs.Str.{IsUtf8};
 ghost use Rattle.fn_cert_text.specs.Faults.{Blames};
 ghost use Rattle.fn_profile.specs.Resolved.{Resolved};
 ghost use Rattle.rohcfn_report.specs.Accepting as spec;
-ghost use Rattle.rohcfn_report.specs.CheckFaults as verdicts;
+ghost use Rattle.rohcfn_names.specs.CheckFaults as verdicts;
 
-use crate::check_faults::{error_text, unread_line, verdict_line};
 use crate::prove::unproved_line;
 use crate::show::error_line;
 use fn_accepted::Accepted;
@@ -20,6 +19,7 @@ use fn_names::read;
 use fn_profile::Profile;
 use fn_prover::prove;
 use rohcfn_input::bundle::Parts;
+use rohcfn_names::check_faults::{error_text, unread_line, verdict_line};
 use std::alloc::{AllocError, Global};
 
 /// Where the certificate of a profile comes from: the octets that are given, or the prover, which makes one of that version.

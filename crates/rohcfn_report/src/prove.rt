@@ -6,8 +6,6 @@ ghost use Rattle.fn_cert_text.specs.Text.{certificate_text};
 ghost use Rattle.rohcfn_report.specs.Prove as spec;
 ghost use Rattle.rohcfn_report.specs.Prove.{Proves};
 
-use crate::check_faults::{direction_word, side_word};
-use crate::names::{field_name, format_name, method_name, names};
 use crate::show::error_line;
 use fn_cert::{Certificate, Direction, Version};
 use fn_cert_text::print;
@@ -18,6 +16,8 @@ use fn_profile::Profile;
 use fn_prover::{Unproved, prove};
 use rohcfn_input::refusals::refusal;
 use rohcfn_input::status::{Answer, Status};
+use rohcfn_names::check_faults::{direction_word, side_word};
+use rohcfn_names::names::{field_name, format_name, method_name, names};
 use std::alloc::{AllocError, Global};
 
 /// The answer to `prove`: the text of the certificate of that version that is made, or the line of the profile's fault or of what is missing.

@@ -1,3 +1,2 @@
 pub mod DrawLemmas
-pub mod LintLemmas
 pub mod WarningsLemmas

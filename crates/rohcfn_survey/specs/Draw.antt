@@ -11,16 +11,12 @@ use Rattle.fn_normal.specs.declared.profile.FormatSizes.{FormatSizes}
 use Rattle.fn_normal.specs.declared.profile.Method.{Method}
 use Rattle.fn_normal.specs.declared.profile.MethodSizes.{MethodSizes}
 use Rattle.fn_profile.specs.Resolved.{Resolved}
-use Rattle.fn_names.specs.Readings.{Reads}
 use Rattle.fn_fits.specs.Bounded.{sizes_at}
 use Rattle.fn_draw.specs.declared.columns.Column.{Column}
 use Rattle.fn_draw.specs.Columns.{capped, columns_at}
 use Rattle.rohcfn_input.specs.declared.status.Answer.{Answer}
-use Rattle.rohcfn_input.specs.declared.status.Status.{Status}
 use Rattle.rohcfn_input.specs.declared.status.Status.TheVariants as status
-use Rattle.rohcfn_input.specs.Refusals.{Holds}
-use Rattle.rohcfn_report.specs.ProfileLines.{IsFaultLine}
-use Rattle.rohcfn_report.specs.Names.{field_at, field_name, format_name, formats_of, method_name}
+use Rattle.rohcfn_names.specs.Names.{field_at, field_name, format_name, formats_of, method_name}
 
 -- ---- words
 
@@ -176,16 +172,6 @@ called_text p k m = if nat_eq k p.top then [] else method_text p k m.formats
 abbrev pub drawn : Resolved → List ℕ
 drawn p = method_text p p.top (formats_of p.methods p.top) ++ flat_map (λ (m : ℕ × Method). called_text p m.0 m.1) (enumerate_from 0 p.methods)
 
--- What is answered to `draw`.
-pub data DrawnBy (top octets : List ℕ) : Status → List ℕ → Type 0 where
-  -- the profile is at fault
-  no_drawing : (text : List ℕ) → IsFaultLine top octets text → DrawnBy top octets status.Refused (text ++ 10 ∷ [])
-  -- the formats of the normal form
-  drawn_by : (p : Resolved) → Reads octets top p → DrawnBy top octets status.Done (drawn p)
-
 -- the diagrams of a profile
 abbrev pub DrawsProfile : Resolved → Answer → Type 0
 DrawsProfile p a = (a.status ≡ status.Done) × (string_bytes a.output ≡ drawn p)
-
-abbrev pub Draws : List ℕ → List ℕ → Answer → Type 0
-Draws top octets = Holds (DrawnBy top octets)

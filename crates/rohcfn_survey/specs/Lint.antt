@@ -14,7 +14,6 @@ use Rattle.fn_normal.specs.declared.profile.Method.{Method}
 use Rattle.fn_normal.specs.declared.profile.MethodSizes.{MethodSizes}
 use Rattle.fn_profile.specs.Resolved.{Resolved}
 use Rattle.fn_rules.specs.Facts.{same_side}
-use Rattle.fn_names.specs.Readings.{Reads}
 use Rattle.fn_lint.specs.declared.formats.DeadFormat.{DeadFormat}
 use Rattle.fn_lint.specs.declared.obstacle.Obstacle.{Obstacle}
 use Rattle.fn_lint.specs.declared.obstacle.Obstacle.TheVariants as obstacle
@@ -22,12 +21,9 @@ use Rattle.fn_lint.specs.Listing.{AreDead}
 use Rattle.fn_bounds.specs.Faults.{side_bounds}
 use Rattle.fn_fits.specs.Bounded.{sizes_at}
 use Rattle.rohcfn_input.specs.declared.status.Answer.{Answer}
-use Rattle.rohcfn_input.specs.declared.status.Status.{Status}
 use Rattle.rohcfn_input.specs.declared.status.Status.TheVariants as status
-use Rattle.rohcfn_input.specs.Refusals.{Holds}
-use Rattle.rohcfn_report.specs.ProfileLines.{IsFaultLine}
-use Rattle.rohcfn_report.specs.Names.{format_name, method_name}
-use Rattle.rohcfn_report.specs.Obstacles.{obstacle_words, place_of}
+use Rattle.rohcfn_names.specs.Names.{format_name, method_name}
+use Rattle.rohcfn_names.specs.Obstacles.{obstacle_words, place_of}
 use Rattle.rohcfn_survey.specs.Warnings.{AreWarnings}
 
 -- ---- the place of a line
@@ -49,18 +45,7 @@ lint_line octets p d =
 abbrev pub lint_text : List ℕ → Resolved → List DeadFormat → List ℕ
 lint_text octets p found = flat_map (lint_line octets p) found
 
--- What is answered to `lint`.
-pub data LintedBy (top octets : List ℕ) : Status → List ℕ → Type 0 where
-  -- the profile is at fault
-  no_lint : (text : List ℕ) → IsFaultLine top octets text → LintedBy top octets status.Refused (text ++ 10 ∷ [])
-  -- the formats of the normal form by which nothing can be packed, and below them warnings
-  linted : (p : Resolved) (found : List DeadFormat) (warnings : List ℕ) → Reads octets top p → AreDead p 0 0 found → AreWarnings octets p warnings
-      → LintedBy top octets status.Done (lint_text octets p found ++ warnings)
-
 -- the formats of a profile by which nothing can be packed, and warnings
 abbrev pub LintsProfile : List ℕ → Resolved → Answer → Type 0
 LintsProfile octets p a =
     (found : List DeadFormat) × AreDead p 0 0 found × (a.status ≡ status.Done) × (warnings : List ℕ) × AreWarnings octets p warnings × (string_bytes a.output ≡ lint_text octets p found ++ warnings)
-
-abbrev pub Lints : List ℕ → List ℕ → Answer → Type 0
-Lints top octets = Holds (LintedBy top octets)

@@ -13,10 +13,10 @@ use Rattle.fn_prover.specs.declared.unproved.Unproved.{Unproved}
 use Rattle.fn_prover.specs.declared.unproved.Unproved.TheVariants.{OutOfMemory}
 use Rattle.fn_lint.specs.declared.needs.Needing.{Needing}
 use Rattle.fn_lint.specs.declared.spelled.Misspelled.{Misspelled}
-use Rattle.rohcfn_report.specs.declared.candidates.Counts.{Counts}
-use Rattle.rohcfn_report.specs.declared.candidates.Factor.{Factor}
-use Rattle.rohcfn_report.specs.Candidates.{AreCounted, factors_of, format_count, method_count, write_steps}
-use Rattle.rohcfn_report.specs.Names.{field_name, format_name, method_name, method_place}
+use Rattle.rohcfn_names.specs.declared.candidates.Counts.{Counts}
+use Rattle.rohcfn_names.specs.declared.candidates.Factor.{Factor}
+use Rattle.rohcfn_names.specs.Candidates.{AreCounted, factors_of, format_count, method_count, write_steps}
+use Rattle.rohcfn_names.specs.Names.{field_name, format_name, method_name, method_place}
 
 -- ---- where a line begins
 

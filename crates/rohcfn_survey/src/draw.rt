@@ -1,42 +1,26 @@
-//! What is answered to `draw`.
+//! What `draw` draws of a profile.
 
 ghost use Rattle.std.specs.Prelude.{◌≡◌, ◌++◌, IfOk, OnOk, decimal, option_map, string_bytes};
 ghost use Rattle.std.specs.Option.{option_copied};
 ghost use Rattle.fn_fits.specs.Bounded.{sizes_at};
 ghost use Rattle.rohcfn_survey.specs.Draw as spec;
-ghost use Rattle.rohcfn_report.specs.Names as naming;
+ghost use Rattle.rohcfn_names.specs.Names as naming;
 
 use fn_draw::{Column, columns_at};
-use fn_names::read;
 use fn_normal::{Bounds, Encoding, Format, FormatSizes, Method};
 use fn_profile::Profile;
 use itoa::Buffer;
-use rohcfn_input::refusals::refusal;
 use rohcfn_input::status::{Answer, Status};
-use rohcfn_report::names::{field_at, field_name, format_name, formats_of, method_name};
-use rohcfn_report::show::error_line;
-use rohcfn_report::table::push_blanks;
+use rohcfn_names::names::{field_at, field_name, format_name, formats_of, method_name};
+use rohcfn_names::table::push_blanks;
 use std::alloc::{AllocError, Global};
 
 const RULE: &str = "  +---+---+---+---+---+---+---+---+\n";
 
 const SCALE: &str = "    0   1   2   3   4   5   6   7\n";
 
-/// The diagram of each format's packed bits: the formats of the top first, and then those of the other methods. For a profile with a fault its line.
-pub fn answer_draw(alloc: Global, top: &str, octets: &[u8]) -> Result<Answer, AllocError>
-    ensures { IfOk result (spec.Draws top.now octets.now) }
-{
-    match read(alloc, octets, top.as_bytes()) {
-        Ok(profile) => answer_profile(alloc, &profile),
-        Err(error) => {
-            let line = error_line(alloc, octets, error)?;
-            refusal(alloc, line.as_str())
-        }
-    }
-}
-
-/// The answer by a profile.
-fn answer_profile(alloc: Global, profile: &Profile) -> Result<Answer, AllocError>
+/// The diagram of each format's packed bits: the formats of the top first, and then those of the other methods. It fails only where memory is refused.
+pub fn draw_profile(alloc: Global, profile: &Profile) -> Result<Answer, AllocError>
     ensures { IfOk result (spec.DrawsProfile profile.now) }
 {
     let mut output = String::new(alloc);

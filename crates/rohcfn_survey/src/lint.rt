@@ -1,43 +1,21 @@
-//! What is answered to `lint`.
+//! What `lint` tells of a profile.
 
 ghost use Rattle.std.specs.Prelude.{◌≡◌, ◌++◌, IfOk, OnOk, string_bytes};
 ghost use Rattle.rohcfn_survey.specs.Lint as spec;
 
 use crate::warnings::warnings;
 use fn_lint::{DeadFormat, dead_formats};
-use fn_names::read;
 use fn_profile::Profile;
 use fn_source::line_column;
-use rohcfn_input::refusals::refusal;
 use rohcfn_input::status::{Answer, Status};
-use rohcfn_report::names::{format_name, method_name};
-use rohcfn_report::obstacles::{obstacle_words, place_of};
-use rohcfn_report::show::error_line;
+use rohcfn_names::names::{format_name, method_name};
+use rohcfn_names::obstacles::{obstacle_words, place_of};
 use std::alloc::{AllocError, Global};
 
-/// A line for each format of the profile by which no header can ever be packed, whatever the context holds: where in the profile the reason stands, and what it is. For a
-/// profile with a fault its line.
-/// Below them stand warnings: what the rules of fn_lint find, which are tested, and methods with too many candidates. The octets of a context may be given, with which a flow
-/// begins.
-pub fn answer_lint(
-    alloc: Global,
-    top: &str,
-    octets: &[u8],
-    context: Option<&[u8]>,
-) -> Result<Answer, AllocError>
-    ensures { IfOk result (spec.Lints top.now octets.now) }
-{
-    match read(alloc, octets, top.as_bytes()) {
-        Ok(profile) => answer_profile(alloc, octets, &profile, context),
-        Err(error) => {
-            let line = error_line(alloc, octets, error)?;
-            refusal(alloc, line.as_str())
-        }
-    }
-}
-
-/// The answer by a profile.
-fn answer_profile(
+/// A line for each format of the profile by which no header can ever be packed, whatever the context holds: where in the profile the reason stands, and what it is.
+/// Below them stand warnings: what the rules of fn_lint find, which are tested, and methods with too many candidates. The octets are those of the profile's text. Those
+/// of a context may be given, with which a flow begins. It fails only where memory is refused.
+pub fn lint_profile(
     alloc: Global,
     octets: &[u8],
     profile: &Profile,

@@ -10,10 +10,10 @@ use fn_normal::{Format, Method};
 use fn_profile::Profile;
 use fn_prover::{Unproved, prove};
 use fn_source::line_column;
-use rohcfn_report::candidates::{
+use rohcfn_names::candidates::{
     Counts, Factor, count_all, factors, format_count, method_count, write_steps,
 };
-use rohcfn_report::names::{field_name, format_name, method_name, method_place};
+use rohcfn_names::names::{field_name, format_name, method_name, method_place};
 use sqlite_items::Items;
 use std::alloc::{AllocError, Global};
 

@@ -13,7 +13,7 @@ use Rattle.rohcfn_words.specs.declared.words.End.TheVariants.{Sending, Receiving
 use Rattle.rohcfn_tool.specs.Line.{IsLineFault, bad_event_text, line_part_name}
 use Rattle.rohcfn_input.specs.OneLine.{IsLine}
 use Rattle.rohcfn_tool.specs.Printed.{IsPacketFault, refused_packet}
-use Rattle.rohcfn_report.specs.CheckFaults.{format_words}
+use Rattle.rohcfn_names.specs.CheckFaults.{format_words}
 use Rattle.rohcfn_input.proofs.OneLineLemmas.{joined, number}
 use Rattle.rohcfn_report.proofs.CheckFaultLines.{method, format}
 

@@ -23,12 +23,12 @@ use Rattle.rohcfn_report.specs.Accepting.{origin_of}
 use Rattle.rohcfn_report.specs.declared.profile_and_certificate.Origin.{Origin}
 use Rattle.rohcfn_report.specs.Prove.{ProvedBy}
 use Rattle.rohcfn_report.specs.Prove.ProvedBy.{printed as proved_by_printed, unproved as proved_by_unproved}
-use Rattle.rohcfn_explain.specs.Explained.{Explained}
-use Rattle.rohcfn_explain.specs.Explained.Explained.{explained as explained_plain}
-use Rattle.rohcfn_survey.specs.Draw.{DrawnBy}
-use Rattle.rohcfn_survey.specs.Draw.DrawnBy.{drawn_by as drawn_by_drawn, no_drawing as drawn_by_no_drawing}
-use Rattle.rohcfn_survey.specs.Lint.{LintedBy}
-use Rattle.rohcfn_survey.specs.Lint.LintedBy.{linted as linted_by_linted, no_lint as linted_by_no_lint}
+use Rattle.rohcfn_report.specs.Explained.{Explained}
+use Rattle.rohcfn_report.specs.Explained.Explained.{explained as explained_plain}
+use Rattle.rohcfn_report.specs.Surveys.{DrawnBy}
+use Rattle.rohcfn_report.specs.Surveys.DrawnBy.{drawn_by as drawn_by_drawn, no_drawing as drawn_by_no_drawing}
+use Rattle.rohcfn_report.specs.Surveys.{LintedBy}
+use Rattle.rohcfn_report.specs.Surveys.LintedBy.{linted as linted_by_linted, no_lint as linted_by_no_lint}
 use Rattle.rohcfn_report.specs.Reports.{ShownBy, CheckedOctets, ProvedOctets}
 use Rattle.rohcfn_report.specs.Reports.ShownBy.{listed as shown_by_listed, no_listing as shown_by_no_listing}
 use Rattle.rohcfn_report.specs.Reports.CheckedOctets.{accepted as checked_octets_accepted, refused as checked_octets_refused}

@@ -44,11 +44,11 @@ use Rattle.fn_reasons.specs.declared.line.Line as reasons
 use Rattle.rohcfn_items.specs.Fields.{fields_text, head_text}
 use Rattle.rohcfn_items.specs.Why.{reasons_text}
 use Rattle.rohcfn_items.specs.Stats.{stats_text}
-use Rattle.rohcfn_report.specs.Names.{format_name, method_name}
-use Rattle.rohcfn_report.specs.CheckFaults.{format_words}
-use Rattle.rohcfn_explain.specs.Explained.{Explained}
-use Rattle.rohcfn_survey.specs.Draw.{DrawnBy}
-use Rattle.rohcfn_survey.specs.Lint.{LintedBy}
+use Rattle.rohcfn_names.specs.Names.{format_name, method_name}
+use Rattle.rohcfn_names.specs.CheckFaults.{format_words}
+use Rattle.rohcfn_report.specs.Explained.{Explained}
+use Rattle.rohcfn_report.specs.Surveys.{DrawnBy}
+use Rattle.rohcfn_report.specs.Surveys.{LintedBy}
 use Rattle.rohcfn_report.specs.Reports.{ShownBy, CheckedOctets, ProvedOctets}
 use Rattle.rohcfn_input.specs.Refusals.{Holds}
 

@@ -18,7 +18,7 @@ use itoa::Buffer;
 use rohcfn_input::spelling::{push_bits, push_item_text, push_line};
 use rohcfn_input::status::{Answer, Status};
 use rohcfn_items::fields::{Head, fields_text, head_line};
-use rohcfn_report::names::{format_name, method_name};
+use rohcfn_names::names::{format_name, method_name};
 use std::alloc::{AllocError, Global};
 
 /// What is printed for an item or a packet.

@@ -1,7 +1,7 @@
 use Rattle.std.proofs.Common.{◌++◌}
 use Rattle.rohcfn_items.specs.Fields.{encoding_at, listed}
 use Rattle.rohcfn_items.proofs.FieldsListed.{format_in, rows_at}
-use Rattle.rohcfn_report.proofs.TableLists.{Goes}
+use Rattle.rohcfn_names.proofs.TableLists.{Goes}
 use Rattle.rohcfn_items.proofs.fields.+add_rows.Given as goal
 
 abbrev pub invariant-loop-i : goal.invariant-loop-i

@@ -1,8 +1,8 @@
 use Rattle.std.proofs.Common.{◌++◌}
 use Rattle.fn_stats.specs.Counts.{tally_field}
 use Rattle.rohcfn_items.specs.Stats.{field_rows, listed_rows}
-use Rattle.rohcfn_report.specs.Names.{field_name}
-use Rattle.rohcfn_report.proofs.TableLists.{Goes}
+use Rattle.rohcfn_names.specs.Names.{field_name}
+use Rattle.rohcfn_names.proofs.TableLists.{Goes}
 use Rattle.rohcfn_items.proofs.stats.add_fields.Given as goal
 
 abbrev pub invariant-loop-place : goal.invariant-loop-place

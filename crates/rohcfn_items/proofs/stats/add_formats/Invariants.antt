@@ -1,6 +1,6 @@
 use Rattle.std.proofs.Common.{◌++◌}
 use Rattle.rohcfn_items.specs.Stats.{format_rows, formats_rows}
-use Rattle.rohcfn_report.proofs.TableLists.{Goes}
+use Rattle.rohcfn_names.proofs.TableLists.{Goes}
 use Rattle.rohcfn_items.proofs.stats.add_formats.Given as goal
 
 abbrev pub invariant-loop-number : goal.invariant-loop-number

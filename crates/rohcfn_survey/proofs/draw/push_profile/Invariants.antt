@@ -1,6 +1,6 @@
 use Rattle.std.specs.Prelude.{◌++◌, string_bytes}
 use Rattle.rohcfn_survey.specs.Draw.{called_text, drawn}
-use Rattle.rohcfn_report.proofs.TableLists.{Goes}
+use Rattle.rohcfn_names.proofs.TableLists.{Goes}
 use Rattle.rohcfn_survey.proofs.draw.push_profile.Given as goal
 
 abbrev pub invariant-loop-index : goal.invariant-loop-index

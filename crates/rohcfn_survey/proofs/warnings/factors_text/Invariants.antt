@@ -1,6 +1,6 @@
 use Rattle.std.specs.Prelude.{string_bytes}
 use Rattle.rohcfn_survey.specs.Warnings.{factor_text, factors_text}
-use Rattle.rohcfn_report.proofs.TableLists.{Goes}
+use Rattle.rohcfn_names.proofs.TableLists.{Goes}
 use Rattle.rohcfn_survey.proofs.warnings.factors_text.Given as goal
 
 abbrev pub invariant-loop-place : goal.invariant-loop-place

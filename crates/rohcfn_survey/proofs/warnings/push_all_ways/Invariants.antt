@@ -1,6 +1,6 @@
 use Rattle.std.specs.Prelude.{◌++◌, string_bytes}
 use Rattle.rohcfn_survey.specs.Warnings.{ways_line, ways_lines}
-use Rattle.rohcfn_report.proofs.TableLists.{Goes}
+use Rattle.rohcfn_names.proofs.TableLists.{Goes}
 use Rattle.rohcfn_survey.proofs.warnings.push_all_ways.Given as goal
 
 abbrev pub invariant-loop-index : goal.invariant-loop-index

@@ -2,9 +2,9 @@ use Rattle.std.proofs.Common.{refl, subst}
 use Rattle.rohcfn_tool.specs.Line.{Lined}
 use Rattle.rohcfn_tool.specs.Printed.{Answered, AnsweredRun, no_profile, shown, linted, drawn, checked, proved, check_explained, prove_explained, ran, told, explained, lined, stated, Stated}
 use Rattle.rohcfn_tool.specs.declared.packets.Shape.TheVariants.{Line, Tree, Why}
-use Rattle.rohcfn_explain.specs.Explained.{Explained}
-use Rattle.rohcfn_survey.specs.Draw.{DrawnBy}
-use Rattle.rohcfn_survey.specs.Lint.{LintedBy}
+use Rattle.rohcfn_report.specs.Explained.{Explained}
+use Rattle.rohcfn_report.specs.Surveys.{DrawnBy}
+use Rattle.rohcfn_report.specs.Surveys.{LintedBy}
 use Rattle.rohcfn_report.specs.Reports.{CheckedOctets, ProvedOctets, ShownBy}
 use Rattle.rohcfn_input.proofs.RefusalsHeld.{passed_on, refusal_is}
 use Rattle.rohcfn_tool.proofs.answers.answer.Goals as goal

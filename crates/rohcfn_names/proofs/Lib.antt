@@ -1,0 +1,2 @@
+pub mod CandidatesCapped
+pub mod TableLists

@@ -1,0 +1,74 @@
+-- What keeps every filling from a format: where its reason stands in the profile, and its words (docs/FORMATS.md).
+use Rattle.std.specs.Prelude.{ℕ, List, [], ◌++◌, Option, None, Some, codes, decimal, slice_get, option_and_then, option_map, ◌∷◌, ◌&&◌, nat_eq, unwrap_or, if◌then◌else◌, ◌+◌, ◌-◌, length, true}
+use Rattle.fn_normal.specs.declared.profile.Method.{Method}
+use Rattle.std.specs.Option.{option_or}
+use Rattle.fn_source.specs.declared.span.Span.{Span}
+use Rattle.fn_expr.specs.declared.expr.Side.{Side}
+use Rattle.fn_expr.specs.declared.expr.Side.TheVariants.{Uncompressed, Compressed}
+use Rattle.fn_normal.specs.declared.profile.Bounds.{Bounds}
+use Rattle.fn_normal.specs.declared.profile.Constraint.{Constraint}
+use Rattle.fn_normal.specs.declared.profile.Constraint.TheVariants.{Bracket, Enforce}
+use Rattle.fn_normal.specs.declared.profile.FormatSizes.{FormatSizes}
+use Rattle.fn_normal.specs.declared.profile.MethodSizes.{MethodSizes}
+use Rattle.fn_profile.specs.Resolved.{Resolved}
+use Rattle.fn_rules.specs.Facts.{same_side}
+use Rattle.fn_lint.specs.declared.formats.DeadFormat.{DeadFormat}
+use Rattle.fn_lint.specs.declared.obstacle.Obstacle.{Obstacle}
+use Rattle.fn_lint.specs.declared.obstacle.Obstacle.TheVariants as obstacle
+use Rattle.fn_bounds.specs.Faults.{side_bounds}
+use Rattle.fn_fits.specs.Bounded.{sizes_at}
+use Rattle.rohcfn_names.specs.Names.{constraints_at, field_name, method_place}
+
+-- the place of a bracket of this side of the field i
+abbrev pub bracket_of : ℕ → Side → Constraint → Option Span
+bracket_of i side (Bracket j other lengths place) = if nat_eq i j && same_side side other then Some place else None
+bracket_of i side (Enforce condition place) = None
+
+-- that of the first such bracket
+abbrev pub first_bracket : ℕ → Side → List Constraint → Option Span
+first_bracket i side [] = None
+first_bracket i side (c ∷ cs) = option_or (bracket_of i side c) (first_bracket i side cs)
+
+-- of a bracket, or of the first token of a conjunct
+abbrev pub constraint_place : Constraint → Span
+constraint_place (Bracket i side lengths place) = place
+constraint_place (Enforce condition place) = place
+
+-- the bracket of the side that has no length, or of what `lsb` or `crc` sends; the condition; the method's name where there is no bracket
+abbrev pub obstacle_place : List Constraint → Span → Obstacle → Span
+obstacle_place cs at (obstacle.NoLength i side) = unwrap_or (first_bracket i side cs) at
+obstacle_place cs at (obstacle.SendsMore i) = unwrap_or (first_bracket i Compressed cs) at
+obstacle_place cs at (obstacle.SplitsOctets i) = unwrap_or (first_bracket i Compressed cs) at
+obstacle_place cs at (obstacle.NeverTrue j) = unwrap_or (option_map constraint_place (slice_get cs j)) at
+
+abbrev pub place_of : List Method → DeadFormat → Span
+place_of methods d = obstacle_place (constraints_at methods d.method d.format) (method_place methods d.method) d.obstacle
+
+abbrev pub side_name : Side → List ℕ
+side_name Uncompressed = codes "uncompressed"
+side_name Compressed = codes "compressed"
+
+-- the bounds of a side of a field
+abbrev pub bounds_at : List MethodSizes → ℕ → ℕ → ℕ → Side → Bounds
+bounds_at table k n i side =
+    unwrap_or (option_map (side_bounds side) (option_and_then (λ (s : FormatSizes). slice_get s.fields i) (sizes_at table k n))) (record { least = 0; most = 0 })
+
+abbrev pub length_text : List ℕ → ℕ → ℕ → List ℕ → List ℕ
+length_text name least most side = name ++ codes " has at least " ++ decimal least ++ codes " and at most " ++ decimal most ++ codes " bits " ++ side
+
+abbrev pub length_words : List ℕ → Bounds → Side → List ℕ
+length_words name b side = length_text name b.least b.most (side_name side)
+
+abbrev pub lsb_words : List ℕ → ℕ → ℕ → List ℕ
+lsb_words name sent most = codes "lsb of " ++ decimal sent ++ codes " bits on " ++ name ++ codes ", which has at most " ++ decimal most
+
+abbrev pub crc_words : List ℕ → List ℕ
+crc_words name = codes "crc " ++ name ++ codes " is over bits that are never whole octets"
+
+-- what keeps every filling from the format n of the method k
+abbrev pub obstacle_words : Resolved → ℕ → ℕ → Obstacle → List ℕ
+obstacle_words p k n (obstacle.NoLength i side) = length_words (field_name p.methods k n i) (bounds_at p.sizes k n i side) side
+obstacle_words p k n (obstacle.SendsMore i) =
+    lsb_words (field_name p.methods k n i) (bounds_at p.sizes k n i Compressed).least (bounds_at p.sizes k n i Uncompressed).most
+obstacle_words p k n (obstacle.SplitsOctets i) = crc_words (field_name p.methods k n i)
+obstacle_words p k n (obstacle.NeverTrue j) = codes "the condition is never true"

@@ -1,0 +1,203 @@
+//! What keeps every filling from a format: its place in the profile, and its words.
+
+ghost use Rattle.std.specs.Prelude.{◌≡◌, IfOk, option_and_then, slice_get, string_bytes, unwrap_or};
+ghost use Rattle.fn_fits.specs.Bounded.{sizes_at};
+ghost use Rattle.fn_rules.specs.Facts.{same_side};
+ghost use Rattle.rohcfn_names.specs.Obstacles as spec;
+
+use crate::names::{constraints_at, field_name, method_place};
+use fn_expr::Side;
+use fn_lint::{DeadFormat, Obstacle};
+use fn_normal::{Bounds, Constraint, Method, Shared, Sizes};
+use fn_profile::Profile;
+use fn_source::Span;
+use std::alloc::{AllocError, Global};
+
+/// Where in the profile the reason stands.
+pub fn place_of(methods: &[Method], dead: DeadFormat) -> Span
+    ensures { result ≡ spec.place_of methods.now dead }
+{
+    let constraints = constraints_at(methods, dead.method, dead.format);
+    let at = method_place(methods, dead.method);
+    match dead.obstacle {
+        Obstacle::NoLength { field, side } => bracket_or(constraints, field, side, at),
+        Obstacle::SendsMore { field } => bracket_or(constraints, field, Side::Compressed, at),
+        Obstacle::SplitsOctets { field } => bracket_or(constraints, field, Side::Compressed, at),
+        Obstacle::NeverTrue { constraint } => match constraints.get(constraint) {
+            Some(found) => constraint_place(found.get()),
+            None => at,
+        },
+    }
+}
+
+/// The place of the first bracket of this side of the field, or another.
+pub fn bracket_or(constraints: &[Shared<Constraint>], field: usize, side: Side, other: Span) -> Span
+    ensures { result ≡ unwrap_or (spec.first_bracket field side constraints.now) other }
+{
+    match first_bracket(constraints, field, side) {
+        Some(place) => place,
+        None => other,
+    }
+}
+
+fn first_bracket(constraints: &[Shared<Constraint>], field: usize, side: Side) -> Option<Span>
+    ensures { result ≡ spec.first_bracket field side constraints.now }
+{
+    for constraint in constraints {
+        if let Some(place) = bracket_of(constraint.get(), field, side) {
+            return Some(place);
+        }
+    }
+    None
+}
+
+fn bracket_of(constraint: &Constraint, field: usize, side: Side) -> Option<Span>
+    ensures { result ≡ spec.bracket_of field side constraint.now }
+{
+    match constraint {
+        Constraint::Bracket {
+            field: other,
+            side: which,
+            lengths: _,
+            place,
+        } => {
+            if field == *other && is_same(side, *which) {
+                Some(*place)
+            } else {
+                None
+            }
+        }
+        Constraint::Enforce { .. } => None,
+    }
+}
+
+fn is_same(one: Side, other: Side) -> bool
+    ensures { result ≡ same_side one other }
+{
+    match one {
+        Side::Uncompressed => match other {
+            Side::Uncompressed => true,
+            Side::Compressed => false,
+        },
+        Side::Compressed => match other {
+            Side::Uncompressed => false,
+            Side::Compressed => true,
+        },
+    }
+}
+
+/// The place of a bracket, or of the first token of a conjunct.
+fn constraint_place(constraint: &Constraint) -> Span
+    ensures { result ≡ spec.constraint_place constraint.now }
+{
+    match constraint {
+        Constraint::Bracket {
+            field: _,
+            side: _,
+            lengths: _,
+            place,
+        } => *place,
+        Constraint::Enforce {
+            condition: _,
+            place,
+        } => *place,
+    }
+}
+
+/// What keeps every filling from a format.
+pub fn obstacle_words(
+    alloc: Global,
+    profile: &Profile,
+    method: usize,
+    format: usize,
+    obstacle: Obstacle,
+) -> Result<String, AllocError>
+    ensures { IfOk result (λ text. string_bytes text ≡ spec.obstacle_words profile.now method format obstacle) }
+{
+    let methods = profile.methods();
+    match obstacle {
+        Obstacle::NoLength { field, side } => length_words(
+            alloc,
+            field_name(methods, method, format, field),
+            bounds_at(profile, method, format, field, side),
+            side,
+        ),
+        Obstacle::SendsMore { field } => lsb_words(
+            alloc,
+            field_name(methods, method, format, field),
+            bounds_at(profile, method, format, field, Side::Compressed).least,
+            bounds_at(profile, method, format, field, Side::Uncompressed).most,
+        ),
+        Obstacle::SplitsOctets { field } => {
+            crc_words(alloc, field_name(methods, method, format, field))
+        }
+        Obstacle::NeverTrue { constraint: _ } => {
+            String::from_str(alloc, "the condition is never true")
+        }
+    }
+}
+
+fn field_bounds(profile: &Profile, method: usize, format: usize, field: usize) -> Option<Sizes>
+    ensures { result ≡ option_and_then (λ s. slice_get s.fields field) (sizes_at profile.now.sizes method format) }
+{
+    profile
+        .sizes()
+        .get(method)?
+        .formats
+        .get(format)?
+        .fields
+        .get(field)
+        .copied()
+}
+
+/// The bounds of a side of a field.
+fn bounds_at(profile: &Profile, method: usize, format: usize, field: usize, side: Side) -> Bounds
+    ensures { result ≡ spec.bounds_at profile.now.sizes method format field side }
+{
+    match field_bounds(profile, method, format, field) {
+        Some(sizes) => match side {
+            Side::Uncompressed => sizes.uncompressed,
+            Side::Compressed => sizes.compressed,
+        },
+        None => Bounds { least: 0, most: 0 },
+    }
+}
+
+fn length_words(alloc: Global, name: &str, bounds: Bounds, side: Side) -> Result<String, AllocError>
+    ensures { IfOk result (λ text. string_bytes text ≡ spec.length_words name.now bounds side) }
+{
+    length_text(alloc, name, bounds.least, bounds.most, side_name(side))
+}
+
+fn length_text(
+    alloc: Global,
+    name: &str,
+    least: u128,
+    most: u128,
+    side: &str,
+) -> Result<String, AllocError>
+    ensures { IfOk result (λ text. string_bytes text ≡ spec.length_text name.now least most side.now) }
+{
+    format!(in alloc; "{name} has at least {least} and at most {most} bits {side}")
+}
+
+fn side_name(side: Side) -> &'static str
+    ensures { result.now ≡ spec.side_name side }
+{
+    match side {
+        Side::Uncompressed => "uncompressed",
+        Side::Compressed => "compressed",
+    }
+}
+
+fn lsb_words(alloc: Global, name: &str, sent: u128, most: u128) -> Result<String, AllocError>
+    ensures { IfOk result (λ text. string_bytes text ≡ spec.lsb_words name.now sent most) }
+{
+    format!(in alloc; "lsb of {sent} bits on {name}, which has at most {most}")
+}
+
+fn crc_words(alloc: Global, name: &str) -> Result<String, AllocError>
+    ensures { IfOk result (λ text. string_bytes text ≡ spec.crc_words name.now) }
+{
+    format!(in alloc; "crc {name} is over bits that are never whole octets")
+}
