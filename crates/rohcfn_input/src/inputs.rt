@@ -6,6 +6,7 @@ ghost use Rattle.std.specs.Str.{IsUtf8};
 ghost use Rattle.fn_bits.specs.Lines.{BlamesLines};
 ghost use Rattle.fn_filling.specs.declared.filling.AskedValue.{AskedValue};
 ghost use Rattle.fn_filling.specs.declared.filling.Item.{Item};
+ghost use Rattle.fn_normal.specs.Words.{as_name};
 ghost use Rattle.rohcfn_input.specs.Inputs.{AreItemWords, BlamesBroken, BlamesContext, BlamesLine, HasLines, IsBits, IsItem, IsValue, StartsAt};
 
 use crate::bundle::Parts;
@@ -80,7 +81,8 @@ pub fn read_items(alloc: Global, octets: &[u8]) -> Result<Vec<Item>, BadLine>
     };
     let mut inputs = Vec::new(alloc);
     for line in &lines {
-        match read_item(alloc, line.text)? {
+        let like = last_asked(inputs.as_slice());
+        match read_item(alloc, line.text, like)? {
             Some(item) => inputs.push(item)?,
             None => return Err(BadLine::Number(line.number)),
         }
@@ -135,29 +137,37 @@ fn read_bits(alloc: Global, text: &str) -> Result<Option<Bits>, AllocError>
     Bits::read_text(alloc, text)
 }
 
-/// The item of a line, or `None` where it is none.
-pub fn read_item(alloc: Global, line: &str) -> Result<Option<Item>, AllocError>
+/// The asked values of the last item, none where there is no item.
+fn last_asked(items: &[Item]) -> &[AskedValue] {
+    match items.last() {
+        Some(item) => item.asked.as_slice(),
+        None => &[],
+    }
+}
+
+/// The item of a line, or `None` where it is none. Its names share their text with those of the values that it is like, where they are the same.
+pub fn read_item(alloc: Global, line: &str, like: &[AskedValue]) -> Result<Option<Item>, AllocError>
     ensures found { IfOk result (λ o. IfSome o (IsItem line.now)) }
     ensures none { IfOk result (λ o. IfNone o ((it : Item) → IsItem line.now it → ⊥)) }
 {
     match line.split_once(' ') {
-        Some(_) => item_in(alloc, line),
-        None => item_of(alloc, &[line]),
+        Some(_) => item_in(alloc, line, like),
+        None => item_of(alloc, &[line], like),
     }
 }
 
 /// The item of a line of any number of words.
 #[inline(never)]
-fn item_in(alloc: Global, line: &str) -> Result<Option<Item>, AllocError>
+fn item_in(alloc: Global, line: &str, like: &[AskedValue]) -> Result<Option<Item>, AllocError>
     ensures found { IfOk result (λ o. IfSome o (IsItem line.now)) }
     ensures none { IfOk result (λ o. IfNone o ((it : Item) → IsItem line.now it → ⊥)) }
 {
     let words = pieces(alloc, line)?;
-    item_of(alloc, words.as_slice())
+    item_of(alloc, words.as_slice(), like)
 }
 
 /// The item of words, or `None` where they are none.
-fn item_of(alloc: Global, words: &[&str]) -> Result<Option<Item>, AllocError>
+fn item_of(alloc: Global, words: &[&str], like: &[AskedValue]) -> Result<Option<Item>, AllocError>
     ensures found { IfOk result (λ o. IfSome o (AreItemWords (map (λ word. word.now) words.now))) }
     ensures none { IfOk result (λ o. IfNone o ((it : Item) → AreItemWords (map (λ word. word.now) words.now) it → ⊥)) }
 {
@@ -167,20 +177,25 @@ fn item_of(alloc: Global, words: &[&str]) -> Result<Option<Item>, AllocError>
     let Some(header) = read_bits(alloc, header)? else {
         return Ok(None);
     };
-    let Some(asked) = read_values(alloc, values)? else {
+    let Some(asked) = read_values(alloc, values, like)? else {
         return Ok(None);
     };
     Ok(Some(Item { header, asked }))
 }
 
 /// The values of words, or `None` where one of them gives none.
-fn read_values(alloc: Global, words: &[&str]) -> Result<Option<Items<AskedValue>>, AllocError>
+fn read_values(
+    alloc: Global,
+    words: &[&str],
+    like: &[AskedValue],
+) -> Result<Option<Items<AskedValue>>, AllocError>
     ensures found { IfOk result (λ o. IfSome o (AllZip IsValue (map (λ word. word.now) words.now))) }
     ensures none { IfOk result (λ o. IfNone o ((values : List AskedValue) → AllZip IsValue (map (λ word. word.now) words.now) values → ⊥)) }
 {
-    let mut values = Items::new(alloc);
+    let mut values = Items::from_vec(Vec::with_capacity(alloc, words.len())?);
     for word in words {
-        match read_value(alloc, word)? {
+        let name = name_at(like, values.len());
+        match read_value(alloc, word, name)? {
             Some(value) => values.push(value)?,
             None => return Ok(None),
         }
@@ -188,21 +203,46 @@ fn read_values(alloc: Global, words: &[&str]) -> Result<Option<Items<AskedValue>
     Ok(Some(values))
 }
 
+/// The name of the value at the place.
+fn name_at(values: &[AskedValue], place: usize) -> Option<&Name> {
+    match values.get(place) {
+        Some(value) => Some(&value.name),
+        None => None,
+    }
+}
+
 /// The value that a word gives to a field, or `None` where it gives none.
-fn read_value(alloc: Global, word: &str) -> Result<Option<AskedValue>, AllocError>
+fn read_value(
+    alloc: Global,
+    word: &str,
+    like: Option<&Name>,
+) -> Result<Option<AskedValue>, AllocError>
     ensures found { IfOk result (λ o. IfSome o (IsValue word.now)) }
     ensures none { IfOk result (λ o. IfNone o ((v : AskedValue) → IsValue word.now v → ⊥)) }
 {
     let Some((name, spelled)) = word.split_once('=') else {
         return Ok(None);
     };
-    let Some(name) = Name::new(alloc, name)? else {
+    let Some(name) = named(alloc, name, like)? else {
         return Ok(None);
     };
     let Some(bits) = read_bits(alloc, spelled)? else {
         return Ok(None);
     };
     Ok(Some(AskedValue { name, bits }))
+}
+
+/// The name of a text, or `None` where it is none. It shares its text with the name that it is like, if they are the same.
+fn named(alloc: Global, text: &str, like: Option<&Name>) -> Result<Option<Name>, AllocError>
+    ensures { IfOk result (λ name. name ≡ as_name text.now) }
+{
+    if let Some(name) = like {
+        if name.as_str() == text {
+            name.keeps();
+            return Ok(Some(name.share()?));
+        }
+    }
+    Name::new(alloc, text)
 }
 
 /// A line cut at each blank.

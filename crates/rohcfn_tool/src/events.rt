@@ -7,7 +7,7 @@ ghost use Rattle.rohcfn_tool.specs.Events.{AreResetWords, IsEvent, IsFlow, IsRes
 ghost use Rattle.rohcfn_input.specs.Inputs.{BlamesLine, HasLines};
 
 use fn_bits::lines::lines;
-use fn_filling::Item;
+use fn_filling::{AskedValue, Item};
 use fn_line::{Event, Flow};
 use itoa::Buffer;
 use rohcfn_input::inputs::{BadLine, bad_line_of, pieces, read_item};
@@ -24,7 +24,8 @@ pub fn read_events(alloc: Global, octets: &[u8]) -> Result<Vec<Event>, BadLine>
     };
     let mut inputs = Vec::new(alloc);
     for line in &lines {
-        match read_event(alloc, line.text)? {
+        let like = last_asked(inputs.as_slice());
+        match read_event(alloc, line.text, like)? {
             Some(event) => inputs.push(event)?,
             None => return Err(BadLine::Number(line.number)),
         }
@@ -32,8 +33,16 @@ pub fn read_events(alloc: Global, octets: &[u8]) -> Result<Vec<Event>, BadLine>
     Ok(inputs)
 }
 
-/// The event of a line, or `None` where it is none.
-fn read_event(alloc: Global, line: &str) -> Result<Option<Event>, AllocError>
+/// The asked values of the last event, none where it sends no item.
+fn last_asked(events: &[Event]) -> &[AskedValue] {
+    match events.last() {
+        Some(Event::Send(_, item)) => item.asked.as_slice(),
+        Some(Event::Reset(_)) | None => &[],
+    }
+}
+
+/// The event of a line, or `None` where it is none. Its names may share their text with those of the values that it is like.
+fn read_event(alloc: Global, line: &str, like: &[AskedValue]) -> Result<Option<Event>, AllocError>
     ensures found { IfOk result (λ o. IfSome o (IsEvent line.now)) }
     ensures none { IfOk result (λ o. IfNone o ((e : Event) → IsEvent line.now e → ⊥)) }
 {
@@ -41,7 +50,7 @@ fn read_event(alloc: Global, line: &str) -> Result<Option<Event>, AllocError>
         return Ok(None);
     };
     if word == "send" {
-        match read_send(alloc, more)? {
+        match read_send(alloc, more, like)? {
             Some(sent) => Ok(Some(Event::Send(sent.0, sent.1))),
             None => Ok(None),
         }
@@ -56,7 +65,11 @@ fn read_event(alloc: Global, line: &str) -> Result<Option<Event>, AllocError>
 }
 
 /// The flow and the item of a send, or `None` where the words are none.
-fn read_send(alloc: Global, words: &str) -> Result<Option<(Flow, Item)>, AllocError>
+fn read_send(
+    alloc: Global,
+    words: &str,
+    like: &[AskedValue],
+) -> Result<Option<(Flow, Item)>, AllocError>
     ensures found { IfOk result (λ o. IfSome o (λ sent. IsSend words.now sent.0 sent.1)) }
     ensures none { IfOk result (λ o. IfNone o ((flow : ℕ) (it : Item) → IsSend words.now flow it → ⊥)) }
 {
@@ -66,7 +79,7 @@ fn read_send(alloc: Global, words: &str) -> Result<Option<(Flow, Item)>, AllocEr
     let Some(flow) = read_flow(flow) else {
         return Ok(None);
     };
-    match read_item(alloc, item)? {
+    match read_item(alloc, item, like)? {
         Some(item) => Ok(Some((flow, item))),
         None => Ok(None),
     }
