@@ -1,11 +1,11 @@
-use Rattle.std.proofs.Common.{◌≡◌, ℕ, zero, suc, ◌-◌, ◌<◌, ◌≤◌, ◌==◌, ◌&&◌, Bool, true, false, List, [], ◌∷◌, ◌++◌, length, take, drop, get_or, IsTrue, ◌↔◌, refl, sym, ap, ◌∙◌, subst, arith}
-use Rattle.std.proofs.lemmas.List.{take_all}
+use Rattle.std.proofs.Common.{◌≡◌, ℕ, zero, suc, ◌<◌, ◌==◌, ◌&&◌, Bool, true, false, List, [], ◌∷◌, ◌++◌, length, get_or, IsTrue, ◌↔◌, refl, sym, ap, ◌∙◌, subst, arith}
 use Rattle.std.specs.Char.{is_ascii_alphabetic}
 use Rattle.std.specs.List.{All, AllByRecursion, list_all, join_with_byte, slice_split}
 use Rattle.std.proofs.lemmas.Bool.{false≢true}
 use Rattle.std.proofs.lemmas.Bool.Decides.{Decides-eqb}
 use Rattle.std.proofs.lemmas.List.Splits.{slice_split_none, slice_split_at, length-slice_split, join_with_byte-slice_split}
-use Rattle.fn_context.specs.Path.{IsPath, is_name, is_name_octet}
+use Rattle.fn_context.specs.Path.{IsPath}
+use Rattle.fn_source.specs.Names.{is_name, is_name_octet}
 
 -- no octet of the text is that one
 abbrev pub Lacks : ℕ → List ℕ → Type 0
@@ -76,13 +76,6 @@ path_decided path r is = (
   }),
   (λ p. is ∙ ap (λ t. list_all is_name (slice_split (λ b. b == 46) t)) p.joined ∙ ap (list_all is_name) (split_joined p.names p.some p.each) ∙ names_all p.names p.each),
 )
-
--- a name by its first octet and the others
-pub name_parts : (xs : List ℕ) → 1 ≤ length xs → is_ascii_alphabetic (get_or xs 0 0) ≡ true → list_all is_name_octet (take (length xs - 1) (drop 1 xs)) ≡ is_name xs
-name_parts [] l h = absurd (omega arith)
-name_parts (x ∷ xs) l h =
-    let n : suc (length xs) - 1 ≡ length xs = omega arith in
-    ap (λ k. list_all is_name_octet (take k xs)) n ∙ ap (list_all is_name_octet) (take_all (length xs) xs (omega arith)) ∙ (λ i. sym h i && list_all is_name_octet xs)
 
 -- the same as a fact for each place
 pub Lacks-from : (d : ℕ) (xs : List ℕ) → ((i : ℕ) → i < length xs → get_or xs i 0 ≡ d → ⊥) → Lacks d xs

@@ -1,29 +1,14 @@
 //! Paths of fields.
 ghost use Rattle.std.specs.Prelude.{◌≡◌, ◌↔◌, IsTrue};
-ghost use Rattle.fn_context.specs.Path.{IsPath, is_name, is_name_octet};
+ghost use Rattle.fn_context.specs.Path.{IsPath};
+
+use fn_source::names::is_name;
 
 /// Whether a text is a path: one or more names, each a letter and then letters, digits and underscores, joined by dots.
 pub fn is_path(text: &str) -> bool
     ensures { IsTrue result ↔ IsPath text.now }
 {
     text.split('.').all(|name| is_name(name.as_bytes()))
-}
-
-/// Whether octets are a name: a letter, then letters, digits and underscores, all of ASCII.
-pub fn is_name(octets: &[u8]) -> bool
-    ensures { result ≡ is_name octets.now }
-{
-    let [first, rest @ ..] = octets else {
-        return false;
-    };
-    first.is_ascii_alphabetic() && rest.iter().all(|b| is_name_octet(*b))
-}
-
-/// Whether an octet is a letter, a digit or an underscore.
-fn is_name_octet(octet: u8) -> bool
-    ensures { result ≡ is_name_octet octet }
-{
-    octet.is_ascii_alphanumeric() || octet == b'_'
 }
 
 /// Whether two names or paths have the same octets: eight at a time, and then one by one. That is less work than the comparison of texts, since they are short.

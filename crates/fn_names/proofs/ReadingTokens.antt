@@ -23,7 +23,7 @@ use Rattle.fn_tree.specs.declared.tree.File.{File}
 use Rattle.fn_tree.specs.Grammar as g
 use Rattle.fn_tree.specs.Grammar.{IsExpr, IsWhole, Many, IsNext, IsExprs, IsBracket, IsArguments, IsEncoding, IsBound, IsItem, IsStatement, IsHead, IsSection, IsParameter, IsParameters, IsStop, IsPart}
 use Rattle.fn_tree.specs.Limits.{Parsed}
-use Rattle.fn_context.specs.Path.{is_name, is_name_octet}
+use Rattle.fn_source.specs.Names.{is_name, is_name_octet}
 use Rattle.fn_formats.specs.Worded.{IsNamed, ItemIsWorded, KindIsWorded, SectionIsWorded, AreSectionsWorded, PartIsWorded, AreWorded}
 
 -- ---- from tokens to their tree

@@ -4,7 +4,7 @@ use Rattle.std.specs.List.{slice_range, list_any}
 use Rattle.std.specs.Str.{bytes_eq}
 use Rattle.fn_source.specs.declared.span.Span.{Span}
 -- a letter, then letters, digits and underscores
-pub use Rattle.fn_context.specs.Path.{is_name}
+pub use Rattle.fn_source.specs.Names.{is_name}
 
 -- the part of the text
 abbrev pub word : List ℕ → Span → List ℕ

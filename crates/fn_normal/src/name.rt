@@ -3,7 +3,7 @@
 ghost use Rattle.std.specs.Prelude.{◌≡◌, IfOk, IsTrue};
 ghost use Rattle.fn_normal.specs.Words.{is_name as is_word, as_name};
 
-use fn_context::path::is_name;
+use fn_source::names::is_name;
 use std::alloc::{AllocError, Global};
 use std::marker::Model;
 use std::rc::Rc;

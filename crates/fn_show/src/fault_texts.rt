@@ -3,8 +3,8 @@
 ghost use Rattle.std.specs.Prelude.{◌≡◌, IfOk, string_bytes};
 ghost use Rattle.fn_show.specs.Texts as spec;
 
-use fn_context::path::is_name;
 use fn_normal::{Name, ProfileFault, ProfileFaultKind, word};
+use fn_source::names::is_name;
 use fn_source::{FaultKind, Span};
 use std::alloc::{AllocError, Global};
 

@@ -1,4 +1,4 @@
-//! The text of a profile: its places, its faults and its tokens.
+//! The text of a profile: its places, its faults, its tokens, and what a name is.
 #![tactic(auto)]
 
 pub use fault::{Fault, FaultKind, SourceError};
@@ -10,6 +10,7 @@ pub use token::{Kind, Mark, Token, is_mark};
 pub mod fault;
 pub mod laws;
 pub mod lexer;
+pub mod names;
 pub mod source;
 pub mod span;
 pub mod token;

@@ -10,7 +10,7 @@ use Rattle.fn_bits.specs.declared.lines.Line.{Line}
 use Rattle.fn_bits.specs.Lines.{numbered_lines}
 use Rattle.fn_context.proofs.Paths.{All-Lacks, Lacks, name_lacks, cut_once}
 use Rattle.fn_context.specs.Entries.{Entries}
-use Rattle.fn_context.specs.Path.{is_name}
+use Rattle.fn_source.specs.Names.{is_name}
 use Rattle.fn_context.specs.Text.{IsReading, Blames as BlamesText}
 use Rattle.fn_context.specs.declared.text.ContextError.{ContextError}
 use Rattle.fn_context.specs.declared.text.ContextError.TheVariants as context

@@ -8,7 +8,7 @@ use Rattle.std.specs.declared.alloc.AllocError.{AllocError}
 use Rattle.std.specs.List.{list_all}
 use Rattle.std.proofs.lemmas.Bool.{false≢true}
 use Rattle.std.proofs.lemmas.Bool.Decides.{nat_tests}
-use Rattle.fn_context.specs.Path.{is_name, is_name_octet}
+use Rattle.fn_source.specs.Names.{is_name, is_name_octet}
 use Rattle.rohcfn_input.proofs.BundleLines.{not_ten}
 use Rattle.rohcfn_input.specs.OneLine.{IsLine, is_line}
 

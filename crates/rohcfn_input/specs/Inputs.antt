@@ -6,7 +6,7 @@ use Rattle.std.specs.Str.{IsUtf8}
 use Rattle.fn_bits.specs.Text.{ReadsAs}
 use Rattle.fn_bits.specs.Lines.{numbered_lines, broken_line}
 use Rattle.fn_context.specs.Entries.{Entries}
-use Rattle.fn_context.specs.Path.{is_name}
+use Rattle.fn_source.specs.Names.{is_name}
 use Rattle.fn_context.specs.Text.{IsReading, IsFirstFault}
 use Rattle.fn_filling.specs.declared.filling.Item.{Item}
 use Rattle.fn_filling.specs.declared.filling.AskedValue.{AskedValue}

@@ -2,7 +2,7 @@
 use Rattle.std.proofs.Common.{◌≡◌, ℕ, zero, suc, ◌+◌, ◌&&◌, Bool, true, false, List, [], ◌∷◌, ◌++◌, Option, Some, None, refl, sym, subst, if◌then◌else◌, codes}
 use Rattle.std.specs.Prelude.{flat_map, slice_get, option_and_then, option_map}
 use Rattle.std.specs.List.{list_all}
-use Rattle.fn_context.specs.Path.{is_name}
+use Rattle.fn_source.specs.Names.{is_name}
 use Rattle.fn_cert_text.specs.Text.{name_of, side_word}
 use Rattle.fn_cert.specs.declared.certificate.Direction.{Direction}
 use Rattle.fn_cert.specs.declared.certificate.Direction.TheVariants as direction

@@ -1,7 +1,7 @@
 use Rattle.std.proofs.Common.{rules, tests, lit<}
 use Rattle.std.proofs.lemmas.Iterator.Search.{all_from_yields_List}
 use Rattle.std.proofs.lemmas.Iterator.Splits.{YieldsList-from_str_split}
-use Rattle.fn_context.specs.Path.{is_name}
+use Rattle.fn_source.specs.Names.{is_name}
 use Rattle.fn_context.proofs.Paths.{path_decided}
 use Rattle.fn_context.proofs.path.is_path.Goals as goal
 

@@ -1,9 +1,9 @@
 use Rattle.std.proofs.Common.{◌∙◌, rules, tests, sym}
 use Rattle.std.proofs.lemmas.Iterator.{YieldsList-from_slice}
 use Rattle.std.proofs.lemmas.Iterator.Search.{all_from_yields_List}
-use Rattle.fn_context.specs.Path.{is_name_octet}
-use Rattle.fn_context.proofs.Paths.{name_parts}
-use Rattle.fn_context.proofs.path.is_name.Goals as goal
+use Rattle.fn_source.specs.Names.{is_name_octet}
+use Rattle.fn_source.proofs.NamesParts.{name_parts}
+use Rattle.fn_source.proofs.names.is_name.Goals as goal
 
 pub returns-then-is_ascii_alphabetic : goal.returns-then-is_ascii_alphabetic
 returns-then-is_ascii_alphabetic c =
