@@ -1,5 +1,6 @@
 //! Names: what methods, fields and parameters are called.
 
+ghost use Rattle.std.specs.Prelude.{◌≡◌};
 ghost use Rattle.fn_source.specs.Names as spec;
 
 /// Whether octets are a name: a letter, then letters, digits and underscores, all of ASCII (RFC 4997).
