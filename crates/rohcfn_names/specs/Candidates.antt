@@ -1,5 +1,5 @@
 -- How many candidates a profile has by a certificate, method by method and format by format, and what multiplies (docs/DEFINITIONS.md, Certificates).
-use Rattle.std.specs.Prelude.{◌≡◌, ℕ, List, [], ◌∷◌, Option, flat_map, nat_lt, option_and_then, option_map, slice_get, unwrap_or, if◌then◌else◌}
+use Rattle.std.specs.Prelude.{ℕ, List, [], ◌∷◌, Option, flat_map, nat_lt, option_and_then, option_map, slice_get, unwrap_or, if◌then◌else◌}
 use Rattle.fn_normal.specs.declared.profile.Format.{Format}
 use Rattle.fn_normal.specs.declared.profile.Method.{Method}
 use Rattle.fn_cert.specs.declared.certificate.Plans.{Plans}

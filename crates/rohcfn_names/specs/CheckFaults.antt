@@ -1,13 +1,11 @@
 -- The lines of what is wrong with a certificate (docs/FORMATS.md).
-use Rattle.std.specs.Prelude.{◌≡◌, ℕ, List, [], ◌++◌, Option, None, Some, codes, decimal, slice_get, option_and_then, option_map}
-use Rattle.fn_normal.specs.declared.profile.Field.{Field}
-use Rattle.fn_normal.specs.declared.profile.Format.{Format}
+use Rattle.std.specs.Prelude.{◌≡◌, ℕ, List, [], ◌++◌, Option, None, Some, codes, decimal}
 use Rattle.fn_normal.specs.declared.profile.Method.{Method}
 use Rattle.fn_cert.specs.declared.certificate.Direction.{Direction}
 use Rattle.fn_cert.specs.declared.certificate.Direction.TheVariants.{Read, Write}
 use Rattle.fn_cert_text.specs.declared.reading.CertificateError.{CertificateError}
 use Rattle.fn_cert_text.specs.declared.reading.CertificateError.TheVariants.{BadWord, UnknownName, AboveLimits, OutOfMemory}
-use Rattle.fn_cert_text.specs.Text.{name_of, side_word}
+use Rattle.fn_cert_text.specs.Text.{side_word}
 use Rattle.rohcfn_names.specs.Names.{method_name, format_name, field_name, names}
 use Rattle.fn_rules.specs.declared.fault.CheckFault.{CheckFault}
 use Rattle.fn_rules.specs.declared.fault.CheckFault.TheVariants.{NoMethod, NoFormat, NotEnabled, NeverLearnt, WrongLeaf, ShortFormat, OutOfRange, BeyondWord, TooMany, TooLong}

@@ -1,5 +1,5 @@
 -- The names and places of methods, formats and fields, as they are printed (docs/FORMATS.md).
-use Rattle.std.specs.Prelude.{ℕ, List, [], ◌++◌, Option, codes, slice_get, option_and_then, option_map, unwrap_or, ◌+◌, ◌-◌}
+use Rattle.std.specs.Prelude.{ℕ, List, [], ◌++◌, Option, codes, slice_get, option_and_then, option_map, unwrap_or, ◌+◌}
 use Rattle.fn_normal.specs.declared.profile.Field.{Field}
 use Rattle.fn_normal.specs.declared.profile.Format.{Format}
 use Rattle.fn_normal.specs.declared.profile.Method.{Method}

@@ -1,5 +1,5 @@
 -- What keeps every filling from a format: where its reason stands in the profile, and its words (docs/FORMATS.md).
-use Rattle.std.specs.Prelude.{ℕ, List, [], ◌++◌, Option, None, Some, codes, decimal, slice_get, option_and_then, option_map, ◌∷◌, ◌&&◌, nat_eq, unwrap_or, if◌then◌else◌, ◌+◌, ◌-◌, length, true}
+use Rattle.std.specs.Prelude.{ℕ, List, [], ◌++◌, Option, None, Some, codes, decimal, slice_get, option_and_then, option_map, ◌∷◌, ◌&&◌, nat_eq, unwrap_or, if◌then◌else◌, ◌+◌, true}
 use Rattle.fn_normal.specs.declared.profile.Method.{Method}
 use Rattle.std.specs.Option.{option_or}
 use Rattle.fn_source.specs.declared.span.Span.{Span}

@@ -1,7 +1,7 @@
 -- What is found of a profile and its certificate, as the code has it.
 use Rattle.std.proofs.Common.{◌≡◌, refl, ◌∙◌, ℕ, ◌≤◌, List, length, [], ◌∷◌, ◌++◌, ap, sym, subst}
 use Rattle.std.specs.Borrow.{Bor}
-use Rattle.std.specs.Prelude.{Option, Some, None, Result, Ok, Err, IfOk, String, codes, string_bytes}
+use Rattle.std.specs.Prelude.{Result, Ok, Err, IfOk, String, codes, string_bytes}
 use Rattle.std.specs.Global.{Global}
 use Rattle.std.specs.Str.{IsUtf8}
 use Rattle.std.specs.declared.alloc.AllocError.{AllocError}

@@ -1,6 +1,6 @@
 -- What is answered to `lint` and to `draw`, or the line of the profile's fault.
 use Rattle.std.proofs.Common.{◌≡◌, ◌++◌, ℕ, List, sym, subst}
-use Rattle.std.specs.Prelude.{Result, Ok, Err, IfOk, string_bytes}
+use Rattle.std.specs.Prelude.{Result, Ok, Err, IfOk}
 use Rattle.std.specs.declared.alloc.AllocError.{AllocError}
 use Rattle.fn_names.specs.Readings.{Reads}
 use Rattle.fn_profile.specs.Resolved.{Resolved}

@@ -1,5 +1,5 @@
 -- What `lint` and `draw` answer (docs/FORMATS.md).
-use Rattle.std.specs.Prelude.{ℕ, List, [], ◌∷◌, ◌++◌, string_bytes}
+use Rattle.std.specs.Prelude.{ℕ, List, [], ◌∷◌, ◌++◌}
 use Rattle.fn_profile.specs.Resolved.{Resolved}
 use Rattle.fn_names.specs.Readings.{Reads}
 use Rattle.fn_lint.specs.declared.formats.DeadFormat.{DeadFormat}

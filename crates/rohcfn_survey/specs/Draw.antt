@@ -1,5 +1,5 @@
 -- What `draw` prints: a diagram of the packed bits of each format (docs/FORMATS.md).
-use Rattle.std.specs.Prelude.{◌≡◌, ℕ, ◌+◌, ◌-◌, ◌*◌, ◌/◌, ◌%◌, ◌^◌, min, nat_eq, nat_le, nat_lt, ◌&&◌, ◌||◌, Bool, List, [], ◌∷◌, ◌++◌, length, ℤ, Option, Some, None, codes, decimal, flat_map, option_map, replicate, slice_get, string_bytes, unwrap_or, if◌then◌else◌}
+use Rattle.std.specs.Prelude.{◌≡◌, ℕ, ◌+◌, ◌-◌, ◌*◌, ◌/◌, ◌%◌, ◌^◌, min, nat_eq, nat_le, nat_lt, ◌&&◌, ◌||◌, Bool, List, [], ◌++◌, length, ℤ, Option, Some, None, codes, decimal, flat_map, option_map, replicate, string_bytes, unwrap_or, if◌then◌else◌}
 use Rattle.std.specs.Int.RustNames.{unsigned_abs}
 use Rattle.std.specs.List.{enumerate_from, range_with_len}
 use Rattle.fn_normal.specs.declared.profile.Bounds.{Bounds}

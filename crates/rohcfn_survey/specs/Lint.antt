@@ -1,36 +1,15 @@
 -- What `lint` prints: a line for each format by which nothing can be packed (docs/FORMATS.md).
-use Rattle.std.specs.Prelude.{◌≡◌, ℕ, Bool, List, [], ◌∷◌, ◌++◌, ◌&&◌, nat_eq, Option, Some, None, codes, decimal, flat_map, option_map, option_and_then, slice_get, string_bytes, unwrap_or, if◌then◌else◌}
-use Rattle.std.specs.Option.{option_or}
-use Rattle.fn_normal.specs.declared.profile.Format.{Format}
-use Rattle.fn_source.specs.declared.span.Span.{Span}
+use Rattle.std.specs.Prelude.{◌≡◌, ℕ, List, ◌++◌, codes, decimal, flat_map, string_bytes}
 use Rattle.fn_source.specs.Places.{line_of, column_of}
-use Rattle.fn_expr.specs.declared.expr.Side.{Side}
-use Rattle.fn_expr.specs.declared.expr.Side.TheVariants.{Uncompressed, Compressed}
-use Rattle.fn_normal.specs.declared.profile.Bounds.{Bounds}
-use Rattle.fn_normal.specs.declared.profile.Constraint.{Constraint}
-use Rattle.fn_normal.specs.declared.profile.Constraint.TheVariants.{Bracket, Enforce}
-use Rattle.fn_normal.specs.declared.profile.FormatSizes.{FormatSizes}
-use Rattle.fn_normal.specs.declared.profile.Method.{Method}
-use Rattle.fn_normal.specs.declared.profile.MethodSizes.{MethodSizes}
 use Rattle.fn_profile.specs.Resolved.{Resolved}
-use Rattle.fn_rules.specs.Facts.{same_side}
 use Rattle.fn_lint.specs.declared.formats.DeadFormat.{DeadFormat}
-use Rattle.fn_lint.specs.declared.obstacle.Obstacle.{Obstacle}
 use Rattle.fn_lint.specs.declared.obstacle.Obstacle.TheVariants as obstacle
 use Rattle.fn_lint.specs.Listing.{AreDead}
-use Rattle.fn_bounds.specs.Faults.{side_bounds}
-use Rattle.fn_fits.specs.Bounded.{sizes_at}
 use Rattle.rohcfn_input.specs.declared.status.Answer.{Answer}
 use Rattle.rohcfn_input.specs.declared.status.Status.TheVariants as status
 use Rattle.rohcfn_names.specs.Names.{format_name, method_name}
 use Rattle.rohcfn_names.specs.Obstacles.{obstacle_words, place_of}
 use Rattle.rohcfn_survey.specs.Warnings.{AreWarnings}
-
--- ---- the place of a line
-
--- ---- its words
-
--- ---- the lines
 
 -- a line and a column of the profile, the method and the format, and what keeps every filling from it
 abbrev pub lint_words : ℕ → ℕ → List ℕ → List ℕ → List ℕ → List ℕ

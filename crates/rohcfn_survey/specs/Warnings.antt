@@ -1,7 +1,6 @@
 -- What `lint` prints below the lines on formats by which nothing can be packed: warnings (docs/FORMATS.md).
-use Rattle.std.specs.Prelude.{◌≡◌, ℕ, Bool, true, false, List, [], ◌∷◌, ◌++◌, codes, decimal, flat_map, nat_eq, nat_lt, option_map, slice_get, string_bytes, unwrap_or, if◌then◌else◌}
+use Rattle.std.specs.Prelude.{◌≡◌, ℕ, Bool, true, false, List, [], ◌++◌, codes, decimal, flat_map, nat_eq, nat_lt, string_bytes, if◌then◌else◌}
 use Rattle.std.specs.List.{enumerate_from}
-use Rattle.fn_source.specs.declared.span.Span.{Span}
 use Rattle.fn_source.specs.Places.{line_of, column_of}
 use Rattle.fn_normal.specs.declared.profile.Format.{Format}
 use Rattle.fn_normal.specs.declared.profile.Method.{Method}

@@ -1,5 +1,5 @@
 -- The line of one item or packet.
-use Rattle.std.proofs.Common.{◌≡◌, ◌∙◌, ℕ, Bool, List, [], ◌∷◌, ◌++◌, codes, decimal, true, false, refl, ap, sym, subst, append_assoc, length}
+use Rattle.std.proofs.Common.{◌≡◌, ◌∙◌, ℕ, Bool, List, [], ◌∷◌, ◌++◌, codes, decimal, false, refl, ap, sym, subst, append_assoc, length}
 use Rattle.fn_bits.specs.Cursor.{Place}
 use Rattle.fn_bits.specs.Text.{IsText}
 use Rattle.fn_context.specs.Entries.{Entries}

@@ -23,7 +23,6 @@ use Rattle.rohcfn_input.specs.Refusals.{Holds, IsRefusal}
 use Rattle.rohcfn_input.specs.declared.inputs.BadLine.{BadLine}
 use Rattle.rohcfn_input.specs.declared.inputs.BadLine.TheVariants as bad
 use Rattle.rohcfn_input.specs.declared.status.Answer.{Answer}
-use Rattle.rohcfn_input.specs.declared.status.Status.{Status}
 use Rattle.rohcfn_input.specs.declared.status.Status.TheVariants as status
 use Rattle.rohcfn_input.proofs.RefusalsHeld.{refusal_is}
 use Rattle.rohcfn_items.specs.Stats.{stats_text}

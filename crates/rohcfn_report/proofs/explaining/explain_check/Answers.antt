@@ -1,4 +1,4 @@
-use Rattle.rohcfn_report.specs.Reports.{CheckedOctets, ProvedOctets}
+use Rattle.rohcfn_report.specs.Reports.{CheckedOctets}
 use Rattle.rohcfn_report.proofs.ExplainingNotes.{with_notes}
 use Rattle.rohcfn_report.proofs.explaining.explain_check.Goals as goal
 

@@ -1,4 +1,4 @@
-use Rattle.rohcfn_report.specs.Reports.{CheckedOctets, ProvedOctets}
+use Rattle.rohcfn_report.specs.Reports.{ProvedOctets}
 use Rattle.rohcfn_report.proofs.ExplainingNotes.{with_notes}
 use Rattle.rohcfn_report.proofs.explaining.explain_prove.Goals as goal
 
