@@ -1,23 +1,25 @@
 -- Steps that needn't be looked at aren't next.
-use Rattle.std.proofs.Common.{◌≡◌, refl, sym, ◌∙◌, ap, subst, ℕ, zero, suc, ◌+◌, ◌<◌, ◌≤◌, Bool, true, false, List, [], ◌∷◌, length, replicate, get_or, map, drop, min, inl, inr, cond, find, arith}
-use Rattle.std.specs.Prelude.{Some, None, slice_get, slice_set, nat_lt, ◌&&◌, ◌||◌, not, is_some}
+use Rattle.std.proofs.Common.{◌≡◌, ◌⊎◌, refl, sym, ◌∙◌, ap, subst, ℕ, zero, suc, ◌+◌, ◌*◌, ◌/◌, ◌%◌, ◌^◌, ◌-◌, ◌<◌, ◌≤◌, Bool, true, false, List, [], ◌∷◌, length, replicate, get_or, map, drop, inl, inr, cond, find, arith}
+use Rattle.std.specs.Prelude.{Option, Some, None, slice_get, nat_lt, ◌&&◌, ◌||◌, not, is_some}
 use Rattle.std.specs.List.{list_all}
 use Rattle.std.proofs.lemmas.Bool.{cases_eq}
-use Rattle.std.proofs.lemmas.List.{get_or-set_same, get_or-set_other, length-set, drop_more, drop_all}
+use Rattle.std.specs.Int.{bit_at}
+use Rattle.std.proofs.lemmas.Nat.Bits.{bit_at_ones}
+use Rattle.std.proofs.lemmas.List.{drop_more, drop_all, get_or-replicate, length-replicate}
 use Rattle.std.proofs.lemmas.Option.{slice_get_within}
 use Rattle.fn_normal.specs.declared.profile.Format.{Format}
 use Rattle.fn_cert.specs.declared.rule.Fact.{Fact}
 use Rattle.fn_cert.specs.declared.rule.Rule.{Rule}
-use Rattle.fn_rules.specs.Facts.{same_fact, has}
+use Rattle.fn_rules.specs.Facts.{has}
 use Rattle.fn_plans.specs.declared.knowledge.Knowledge.{Knowledge}
 use Rattle.fn_plans.specs.Knowing.{field_of, shows, width}
 use Rattle.fn_plans.specs.Needing.{told, first_unknown}
-use Rattle.fn_plans.proofs.Knowing.{same_field}
 use Rattle.fn_plans.proofs.NeedingUnknown.{all_known_is, found_lacks}
 use Rattle.fn_order.specs.declared.possible.Possible.{Possible}
 use Rattle.fn_order.specs.declared.waiting.Rest.{Rest}
 use Rattle.fn_order.specs.declared.waiting.Rest.TheVariants.{Due, Until, Over}
-use Rattle.fn_order.specs.Searching.{Ruled, ruled, gives_more, gives_none, KnowsAll, RestsBy, is_still, first_for, AreWaiting, woken}
+use Rattle.fn_order.specs.Marking.{bit_in, IsDue, IsInRow, AreWoken}
+use Rattle.fn_order.specs.Searching.{Ruled, ruled, gives_more, gives_none, KnowsAll, RestsBy, is_still, IsNotedFor, Rests, AreWaiting}
 
 never : (b : Bool) → (b && false) ≡ false
 never true = refl
@@ -93,75 +95,68 @@ unknown_is k (y ∷ ys) x e = by (not (shows k y)) refl e (λ h. unknown_is k ys
   by false h e rest = rest e
 
 -- at first all are to be looked at
-abbrev due : Rest
-due = Due
+all_ones : (n i : ℕ) → i < 64 * n → IsDue (replicate n (2 ^ 64 - 1)) i
+all_ones n i h = ap (λ z. bit_at z (i % 64)) (get_or-replicate n (i / 64) (2 ^ 64 - 1) 0 (omega (arith, h))) ∙ bit_at_ones 64 (i % 64) (omega arith)
 
-all_due : (n i : ℕ) → get_or (replicate n due) i due ≡ due
-all_due zero i = refl
-all_due (suc n) zero = refl
-all_due (suc n) (suc i) = all_due n i
+pub none_rest : (known : Fact → Bool) (format : Format) (possible : List Possible) (due noted : List ℕ) → due ≡ replicate (length possible / 64 + 1) (2 ^ 64 - 1) → length noted ≡ 128 * length due → 128 * length due < 2 ^ 64 → AreWaiting known format possible due noted None
+none_rest known format possible due noted all rows few =
+    let words : length due ≡ length possible / 64 + 1 = ap length all ∙ length-replicate (length possible / 64 + 1) (2 ^ 64 - 1) in
+    record {
+      enough = omega (arith, words);
+      rows = rows;
+      few = few;
+      rests = λ i p at n.
+          let within = slice_get_within possible i p at in
+          absurd (n (subst (λ z. IsDue z i) (sym all) (all_ones (length possible / 64 + 1) i (omega (arith, within)))));
+    }
 
-as_many : (n : ℕ) → length (replicate n due) ≡ n
-as_many zero = refl
-as_many (suc n) = ap suc (as_many n)
+-- where none comes next, each that isn't due rests
+rests_in : (known : Fact → Bool) (format : Format) (possible : List Possible) (due noted : List ℕ) → AreWaiting known format possible due noted None → (i : ℕ) (p : Possible) → slice_get possible i ≡ Some p → (IsDue due i → ⊥) → Rests known (told format p.rule) noted i
+rests_in known format possible due noted are i p at n = elim (are.rests i p at n) [
+  | inl r ↦ r
+  | inr e ↦ absurd (cc)
+]
 
-pub none_wait : (known : Fact → Bool) (format : Format) (possible : List Possible) (rests : List Rest) (firsts : List ℕ) (from n : ℕ) → rests ≡ replicate n Due → from ≡ 0 → n ≡ length possible → AreWaiting known format possible rests firsts from
-none_wait known format possible rests firsts from n is at_first e = subst (λ z. AreWaiting known format possible z firsts from) (sym is) record {
-  each = as_many n ∙ e;
-  right = λ i p at. subst (λ o. RestsBy known (told format p.rule) o) (sym (all_due n i)) tt;
-  noted = λ i. subst (λ o. first_for firsts o ≤ i) (sym (all_due n i)) (omega arith);
-  passed = λ i h. absurd (omega (arith, h, at_first));
-}
+-- where one more step is laid aside
+module _ (due noted less more : List ℕ) (step : ℕ) (others : (i : ℕ) → (i ≡ step → ⊥) → bit_in less (i / 64) (i % 64) ≡ bit_in due (i / 64) (i % 64)) where
+  module _ (known : Fact → Bool) (format : Format) (possible : List Possible) (p : Possible) (are : AreWaiting known format possible due noted None) (at : slice_get possible step ≡ Some p)
+      (many : length less ≡ length due) (rows : length more ≡ length noted) (keeps : (x : Fact) (i : ℕ) → IsInRow noted x i → IsInRow more x i) where
+    seen_still : (why : Rest) (i : ℕ) → IsNotedFor noted why i → IsNotedFor more why i
+    seen_still Due i h = tt
+    seen_still (Until x) i h = keeps x i h
+    seen_still Over i h = tt
 
--- it is noted why one more step needn't be looked at
-first_less : (old new : List ℕ) → ((f : ℕ) → get_or new f 0 ≤ get_or old f 0) → (why : Rest) (i : ℕ) → first_for old why ≤ i → first_for new why ≤ i
-first_less old new less Due i h = h
-first_less old new less (Until x) i h = let l = less (field_of x) in omega (arith, l, h)
-first_less old new less Over i h = h
+    -- what is so of it is so of each
+    laid : (next : Option Rule) → Rests known (told format p.rule) more step ⊎ (next ≡ Some (told format p.rule)) → AreWaiting known format possible less more next
+    laid next this = record {
+      enough = subst (λ n. length possible ≤ 64 * n) (sym many) are.enough;
+      rows = rows ∙ (are.rows ∙ ap (λ n. 128 * n) (sym many));
+      few = subst (λ n. 128 * n < 2 ^ 64) (sym many) are.few;
+      rests = λ i q there n. elim (cases_eq step i) [
+        | inl e ↦
+            let same : Some p ≡ Some q = sym at ∙ (ap (slice_get possible) e ∙ there) in
+            let is : p ≡ q = cc in
+            subst (λ (z : Possible). Rests known (told format z.rule) more i ⊎ (next ≡ Some (told format z.rule))) is (subst (λ j. Rests known (told format p.rule) more j ⊎ (next ≡ Some (told format p.rule))) e this)
+        | inr o ↦
+            let old = rests_in known format possible due noted are i q there (λ d. n (others i (λ s. o (sym s)) ∙ d)) in
+            inl record { why = old.why; right = old.right; still = old.still; seen = seen_still old.why i old.seen }
+      ];
+    }
 
-pub waits_more : (known : Fact → Bool) (format : Format) (possible : List Possible) (rests more : List Rest) (firsts lower : List ℕ) (i : ℕ) (p : Possible) (why : Rest) → AreWaiting known format possible rests firsts i → slice_get possible i ≡ Some p →
-    RestsBy known (told format p.rule) why → is_still known why ≡ true → more ≡ slice_set rests i why → ((f : ℕ) → get_or lower f 0 ≤ get_or firsts f 0) → first_for lower why ≤ i → AreWaiting known format possible more lower (i + 1)
-waits_more known format possible rests more firsts lower i p why are at w still set less first = subst (λ z. AreWaiting known format possible z lower (i + 1)) (sym set) record {
-  each = length-set rests i why ∙ are.each;
-  right = λ j q there. elim (cases_eq i j) [
-    | inl e ↦
-        let same : Some p ≡ Some q = sym at ∙ (ap (slice_get possible) e ∙ there) in
-        subst (λ z. RestsBy known (told format q.rule) z) (sym (here j e)) (let is : p ≡ q = cc in subst (λ (z : Possible). RestsBy known (told format z.rule) why) is w)
-    | inr n ↦ subst (λ z. RestsBy known (told format q.rule) z) (sym (other j n)) (are.right j q there)
-  ];
-  noted = λ j. elim (cases_eq i j) [
-    | inl e ↦ subst (λ z. first_for lower z ≤ j) (sym (here j e)) (subst (λ z. first_for lower why ≤ z) e first)
-    | inr n ↦ subst (λ z. first_for lower z ≤ j) (sym (other j n)) (first_less firsts lower less (get_or rests j Due) j (are.noted j))
-  ];
-  passed = λ j h. elim (cases_eq i j) [
-    | inl e ↦ subst (λ z. is_still known z ≡ true) (sym (here j e)) still
-    | inr n ↦ subst (λ z. is_still known z ≡ true) (sym (other j n)) (are.passed j (omega (arith, h, n)))
-  ];
-} where
-  inside : i < length rests
-  inside = subst (λ n. i < n) (sym are.each) (slice_get_within possible i p at)
+    -- for a reason
+    pub waits_more : (why : Rest) → RestsBy known (told format p.rule) why → is_still known why ≡ true → IsNotedFor more why step → AreWaiting known format possible less more None
+    waits_more why w still seen = laid None (inl record { why = why; right = w; still = still; seen = seen })
 
-  here : (j : ℕ) → i ≡ j → get_or (slice_set rests i why) j due ≡ why
-  here j e = ap (λ z. get_or (slice_set rests i why) z Due) (sym e) ∙ get_or-set_same rests i why Due inside
+    -- or since it comes next
+    pub waits_next : AreWaiting known format possible less more (Some (told format p.rule))
+    waits_next = laid (Some (told format p.rule)) (inr refl)
 
-  other : (j : ℕ) → (i ≡ j → ⊥) → get_or (slice_set rests i why) j due ≡ get_or rests j due
-  other j n = get_or-set_other rests i j why Due (λ s. n (sym s))
-
--- one that needn't be looked at still is passed over
-pub waits_next : (known : Fact → Bool) (format : Format) (possible : List Possible) (rests : List Rest) (firsts : List ℕ) (i : ℕ) → AreWaiting known format possible rests firsts i → is_still known (get_or rests i Due) ≡ true → AreWaiting known format possible rests firsts (i + 1)
-waits_next known format possible rests firsts i are still = record {
-  each = are.each;
-  right = are.right;
-  noted = are.noted;
-  passed = λ j h. elim (cases_eq i j) [
-    | inl e ↦ subst (λ z. is_still known (get_or rests z Due) ≡ true) e still
-    | inr n ↦ are.passed j (omega (arith, h, n))
-  ];
-}
-
--- fewer are passed over
-pub waits_from : (known : Fact → Bool) (format : Format) (possible : List Possible) (rests : List Rest) (firsts : List ℕ) (from less : ℕ) → AreWaiting known format possible rests firsts from → less ≤ from → AreWaiting known format possible rests firsts less
-waits_from known format possible rests firsts from less are h = record { each = are.each; right = are.right; noted = are.noted; passed = λ i l. are.passed i (omega (arith, l, h)) }
+  -- none up to it is to be looked at
+  pub before_more : ((i : ℕ) → i < step → IsDue due i → ⊥) → (IsDue less step → ⊥) → (i : ℕ) → i < step + 1 → IsDue less i → ⊥
+  before_more before gone i h d = elim (cases_eq i step) [
+    | inl e ↦ gone (subst (IsDue less) e d)
+    | inr n ↦ before i (omega (arith, h, n)) (sym (others i n) ∙ d)
+  ]
 
 -- where those before a place fail the test, what is found stands from there on
 before_fail : (f : Possible → Ruled) (test : Ruled → Bool) (ps : List Possible) (n : ℕ) → ((i : ℕ) (p : Possible) → i < n → slice_get ps i ≡ Some p → test (f p) ≡ false) → find test (map f (drop n ps)) ≡ find test (map f ps)
@@ -170,49 +165,24 @@ before_fail f test [] (suc n) fails = refl
 before_fail f test (p ∷ ps) (suc n) fails =
     before_fail f test ps n (λ i q h at. fails (suc i) q (omega (arith, h)) at) ∙ sym (ap (λ b. cond b (Some (f p)) (find test (map f ps))) (fails 0 p (omega arith) refl))
 
-pub rest_before : (known : Fact → Bool) (format : Format) (possible : List Possible) (rests : List Rest) (firsts : List ℕ) (from : ℕ) → AreWaiting known format possible rests firsts from →
-    find (λ p. gives_more known p.rule) (map (ruled format) (drop from possible)) ≡ find (λ p. gives_more known p.rule) (map (ruled format) possible)
-rest_before known format possible rests firsts from are =
-    before_fail (ruled format) (λ p. gives_more known p.rule) possible from (λ i p h at. rests_still (told format p.rule) known (get_or rests i Due) (are.right i p at) (are.passed i h))
+module _ (known : Fact → Bool) (format : Format) (possible : List Possible) (due noted : List ℕ) (from : ℕ) (are : AreWaiting known format possible due noted None) (before : (i : ℕ) → i < from → IsDue due i → ⊥) where
+  abbrev test : Ruled → Bool
+  test p = gives_more known p.rule
 
--- what is found is the first that is next
-pub found_here : (known : Fact → Bool) (format : Format) (possible : List Possible) (rests : List Rest) (firsts : List ℕ) (i : ℕ) (p : Possible) → AreWaiting known format possible rests firsts i → i < length possible → p ≡ get_or possible i p → gives_more known (told format p.rule) ≡ true →
-    find (λ p. gives_more known p.rule) (map (ruled format) possible) ≡ Some (ruled format p)
-found_here known format possible rests firsts i p are here is e =
-    sym (rest_before known format possible rests firsts i are)
-    ∙ ap (λ ps. find (λ p. gives_more known p.rule) (map (ruled format) ps)) (drop_more possible i p here ∙ ap (λ z. z ∷ drop (i + 1) possible) (sym is))
-    ∙ ap (λ b. cond b (Some (ruled format p)) (find (λ p. gives_more known p.rule) (map (ruled format) (drop (i + 1) possible)))) e
+  rest_before : find test (map (ruled format) (drop from possible)) ≡ find test (map (ruled format) possible)
+  rest_before = before_fail (ruled format) test possible from (λ i p h at. let r = rests_in known format possible due noted are i p at (before i h) in rests_still (told format p.rule) known r.why r.right r.still)
 
-pub none_here : (known : Fact → Bool) (format : Format) (possible : List Possible) (rests : List Rest) (firsts : List ℕ) (i : ℕ) → AreWaiting known format possible rests firsts i → length possible ≤ i → find (λ p. gives_more known p.rule) (map (ruled format) possible) ≡ None
-none_here known format possible rests firsts i are past = sym (rest_before known format possible rests firsts i are) ∙ ap (λ ps. find (λ p. gives_more known p.rule) (map (ruled format) ps)) (drop_all i possible past)
+  -- what is found is the first that is next
+  pub found_here : (p : Possible) → from < length possible → p ≡ get_or possible from p → gives_more known (told format p.rule) ≡ true → find test (map (ruled format) possible) ≡ Some (ruled format p)
+  found_here p here is e =
+      sym rest_before
+      ∙ ap (λ ps. find test (map (ruled format) ps)) (drop_more possible from p here ∙ ap (λ z. z ∷ drop (from + 1) possible) (sym is))
+      ∙ ap (λ b. cond b (Some (ruled format p)) (find test (map (ruled format) (drop (from + 1) possible)))) e
+
+  pub none_here : length possible ≤ from → find test (map (ruled format) possible) ≡ None
+  none_here past = sym rest_before ∙ ap (λ ps. find test (map (ruled format) ps)) (drop_all from possible past)
 
 -- ---- after facts are learnt
-
-min_first : (a b : ℕ) → min a b ≤ a
-min_first a b = omega arith
-
-min_second : (a b : ℕ) → min a b ≤ b
-min_second a b = omega arith
-
-woken_from : (firsts : List ℕ) (from : ℕ) (xs : List Fact) → woken firsts from xs ≤ from
-woken_from firsts from [] = omega arith
-woken_from firsts from (x ∷ xs) =
-    let f = get_or firsts (field_of x) 0 in
-    let a = woken_from firsts (min from f) xs in
-    let b = min_first from f in
-    omega (arith, a, b)
-
-woken_first : (firsts : List ℕ) (from : ℕ) (xs : List Fact) (x : Fact) → has xs x ≡ true → woken firsts from xs ≤ get_or firsts (field_of x) 0
-woken_first firsts from [] x e = absurd (cc)
-woken_first firsts from (y ∷ ys) x e = by (same_fact y x) refl e (λ h. woken_first firsts (min from (get_or firsts (field_of y) 0)) ys x h) where
-  by : (b : Bool) → same_fact y x ≡ b → (b || has ys x) ≡ true → (has ys x ≡ true → woken firsts (min from (get_or firsts (field_of y) 0)) ys ≤ get_or firsts (field_of x) 0) →
-      woken firsts (min from (get_or firsts (field_of y) 0)) ys ≤ get_or firsts (field_of x) 0
-  by true h e rest =
-      let a = woken_from firsts (min from (get_or firsts (field_of y) 0)) ys in
-      let b = min_second from (get_or firsts (field_of y) 0) in
-      let s : get_or firsts (field_of y) 0 ≡ get_or firsts (field_of x) 0 = ap (λ z. get_or firsts z 0) (same_field y x h) in
-      omega (arith, a, b, s)
-  by false h e rest = rest e
 
 module _ (old new : Knowledge) (gives : List Fact) (learns : (x : Fact) → shows new x ≡ ((has gives x && nat_lt (field_of x) (width old)) || shows old x)) where
   pub knows_all : KnowsAll (shows old) (shows new)
@@ -226,23 +196,33 @@ module _ (old new : Knowledge) (gives : List Fact) (learns : (x : Fact) → show
   rests_on r (Until x) w = w
   rests_on r Over w = λ more keeps. w more (λ x e. keeps x (knows_all x e))
 
-  unknown_yet : (x : Fact) → (has gives x ≡ true → ⊥) → shows new x ≡ shows old x
-  unknown_yet x n = learns x ∙ by (has gives x) refl where
-    by : (b : Bool) → has gives x ≡ b → ((b && nat_lt (field_of x) (width old)) || shows old x) ≡ shows old x
-    by true h = absurd (n h)
-    by false h = refl
+  unknown_yet : (x : Fact) → has gives x ≡ false → shows new x ≡ shows old x
+  unknown_yet x n = learns x ∙ ap (λ b. (b && nat_lt (field_of x) (width old)) || shows old x) n
 
-  still_on : (firsts : List ℕ) (from i : ℕ) → i < woken firsts from gives → (why : Rest) → first_for firsts why ≤ i → is_still (shows old) why ≡ true → is_still (shows new) why ≡ true
-  still_on firsts from i h Due first e = e
-  still_on firsts from i h (Until x) first e =
-      ap not (unknown_yet x (λ given. let a = woken_first firsts from gives x given in absurd (omega (arith, a, h, first)))) ∙ e
-  still_on firsts from i h Over first e = e
+  -- those that are woken are looked at again, and the one that came next gives nothing more
+  module _ (format : Format) (possible : List Possible) (due noted more left : List ℕ) (next : Rule) (are : AreWaiting (shows old) format possible due noted (Some next)) (woken : AreWoken gives due noted more left) (given : list_all (shows new) next.gives ≡ true) where
+    rests_so : (r : Rule) (i : ℕ) → i < 64 * length due → (IsDue more i → ⊥) → (why : Rest) → RestsBy (shows old) r why → is_still (shows old) why ≡ true → IsNotedFor noted why i → Rests (shows new) r left i
+    rests_so r i within n Due w still seen = absurd (cc)
+    rests_so r i within n (Until x) w still seen =
+        let on = woken.rests i x within seen n in
+        record { why = Until x; right = w; still = ap not (unknown_yet x on.0) ∙ still; seen = on.1 }
+    rests_so r i within n Over w still seen = record { why = Over; right = rests_on r Over w; still = refl; seen = tt }
 
-  -- those that are woken are looked at again
-  pub waits_on : (format : Format) (possible : List Possible) (rests : List Rest) (firsts : List ℕ) (from : ℕ) → AreWaiting (shows old) format possible rests firsts from → AreWaiting (shows new) format possible rests firsts (woken firsts from gives)
-  waits_on format possible rests firsts from are = record {
-    each = are.each;
-    right = λ i p at. rests_on (told format p.rule) (get_or rests i Due) (are.right i p at);
-    noted = are.noted;
-    passed = λ i h. still_on firsts from i h (get_or rests i Due) (are.noted i) (are.passed i (let a = woken_from firsts from gives in omega (arith, a, h)));
-  }
+    rests_next : (i : ℕ) → Rests (shows new) next left i
+    rests_next i = record { why = Over; right = over_ever next (shows new) (ap (λ b. b || not (list_all (λ y. not (shows new y)) next.absent)) given); still = refl; seen = tt }
+
+    pub waits_on : AreWaiting (shows new) format possible more left None
+    waits_on = record {
+      enough = subst (λ n. length possible ≤ 64 * n) (sym woken.many) are.enough;
+      rows = woken.rows ∙ (are.rows ∙ ap (λ n. 128 * n) (sym woken.many));
+      few = subst (λ n. 128 * n < 2 ^ 64) (sym woken.many) are.few;
+      rests = λ i p at n.
+          let within = slice_get_within possible i p at in
+          let room = are.enough in
+          inl (elim (are.rests i p at (λ d. n (woken.keeps i d))) [
+            | inl r ↦ rests_so (told format p.rule) i (omega (arith, within, room)) n r.why r.right r.still r.seen
+            | inr e ↦
+                let same : next ≡ told format p.rule = cc in
+                subst (λ r. Rests (shows new) r left i) same (rests_next i)
+          ]);
+    }

@@ -1,7 +1,0 @@
-use Rattle.std.proofs.Common.{sym}
-use Rattle.std.proofs.lemmas.List.{get_or_past}
-use Rattle.fn_plans.proofs.Knowing.{past}
-use Rattle.fn_order.proofs.waiting.first_at.Goals as goal
-
-pub returns-in-None : goal.returns-in-None
-returns-in-None c = sym (get_or_past c.args.firsts.now c.args.field 0 (past c.args.firsts.now c.args.field c.in-None.ensures.value))
