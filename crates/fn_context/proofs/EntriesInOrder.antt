@@ -6,17 +6,16 @@ use Rattle.std.specs.Map.{keys_of}
 use Rattle.std.specs.Str.{bytes_eq}
 use Rattle.std.proofs.lemmas.List.{drop_all, length-map, get_or-drop, get_or_default}
 use Rattle.std.proofs.lemmas.Slice.Eq.{bytes_eq-Decides}
-use Rattle.indexmap.specs.IndexMap.{set_value_at}
-use Rattle.fn_context.specs.Entries.{Entries, AreDistinct, IsFront, with_entry, overridden}
-use Rattle.fn_context.proofs.EntriesOverrides.{shown, bytes_eq-sym}
+use Rattle.fn_context.specs.Entries.{Entries, AreDistinct, IsFront, with_bits_at, with_entry, overridden}
+use Rattle.fn_context.proofs.EntriesOverrides.{bytes_eq-sym}
 
-keys-set : (es : Entries) (i : ℕ) (bits : List Bool) → keys_of (set_value_at es i bits) ≡ keys_of es
+pub keys-set : (es : Entries) (i : ℕ) (bits : List Bool) → keys_of (with_bits_at es i bits) ≡ keys_of es
 keys-set [] i bits = refl
 keys-set (e ∷ es) zero bits = refl
 keys-set (e ∷ es) (suc i) bits = ap (λ ks. e.0 ∷ ks) (keys-set es i bits)
 
 -- bits at the place of a path are put at that path
-put_at_path : (es : Entries) (i : ℕ) (path : List ℕ) (bits : List Bool) → AreDistinct es → slice_get (keys_of es) i ≡ Some path → set_value_at es i bits ≡ with_entry es path bits
+pub put_at_path : (es : Entries) (i : ℕ) (path : List ℕ) (bits : List Bool) → AreDistinct es → slice_get (keys_of es) i ≡ Some path → with_bits_at es i bits ≡ with_entry es path bits
 unfolding IsDistinct
 put_at_path [] i path bits distinct there = absurd (cc)
 put_at_path (e ∷ es) zero path bits distinct there =
@@ -46,7 +45,7 @@ pub record IsPending (old : Entries) (values : List (List Bool)) (i : ℕ) (now 
 pub nothing_put : (old now : Entries) (values : List (List Bool)) → now ≡ old → IsPending old values 0 now
 nothing_put old now values e = record { same = ap keys_of e; rest = λ es f. ap (λ z. overridden z es) e }
 
-pub one_put : (old now after : Entries) (values : List (List Bool)) (i : ℕ) → AreDistinct old → i < length values → after ≡ set_value_at now i (get_or values i []) → IsPending old values i now → IsPending old values (suc i) after
+pub one_put : (old now after : Entries) (values : List (List Bool)) (i : ℕ) → AreDistinct old → i < length values → after ≡ with_bits_at now i (get_or values i []) → IsPending old values i now → IsPending old values (suc i) after
 one_put old now after values i distinct l is p = record {
   same = ap keys_of is ∙ keys-set now i (get_or values i []) ∙ p.same;
   rest = λ es f.
@@ -55,7 +54,7 @@ one_put old now after values i distinct l is p = record {
       let path : slice_get (keys_of now) i ≡ Some at.0.0 = ap (λ ks. slice_get ks i) (p.same ∙ f.paths_are) ∙ at.1 in
       let bits : get_or values i [] ≡ at.0.1 = ap (λ vs. get_or vs i []) f.values_are ∙ at.2 in
       let put : after ≡ with_entry now at.0.0 at.0.1 =
-      is ∙ ap (set_value_at now i) bits ∙ put_at_path now i at.0.0 at.0.1 (subst (IsDistinct bytes_eq) (sym p.same) distinct) path in
+      is ∙ ap (with_bits_at now i) bits ∙ put_at_path now i at.0.0 at.0.1 (subst (IsDistinct bytes_eq) (sym p.same) distinct) path in
       ap (λ z. overridden z (drop (suc i) es)) put ∙ ap (overridden now) (sym at.3) ∙ p.rest es f;
 }
 
@@ -65,33 +64,20 @@ at_drop xs ys i d e =
     let z : i + 0 ≡ i = omega arith in
     sym (get_or-drop i xs 0 d ∙ ap (λ j. get_or xs j d) z) ∙ ap (λ l. get_or l 0 d) e ∙ get_or-drop i ys 0 d ∙ ap (λ j. get_or ys j d) z
 
-pub one_more_put : (old now after : Entries) (first values : List (List Bool)) (i : ℕ) (bits : List Bool) → AreDistinct old → i < length first → bits ≡ get_or values i bits → drop i values ≡ drop i first → after ≡ set_value_at now i bits
+pub one_more_put : (old now after : Entries) (first values : List (List Bool)) (i : ℕ) (bits : List Bool) → AreDistinct old → i < length first → bits ≡ get_or values i bits → drop i values ≡ drop i first → after ≡ with_bits_at now i bits
     → IsPending old first i now → IsPending old first (i + 1) after
 one_more_put old now after first values i bits distinct l read left is p =
     let same : bits ≡ get_or first i [] = read ∙ at_drop values first i bits left ∙ get_or_default first i bits [] l in
     let n : suc i ≡ i + 1 = omega arith in
-    subst (λ k. IsPending old first k after) n (one_put old now after first i distinct l (is ∙ ap (set_value_at now i) same) p)
+    subst (λ k. IsPending old first k after) n (one_put old now after first i distinct l (is ∙ ap (with_bits_at now i) same) p)
 
 pub all_put : (old now : Entries) (values : List (List Bool)) (i : ℕ) → length values ≤ i → IsPending old values i now → (es : Entries) → IsFront (keys_of old) values es → now ≡ overridden old es
 all_put old now values i l p es f =
     let count : length values ≡ length es = ap length f.values_are ∙ length-map es (λ (x : List ℕ × List Bool). x.1) in
     sym (ap (overridden now) (drop_all i es (omega (arith, count, l)))) ∙ p.rest es f
 
--- what is shown of entries in which bits were put
-module _ {K : Type 0} (key : K → List ℕ) where
-  pub shown-set : (es : List (K × List Bool)) (i : ℕ) (v : List Bool) → shown key (set_value_at es i v) ≡ set_value_at (shown key es) i v
-  shown-set [] i v = refl
-  shown-set (e ∷ es) zero v = refl
-  shown-set (e ∷ es) (suc i) v = ap (λ r. (key e.0, e.1) ∷ r) (shown-set es i v)
-
-  -- the path of an entry
-  pub shown-path : (es : List (K × List Bool)) (i : ℕ) (e : K × List Bool) → slice_get es i ≡ Some e → slice_get (keys_of (shown key es)) i ≡ Some (key e.0)
-  shown-path [] i e is = absurd (cc)
-  shown-path (x ∷ xs) zero e is = let same : x ≡ e = cc in ap (λ z. Some (key z.0)) same
-  shown-path (x ∷ xs) (suc i) e is = shown-path xs i e is
-
-  -- past the last entry nothing changes
-  pub past_last : (es : List (K × List Bool)) (i : ℕ) (v : List Bool) → (i < length es → ⊥) → set_value_at es i v ≡ es
-  past_last [] i v past = refl
-  past_last (e ∷ es) zero v past = absurd (past (omega arith))
-  past_last (e ∷ es) (suc i) v past = ap (λ r. e ∷ r) (past_last es i v (λ h. past (omega (arith, h))))
+-- past the last entry nothing changes
+pub past_last : (es : Entries) (i : ℕ) (v : List Bool) → (i < length es → ⊥) → with_bits_at es i v ≡ es
+past_last [] i v past = refl
+past_last (e ∷ es) zero v past = absurd (past (omega arith))
+past_last (e ∷ es) (suc i) v past = ap (λ r. e ∷ r) (past_last es i v (λ h. past (omega (arith, h))))

@@ -1,5 +1,5 @@
 use Rattle.std.proofs.Common.{◌≡◌, ℕ, zero, suc, Bool, true, false, cond, List, [], ◌∷◌, ◌++◌, ◌||◌, map, Option, Some, None, refl, sym, ap, ◌∙◌, subst, append_assoc}
-use Rattle.std.specs.Prelude.{IsSome, IsSomeAnd, reverse, is_some, slice_get, string_bytes, String}
+use Rattle.std.specs.Prelude.{IsSome, reverse, is_some}
 use Rattle.std.specs.List.{IsDistinct, AllByRecursion, list_any}
 use Rattle.std.specs.Map.{lookup, keys_of}
 use Rattle.std.specs.Option.{option_or}
@@ -10,44 +10,12 @@ use Rattle.std.proofs.lemmas.Bool.Decides.{same_from_decides}
 use Rattle.std.proofs.lemmas.List.{map-append, reverse-append}
 use Rattle.std.proofs.lemmas.Map.Keys.{IsDistinct-push}
 use Rattle.std.proofs.lemmas.Slice.Eq.{bytes_eq-Decides}
-use Rattle.std.specs.String.{string_eq}
-use Rattle.indexmap.specs.IndexMap.{insert_entry, set_value_at}
 use Rattle.fn_context.specs.Entries.{Entries, bits_at, AreDistinct, with_entry, overridden}
 
 pub bytes_eq-sym : (x y : List ℕ) → bytes_eq x y ≡ bytes_eq y x
 bytes_eq-sym x y =
     let d = bytes_eq-Decides y x in
     same_from_decides (bytes_eq x y) (bytes_eq y x) (bytes_eq-Decides x y) ((λ t. sym (d.0 t)), (λ e. d.1 (sym e)))
-
--- what a context shows of the entries of its map, whose keys have these octets
-module _ {K : Type 0} (key : K → List ℕ) where
-  abbrev pub shown : List (K × List Bool) → Entries
-  shown es = map (λ e. (key e.0, e.1)) es
-
-  abbrev pub same_key : K → K → Bool
-  same_key x y = bytes_eq (key x) (key y)
-
-  pub lookup-shown : (path : List ℕ) (es : List (K × List Bool)) → lookup (λ k. bytes_eq path (key k)) es ≡ bits_at (shown es) path
-  lookup-shown path [] = refl
-  lookup-shown path (e ∷ es) = ap (λ o. cond (bytes_eq path (key e.0)) (Some e.1) o) (lookup-shown path es)
-
-  pub shown-insert : (es : List (K × List Bool)) (k : K) (v : List Bool) → shown (insert_entry same_key es k v) ≡ with_entry (shown es) (key k) v
-  shown-insert [] k v = refl
-  shown-insert (e ∷ es) k v = by (bytes_eq (key k) (key e.0)) (shown-insert es k v)
-    where
-      by : (b : Bool) → shown (insert_entry same_key es k v) ≡ with_entry (shown es) (key k) v
-          → shown (cond b ((e.0, v) ∷ es) (e ∷ insert_entry same_key es k v)) ≡ cond b ((key e.0, v) ∷ shown es) ((key e.0, e.1) ∷ with_entry (shown es) (key k) v)
-      by true rest = refl
-      by false rest = ap (λ r. (key e.0, e.1) ∷ r) rest
-
-  apart-shown : (k : K) (es : List (K × List Bool)) → AllByRecursion (λ y. same_key k y ≡ false) (keys_of es) → AllByRecursion (λ y. bytes_eq (key k) y ≡ false) (keys_of (shown es))
-  apart-shown k [] h = h
-  apart-shown k (e ∷ es) h = (h.0, apart-shown k es h.1)
-
-  pub shown-distinct : (es : List (K × List Bool)) → IsDistinct same_key (keys_of es) → AreDistinct (shown es)
-  unfolding IsDistinct
-  shown-distinct [] h = h
-  shown-distinct (e ∷ es) h = (apart-shown e.0 es h.0, shown-distinct es h.1)
 
 -- a new path goes last
 pub with_entry-absent : (es : Entries) (path : List ℕ) (bits : List Bool) → bits_at es path ≡ None → with_entry es path bits ≡ es ++ (path, bits) ∷ []
@@ -156,32 +124,3 @@ overridden-value es (o ∷ os) q =
     last_one (Some x) b = refl
     last_one None true = refl
     last_one None false = refl
-
--- one more turn of the loops that put entries into a map and that copy one
-module _ {K : Type 0} (key : K → List ℕ) where
-  pub replaced_more : (old new items rest : List (K × List Bool)) (k : K) (v : List Bool) (all : Entries) → new ≡ insert_entry (same_key key) old k v → items ≡ (k, v) ∷ rest
-      → overridden (shown key old) (shown key items) ≡ all → overridden (shown key new) (shown key rest) ≡ all
-  replaced_more old new items rest k v all e steps is =
-      ap (λ es. overridden es (shown key rest)) (ap (shown key) e ∙ shown-insert key old k v) ∙ ap (λ xs. overridden (shown key old) (shown key xs)) (sym steps) ∙ is
-
-  pub copied_more : (old new items rest : List (K × List Bool)) (k p : K) (v b : List Bool) (all : Entries) → AreDistinct all → new ≡ insert_entry (same_key key) old k v → items ≡ (p, b) ∷ rest → key k ≡ key p → v ≡ b
-      → shown key old ++ shown key items ≡ all → shown key new ++ shown key rest ≡ all
-  copied_more old new items rest k p v b all distinct e steps text bits is =
-      ap (λ es. es ++ shown key rest) (ap (shown key) e ∙ shown-insert key old k v) ∙ (λ i. with_entry (shown key old) (text i) (bits i) ++ shown key rest)
-      ∙ copy_more (shown key old) (shown key rest) all (key p) b distinct (ap (λ xs. shown key old ++ shown key xs) (sym steps) ∙ is)
-
--- bits that are written at the place of a path are put at that path
-pub written_at : {Z : Type 0} (es : List (String Z × List Bool)) (i : ℕ) (path : String Z) (bits : List Bool) → IsDistinct string_eq (keys_of es) →
-    IsSomeAnd (slice_get es i) (λ e. string_bytes e.0 ≡ string_bytes path) → set_value_at es i bits ≡ insert_entry string_eq es path bits
-unfolding IsDistinct
-written_at [] i path bits distinct there = absurd there
-written_at (e ∷ es) zero path bits distinct there = ap (λ b. cond b ((e.0, bits) ∷ es) (e ∷ insert_entry string_eq es path bits)) (sym ((bytes_eq-Decides (string_bytes path) (string_bytes e.0)).1 (sym there)))
-written_at {Z} (e ∷ es) (suc i) path bits distinct there =
-    ap (λ l. e ∷ l) (written_at es i path bits distinct.1 there)
-    ∙ ap (λ b. cond b ((e.0, bits) ∷ es) (e ∷ insert_entry string_eq es path bits)) (sym (bytes_eq-sym (string_bytes path) (string_bytes e.0) ∙ apart es i distinct.0 there))
-  where
-    apart : (xs : List (String Z × List Bool)) (j : ℕ) → AllByRecursion (λ y. string_eq e.0 y ≡ false) (keys_of xs) → IsSomeAnd (slice_get xs j) (λ x. string_bytes x.0 ≡ string_bytes path) →
-        bytes_eq (string_bytes e.0) (string_bytes path) ≡ false
-    apart [] j h at = absurd at
-    apart (x ∷ xs) zero h at = subst (λ z. bytes_eq (string_bytes e.0) z ≡ false) at h.0
-    apart (x ∷ xs) (suc j) h at = apart xs j h.1 at

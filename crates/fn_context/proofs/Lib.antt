@@ -3,3 +3,5 @@ pub mod TextLines
 pub mod Paths
 pub mod EntriesReadings
 mod EntriesInOrder
+mod PlacingPaths
+mod PlacingMissing

@@ -1,5 +1,5 @@
 -- A context: the bits that fields had last, by their paths, in order.
-use Rattle.std.specs.Prelude.{◌≡◌, ℕ, Bool, List, [], ◌∷◌, ◌++◌, Option, fold, map, if◌then◌else◌}
+use Rattle.std.specs.Prelude.{◌≡◌, ℕ, zero, suc, Bool, List, [], ◌∷◌, ◌++◌, Option, fold, map, if◌then◌else◌}
 use Rattle.std.specs.List.{IsDistinct}
 use Rattle.std.specs.Map.{lookup, keys_of}
 use Rattle.std.specs.Str.{bytes_eq}
@@ -20,6 +20,12 @@ AreDistinct es = IsDistinct bytes_eq (keys_of es)
 abbrev pub with_entry : Entries → List ℕ → List Bool → Entries
 with_entry [] path bits = (path, bits) ∷ []
 with_entry (e ∷ es) path bits = if bytes_eq path e.0 then (e.0, bits) ∷ es else e ∷ with_entry es path bits
+
+-- the entries with bits in the one at a place, if there is one
+abbrev pub with_bits_at : Entries → ℕ → List Bool → Entries
+with_bits_at [] place bits = []
+with_bits_at (e ∷ es) zero bits = (e.0, bits) ∷ es
+with_bits_at (e ∷ es) (suc place) bits = e ∷ with_bits_at es place bits
 
 -- these bits are those of entries whose paths come first among the paths
 pub record IsFront (paths : List (List ℕ)) (values : List (List Bool)) (es : Entries) : Type 0 where

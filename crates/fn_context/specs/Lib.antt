@@ -1,3 +1,4 @@
 pub mod Entries
+pub mod Placing
 pub mod Path
 pub mod Text

@@ -5,6 +5,7 @@ pub use context::Context;
 pub use text::ContextError;
 
 pub mod context;
+mod hints;
 pub mod laws;
 pub mod path;
 pub mod text;

@@ -58,7 +58,7 @@ impl Context {
             if context.get(path.as_str()).is_some() {
                 return Err(ContextError::BadLine { line: line.number });
             }
-            context.put(path, bits)?;
+            context.push_new(path, bits)?;
         }
         Ok(context)
     }

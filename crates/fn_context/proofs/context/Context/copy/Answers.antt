@@ -1,20 +1,10 @@
-use Rattle.std.proofs.Common.{◌∙◌, subst, string_bytes}
-use Rattle.fn_context.specs.Entries.{AreDistinct}
-use Rattle.fn_context.proofs.EntriesOverrides.{shown-distinct, copied_more}
+use Rattle.std.proofs.Common.{◌≡◌, ◌∙◌, ◌∷◌, ◌++◌, [], ap, sym, subst, refl, string_bytes}
+use Rattle.fn_context.specs.Entries.{AreDistinct, bits_at}
+use Rattle.fn_context.specs.Placing.{shown}
+use Rattle.fn_context.proofs.PlacingPaths.{next_absent, next_copied}
 use Rattle.fn_context.proofs.context.Context.copy.Goals as goal
 
-pub loop-path-preserved : goal.loop-path-preserved
-loop-path-preserved c =
-    let distinct = subst AreDistinct c.self.view_is (shown-distinct string_bytes c.self.inside.kept.entries c.self.invariant) in (
-      c.insert.ensures.unique,
-      copied_more string_bytes c.loop-path.kept.entries _ _ _ c.in_ok-from_str.field-0 c.in-Some.path.now c.in_ok-copy.field-0 c.in-Some.bits.now _ distinct c.in_ok-insert.ensures.entries c.in-Some.ensures.steps
-          (c.in_ok-from_str.ensures.ok ∙ c.as_str.ensures.value) c.in_ok-copy.ensures c.loop-path.invariant.1,
-    )
-
-pub loop-path-preserved-in_ok-insert : goal.loop-path-preserved-in_ok-insert
-loop-path-preserved-in_ok-insert c =
-    let distinct = subst AreDistinct c.self.view_is (shown-distinct string_bytes c.self.inside.kept.entries c.self.invariant) in (
-      c.insert.ensures.unique,
-      copied_more string_bytes c.loop-path.kept.entries _ _ _ c.in_ok-from_str.field-0 c.in-Some.path.now c.in_ok-copy.field-0 c.in-Some.bits.now _ distinct c.in_ok-insert.ensures.entries c.in-Some.ensures.steps
-          (c.in_ok-from_str.ensures.ok ∙ c.as_str.ensures.value) c.in_ok-copy.ensures c.loop-path.invariant.1,
-    )
+pub push_new-requires : goal.push_new-requires
+push_new-requires c =
+    ap (bits_at c.loop-path.copy) (c.in_ok-path.ensures.ok ∙ c.as_str.ensures.value ∙ ap (λ e. string_bytes e.0) c.loop-path-item.is)
+    ∙ next_absent c.deref-path-items.result.now c.loop-path.path-index _ c.loop-path.copy c.args.self.now c.loop-path-test.true (subst AreDistinct c.self.view_is c.self.invariant.distinct) c.loop-path.invariant
