@@ -111,8 +111,15 @@ def conditions(program):
     return whole("unpack --top t", profile) + b"=== packets\n1:80\n"
 
 
+def paths(program):
+    """A context of 16,000 paths that differ in their last five octets alone: whatever a look-up goes by, it may take no more than the logarithm of their count."""
+    context = "".join("%s%05d 8:01\n" % ("p" * 27, it) for it in range(16000))
+    profile = "t {\n  UNCOMPRESSED { x [8]; }\n  COMPRESSED { x =:= irregular(8); }\n}\n"
+    return whole("pack --context --top t", profile) + b"=== context\n" + context.encode() + b"=== items\n8:01\n"
+
+
 # seconds and MiB at most: three times what was measured
-BOUNDS = {waiting: (1, 36), operands: (6, 45), steps: (2, 45), encodings: (9, 350), brackets: (4, 730), conditions: (30, 60)}
+BOUNDS = {waiting: (1, 36), operands: (6, 45), steps: (2, 45), encodings: (9, 350), brackets: (4, 730), conditions: (30, 60), paths: (1, 60)}
 
 
 def main(words):
