@@ -3,10 +3,12 @@
 
 pub use printing::print;
 pub use reading::{CertificateError, TEXT_LIMIT, read};
+pub use room::is_short;
 
 mod draft;
 mod faults;
 pub mod laws;
 pub mod printing;
 pub mod reading;
+mod room;
 mod words;

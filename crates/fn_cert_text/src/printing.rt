@@ -21,7 +21,7 @@ pub fn print(alloc: Global, certificate: &Certificate) -> Result<String, AllocEr
     format!(in alloc; "rohcfn-certificate {version}\n{methods}end\n")
 }
 
-fn version_word(version: Version) -> &'static str
+pub(crate) fn version_word(version: Version) -> &'static str
     ensures { result.now ≡ spec.version_word version }
 {
     match version {
@@ -64,7 +64,7 @@ fn method_text(alloc: Global, method: &MethodPlans) -> Result<String, AllocError
 }
 
 /// The nodes of a method's tree.
-fn nodes_text(alloc: Global, method: &MethodPlans) -> Result<String, AllocError>
+pub(crate) fn nodes_text(alloc: Global, method: &MethodPlans) -> Result<String, AllocError>
     ensures { IfOk result (λ text. string_bytes text ≡ spec.spelled (map (spec.node_line method.now) method.now.tree)) }
 {
     let mut output = String::new(alloc);
@@ -98,7 +98,7 @@ fn node_text(alloc: Global, method: &MethodPlans, node: Node) -> Result<String, 
 }
 
 /// The name at an index, or `-`.
-fn name_at(names: &[Name], index: usize) -> &str
+pub(crate) fn name_at(names: &[Name], index: usize) -> &str
     ensures { result.now ≡ spec.name_at names.now index }
 {
     match names.get(index) {
@@ -128,7 +128,7 @@ fn format_name(formats: &[FormatPlans], index: usize) -> &str
 }
 
 /// A name, or `-`.
-fn name_of(name: &Option<Name>) -> &str
+pub(crate) fn name_of(name: &Option<Name>) -> &str
     ensures { result.now ≡ spec.name_of name.now }
 {
     match name {
@@ -234,7 +234,7 @@ fn push_numbered(
 }
 
 /// What follows the name where the library method gives the length of a side.
-fn method_words(side: Side) -> &'static str
+pub(crate) fn method_words(side: Side) -> &'static str
     ensures { result.now ≡ codes " " ++ spec.side_word side ++ codes " method\n" }
 {
     match side {
@@ -244,7 +244,7 @@ fn method_words(side: Side) -> &'static str
 }
 
 /// What stands between the name and the number of a constraint that gives the length of a side.
-fn side_words(side: Side) -> &'static str
+pub(crate) fn side_words(side: Side) -> &'static str
     ensures { result.now ≡ codes " " ++ spec.side_word side ++ codes " " }
 {
     match side {

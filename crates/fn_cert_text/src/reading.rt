@@ -1,6 +1,6 @@
 //! Certificates are read from their text.
 
-ghost use Rattle.std.specs.Prelude.{◌≡◌, ◌<◌, ◌≤◌, suc, length, map, IfOk, IfErr, Err, Some, ℕ};
+ghost use Rattle.std.specs.Prelude.{◌≡◌, ◌<◌, ◌≤◌, suc, length, map, IfOk, OnOk, IfErr, Err, Some, ℕ};
 ghost use Rattle.std.specs.List.{slice_split};
 ghost use Rattle.std.specs.Str.Lines.{lines as lines_of};
 ghost use Rattle.fn_bits.specs.Lines.{numbered_lines};
@@ -78,26 +78,27 @@ fn drafted(alloc: Global, methods: &[Method], lines: &[Line<'_>]) -> Result<Draf
     ensures fault { IfErr result (λ e. (f : Fault) (n : ℕ) → said.fault_of e ≡ Some (f, n) → Stops methods.now (map (λ l. (l.number, l.text.now)) lines.now) f n) }
 {
     let mut draft = Draft::new(alloc);
+    let mut found = Vec::new(alloc);
     for line in lines {
-        let words = words(alloc, line.text)?;
+        words(line.text, &mut found)?;
         let place = draft.stands();
-        if !draft.next(alloc, methods, words.as_slice())? {
-            return Err(error_at(fault_of(place, methods, words.as_slice()), line.number));
+        if !draft.next(alloc, methods, found.as_slice())? {
+            return Err(error_at(fault_of(place, methods, found.as_slice()), line.number));
         }
     }
     Ok(draft)
 }
 
-/// The words of a line, parted by one space each.
-fn words(alloc: Global, line: &str) -> Result<Vec<&str>, AllocError>
-    ensures { IfOk result (λ words. map (λ word. word.now) words.items ≡ spec.words line.now) }
+/// Puts the words of a line, parted by one space each, in place of those that were found before.
+fn words<'a>(line: &'a str, found: &mut Vec<&'a str>) -> Result<(), AllocError>
+    ensures { OnOk result (map (λ word. word.now) found.new.items ≡ spec.words line.now) }
 {
+    found.clear();
     // A loop, since `collect` goes on after a refused growth.
-    let mut words = Vec::new(alloc);
     for word in line.split(' ') {
-        words.push(word)?;
+        found.push(word)?;
     }
-    Ok(words)
+    Ok(())
 }
 
 fn error_at(fault: Fault, line: usize) -> CertificateError

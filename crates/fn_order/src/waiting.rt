@@ -78,5 +78,5 @@ fn is_due(rest: Rest) -> bool
 fn is_over(known: &Knowledge, rule: &NeedRule<'_>) -> bool
     ensures { (format : Format) → result ≡ spec.gives_none (shows known.now) (told format rule.now) }
 {
-    known.has_all(rule.gives.as_slice()) || !known.has_none(rule.absent.as_slice())
+    known.has_few(rule.gives) || !known.lacks_few(rule.absent)
 }

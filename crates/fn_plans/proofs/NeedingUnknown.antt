@@ -39,6 +39,10 @@ module _ (k : Knowledge) where
   pub joined_none : (xs ys : List Fact) (o p : Option Fact) → o ≡ first_unknown k xs → o ≡ None → p ≡ first_unknown k ys → p ≡ first_unknown k (xs ++ ys)
   joined_none xs ys o p is e then = then ∙ sym (none_before xs ys (sym is ∙ e))
 
+  -- both are known, of which the second was looked at first
+  pub both_known : (xs ys : List Fact) (left right : Bool) → right ≡ true → (right ≡ true → None ≡ first_unknown k ys) → (left ≡ true → None ≡ first_unknown k xs) → left ≡ true → None ≡ first_unknown k (xs ++ ys)
+  both_known xs ys left right e after before h = after e ∙ sym (none_before xs ys (sym (before h)))
+
   -- there is none just where all are known
   one_more : (y : Fact) (xs : List Fact) (b : Bool) → is_some (first_unknown k xs) ≡ not (list_all (shows k) xs) → is_some (cond (not b) (Some y) (first_unknown k xs)) ≡ not (b && list_all (shows k) xs)
   one_more y xs true e = e

@@ -1,14 +1,16 @@
 -- What a rule needs, by its parts, and what of it isn't known.
-use Rattle.std.specs.Prelude.{◌≡◌, ℕ, true, List, [], ◌∷◌, Option, None, not}
+use Rattle.std.specs.Prelude.{◌≡◌, ℕ, true, List, [], ◌∷◌, ◌++◌, Option, None, not}
 use Rattle.std.specs.List.{flat_map, find}
 use Rattle.fn_expr.specs.declared.expr.Side.{Side}
 use Rattle.fn_expr.specs.declared.expr.Measure.{Measure}
+use Rattle.fn_expr.specs.declared.expr.Measure.TheVariants.{Value}
 use Rattle.fn_expr.specs.declared.expr.Subject.TheVariants.{This}
+use Rattle.fn_normal.specs.declared.profile.CrcArguments.{CrcArguments}
 use Rattle.fn_normal.specs.declared.profile.Format.{Format}
 use Rattle.fn_cert.specs.declared.rule.Fact.{Fact}
-use Rattle.fn_cert.specs.declared.rule.Fact.TheVariants.{Done}
+use Rattle.fn_cert.specs.declared.rule.Fact.TheVariants.{LengthOf, BitsOf}
 use Rattle.fn_cert.specs.declared.rule.Rule.{Rule}
-use Rattle.fn_rules.specs.Facts.{fact_of, side_facts, inputs}
+use Rattle.fn_rules.specs.Facts.{fact_of, side_facts, inputs, inputs_of_all}
 use Rattle.fn_rules.specs.Rules.{listed_before, headers_before}
 use Rattle.fn_plans.specs.declared.needs.Need.{Need}
 use Rattle.fn_plans.specs.declared.needs.Need.TheVariants as need
@@ -20,11 +22,18 @@ use Rattle.fn_plans.specs.declared.knowledge.FieldKnowledge.{FieldKnowledge}
 use Rattle.fn_plans.specs.declared.knowledge.Knowledge.{Knowledge}
 use Rattle.fn_plans.specs.Knowing.{shows_of, shows}
 
+-- those of a crc: of the bits that it covers, and of its arguments
+abbrev pub facts_of_crc : Format → CrcArguments → List Fact
+facts_of_crc format crc = side_facts format crc.subject crc.side Value ++ inputs format crc.bits ++ inputs format crc.polynomial ++ inputs format crc.initial ++ inputs format crc.length
+
 -- the facts of a part
 abbrev pub facts_of : Format → Need → List Fact
-facts_of format (need.One x) = x ∷ []
-facts_of format (need.Told subject side measure) = side_facts format subject side measure
+facts_of format need.Nothing = []
+facts_of format (need.Length side i) = LengthOf side i ∷ []
+facts_of format (need.Bits side i) = BitsOf side i ∷ []
 facts_of format (need.Inputs e) = inputs format e.now
+facts_of format (need.Arguments es) = inputs_of_all format es.now
+facts_of format (need.Crc crc) = facts_of_crc format crc.now
 facts_of format (need.ListedBefore i) = listed_before format i
 facts_of format (need.HeadersBefore i) = headers_before format i
 
@@ -42,7 +51,7 @@ free needs gives = record { needs = needs; absent = few.None; gives = gives }
 
 -- one that is followed once for a field
 abbrev pub once : ℕ → List Need → FewFacts → NeedRule
-once i needs gives = record { needs = needs; absent = few.One (Done i ∷ []); gives = gives }
+once i needs gives = record { needs = needs; absent = few.Done i; gives = gives }
 
 -- the first of the facts that isn't known
 abbrev pub first_unknown : Knowledge → List Fact → Option Fact

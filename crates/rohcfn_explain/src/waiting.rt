@@ -140,7 +140,8 @@ fn closure(
 fn learn_round(known: &mut Knowledge, format: &Format, steps: &[Possible<'_>]) -> bool {
     let mut learns = false;
     for possible in steps {
-        let gives = possible.rule.gives.as_slice();
+        let written = possible.rule.gives.written();
+        let gives = written.as_slice();
         if !known.has_all(gives) && enables(known, format, &possible.rule) {
             known.learn_all(gives);
             learns = true;
@@ -190,7 +191,8 @@ fn waiting_for(
 }
 
 fn gives(rule: &NeedRule<'_>, fact: Fact) -> bool {
-    for given in rule.gives.as_slice() {
+    let written = rule.gives.written();
+    for given in written.as_slice() {
         if is_same(*given, fact) {
             return true;
         }

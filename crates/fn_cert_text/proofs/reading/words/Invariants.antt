@@ -3,4 +3,4 @@ use Rattle.fn_cert_text.proofs.reading.words.Given as goal
 
 abbrev pub invariant-loop-word : goal.invariant-loop-word
 invariant-loop-word l =
-    map (λ x. x.now) l.words.items ≡ map (λ x. x.now) l.yielded
+    map (λ x. x.now) l.found.items ≡ map (λ x. x.now) l.yielded

@@ -13,7 +13,7 @@ returns-then-is_none c =
     let rule = c.args.rule.now in
     let needs = ap (λ z. first_unknown k (facts_of_all c.args.format.now z)) c.as_slice.ensures in
     let met = all_known_is k (facts_of_all c.args.format.now rule.needs) c.is_none.result (ap is_some (sym (c.lacking.ensures ∙ needs)) ∙ c.is_none.ensures) in
-    c.has_none.ensures ∙ ap (list_all (λ x. not (shows k x))) c.as_slice-then-is_none.ensures ∙ ap (λ b. b && list_all (λ x. not (shows k x)) (facts_in rule.absent)) (sym c.if-is_none.true ∙ met)
+    c.lacks_few.ensures ∙ ap (λ b. b && list_all (λ x. not (shows k x)) (facts_in rule.absent)) (sym c.if-is_none.true ∙ met)
 
 pub returns-else-is_none : goal.returns-else-is_none
 returns-else-is_none c =
