@@ -1,6 +1,7 @@
 -- What a search for a call that leads back tells.
-use Rattle.std.proofs.Common.{rules, ◌≡◌, ◌∙◌, ap, ℕ, ◌<◌, ◌+◌, Bool, true, false, List, [], ◌∷◌, refl, sym, subst, inl, cond, suc, zero, length, arith, nat_eq, ◌↔◌, ◌||◌}
+use Rattle.std.proofs.Common.{rules, ◌≡◌, ◌∙◌, ap, ℕ, ◌<◌, ◌+◌, Bool, true, false, List, [], ◌∷◌, refl, sym, subst, inl, cond, map, suc, zero, length, arith, nat_eq, ◌↔◌, ◌||◌}
 use Rattle.std.specs.Prelude.{slice_get, Some, None, Option}
+use Rattle.std.specs.List.{list_any}
 use Rattle.std.specs.Option.{option_map, option_or}
 use Rattle.std.proofs.lemmas.Bool.{eqb-true}
 use Rattle.fn_tree.specs.declared.tree.Method.{Method}
@@ -11,8 +12,8 @@ use Rattle.fn_calls.proofs.OrderBackward.{by_marks, decide}
 use Rattle.fn_normal.specs.declared.fault.ProfileFault.{ProfileFault}
 use Rattle.fn_names.specs.declared.calls.CallSite.{CallSite}
 use Rattle.fn_names.specs.Parts.{methods_of, method_names}
-use Rattle.fn_names.specs.Calls.{calls_from, graph_of}
-use Rattle.fn_names.specs.Recursion.{recursive, back_in, first_back, IsRecursive, calls_back}
+use Rattle.fn_names.specs.Calls.{calls_from, callees_of, graph_of}
+use Rattle.fn_names.specs.Recursion.{recursive, back_in, first_back, is_any_back, IsRecursive, calls_back}
 use Rattle.fn_names.proofs.CallsSites.{row_at, site_at, site_inside}
 
 -- what the test says
@@ -111,3 +112,26 @@ none_returns table text names parts are each h = decide (graph_of text names par
     (test_means (graph_of text names parts) table i s.1.method each (site_inside text names parts are r.method s.0 s.1 s.2)).1
     (subst (λ k. LeadsBack (graph_of text names parts) i k) (sym s.3) back) in
     let wrong : false ≡ true = sym no_back ∙ is_back in absurd cc)
+
+-- where no method calls one that leads back, there is no such call
+none_among : (table : List (List Bool)) (k : ℕ) (cs : List CallSite) → list_any (leads_back table k) (map (λ c. c.method) cs) ≡ false → back_in table k cs ≡ None
+none_among table k [] h = refl
+none_among table k (c ∷ cs) h = by (leads_back table k c.method) h (λ so. none_among table k cs so)
+  where
+    by : (b : Bool) → b || list_any (leads_back table k) (map (λ c. c.method) cs) ≡ false → (list_any (leads_back table k) (map (λ c. c.method) cs) ≡ false → back_in table k cs ≡ None) → cond b (Some c) (back_in table k cs) ≡ None
+    by true h more = let wrong : true ≡ false = h in absurd cc
+    by false h more = more h
+
+none_called : (table : List (List Bool)) (text : List ℕ) (names : List (List ℕ)) (k : ℕ) (ms : List Method) → is_any_back table k (map (callees_of text names) ms) ≡ false → None ≡ first_back table text names k ms
+none_called table text names k [] h = refl
+none_called table text names k (m ∷ ms) h = by (list_any (leads_back table k) (callees_of text names m)) refl h (λ so. none_called table text names (suc k) ms so)
+  where
+    by : (b : Bool) → list_any (leads_back table k) (callees_of text names m) ≡ b → b || is_any_back table (suc k) (map (callees_of text names) ms) ≡ false
+        → (is_any_back table (suc k) (map (callees_of text names) ms) ≡ false → None ≡ first_back table text names (suc k) ms)
+        → None ≡ option_or (option_map (recursive m.name) (back_in table k (calls_from text names m))) (first_back table text names (suc k) ms)
+    by true e h more = let wrong : true ≡ false = h in absurd cc
+    by false e h more = more h ∙ sym (ap (λ o. option_or (option_map (recursive m.name) o) (first_back table text names (suc k) ms)) (none_among table k (calls_from text names m) e))
+
+pub none_back : (table : List (List Bool)) (text : List ℕ) (names : List (List ℕ)) (parts : List Part) (graph : List (List ℕ)) → graph ≡ graph_of text names parts → is_any_back table 0 graph ≡ false
+    → None ≡ first_back table text names 0 (methods_of parts)
+none_back table text names parts graph is h = none_called table text names 0 (methods_of parts) (ap (is_any_back table 0) (sym is) ∙ h)

@@ -59,10 +59,13 @@ fn library_sizes(alloc: Global, library: &Library) -> Sizes
             uncompressed: NO_BITS,
             compressed: by_length(alloc, length),
         },
-        Library::Irregular { length } => Sizes {
-            uncompressed: by_length(alloc, length),
-            compressed: by_length(alloc, length),
-        },
+        Library::Irregular { length } => {
+            let bounds = by_length(alloc, length);
+            Sizes {
+                uncompressed: bounds,
+                compressed: bounds,
+            }
+        }
         Library::Static => Sizes {
             uncompressed: up_to_widest(),
             compressed: NO_BITS,

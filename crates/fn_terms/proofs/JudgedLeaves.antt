@@ -1,6 +1,8 @@
 -- The judgements of names and attributes.
-use Rattle.std.proofs.Common.{◌≡◌, ◌∙◌, ap, subst, ℕ, true, false, Some, None, sym, IfOk, Result, Ok, Err}
+use Rattle.std.proofs.Common.{◌≡◌, ◌∙◌, ap, cond, subst, ℕ, true, false, Some, None, sym, IfOk, Result, Ok, Err}
 use Rattle.std.specs.Prelude.{IfErr, Option, pos, neg_ℤ}
+use Rattle.std.specs.Option.{option_map}
+use Rattle.std.specs.Result.{result_err}
 use Rattle.fn_source.specs.declared.span.Span.{Span}
 use Rattle.fn_tree.specs.declared.tree.Attribute.{Attribute as Word}
 use Rattle.fn_tree.specs.declared.tree.Owner.{Owner}
@@ -9,6 +11,8 @@ use Rattle.fn_tree.specs.declared.tree.Expr.TheVariants.{rolls-Name, rolls-Attri
 use Rattle.fn_tree.specs.declared.tree.Expr.TheFolds.{fold-roll-Expr}
 use Rattle.fn_tree.specs.declared.tree.Expr.TheOpen.{Expr-F}
 use Rattle.fn_expr.specs.declared.expr.Expr.{Expr}
+use Rattle.fn_expr.specs.declared.interval.Interval.{Interval}
+use Rattle.fn_expr.specs.declared.fault.RangeFault.{RangeFault}
 use Rattle.fn_expr.specs.declared.expr.Expr.TheVariants as expr
 use Rattle.fn_expr.specs.declared.expr.Subject.{Subject}
 use Rattle.fn_expr.specs.declared.expr.Side.{Side}
@@ -18,7 +22,7 @@ use Rattle.fn_terms.specs.declared.term.Kind.TheVariants as kinds
 use Rattle.fn_terms.specs.declared.term.Term.TheVariants.{Number}
 use Rattle.fn_terms.specs.Names.{Names, plain, subject_of, side_of, measure_of}
 use Rattle.fn_terms.specs.Means.{Means, name}
-use Rattle.fn_terms.specs.Ranges.{range_of}
+use Rattle.fn_terms.specs.Ranges.{range_of, of_range}
 use Rattle.fn_terms.specs.Judged.{Judgement, judged, judge, found, place_of, unless_known, owner_fault, wrong_kind, if_allowed, range_fault, name_judgement, attribute_range}
 
 name_shape : (s : Names) (at : Span) → judged s (t.Name at) ≡ judge s (Expr-F.Name at)
@@ -71,3 +75,7 @@ pub negative_right : (s : Names) (at : Span) (n : ℕ) (e : Expr) → e ≡ expr
 negative_right s at n e is fine =
     let here : range_fault s (range_of (expr.Number at (neg_ℤ (pos n)))) ≡ None = subst (λ x. range_fault s (range_of x) ≡ None) is fine in
     (ap (judged s) (sym (rolls-Negative at n)) ∙ fold-roll-Expr _ _ _) ∙ (λ i. record { kind = kinds.Number; place = at; fault = here i; range = range_of (expr.Number at (neg_ℤ (pos n))) }) ∙ ap (λ y. found (Number y)) (sym is)
+
+-- where attributes may stand, ranges are not judged
+pub unjudged : (s : Names) (r : Result Interval RangeFault) → s.has_attributes ≡ true → range_fault s r ≡ None
+unjudged s r has = ap (λ b. cond b None (option_map of_range (result_err r))) has

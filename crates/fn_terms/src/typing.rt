@@ -128,6 +128,9 @@ fn positive_number(
     ensures right { IfOk result (λ e. spec.judged scope.now (t.Number at n) ≡ spec.found (Term.Number e)) }
     ensures refused { IfErr result (spec.Refuses (spec.judged scope.now (t.Number at n)).fault) }
 {
+    if scope.has_attributes() {
+        return Ok(positive(at, n));
+    }
     Ok(within(alloc, scope, positive(at, n))?)
 }
 
