@@ -50,6 +50,7 @@ fn push_word(text: &mut String, count: usize, word: u64) -> Result<(), AllocErro
 }
 
 /// Adds a count and a colon.
+#[inline(always)]
 fn push_count(text: &mut String, count: usize) -> Result<(), AllocError>
     ensures { OnOk result (string_bytes text.new ≡ string_bytes text.old ++ decimal count ++ codes ":") }
 {
@@ -87,6 +88,7 @@ fn digit(number: u8) -> char
 }
 
 /// Adds the text of an item: its header, then each value after a blank.
+#[inline(always)]
 pub fn push_item_text(alloc: Global, text: &mut String, item: &Item) -> Result<(), AllocError>
     ensures { OnOk result (HasMore (IsItemText item.now) (string_bytes text.old) (string_bytes text.new)) }
 {
@@ -123,6 +125,7 @@ fn push_named(text: &mut String, name: &str) -> Result<(), AllocError>
 }
 
 /// Adds a line.
+#[inline(always)]
 pub fn push_line(output: &mut String, line: &str) -> Result<(), AllocError>
     ensures { OnOk result (string_bytes output.new ≡ string_bytes output.old ++ line.now ++ 10 ∷ []) }
 {
