@@ -16,6 +16,7 @@ use fn_filling::Filling;
 use fn_normal::{Constraint, Shared};
 
 /// Whether all constraints of a format hold.
+#[inline(always)]
 pub(crate) fn constraints_hold(
     constraints: &[Shared<Constraint>],
     filling: &Filling,
@@ -33,6 +34,7 @@ pub(crate) fn constraints_hold(
     true
 }
 
+#[inline(always)]
 fn constraint_holds(constraint: &Constraint, filling: &Filling, known: &Seen<'_>) -> bool
     requires { ConstraintRanged known.now constraint.now }
     ensures { IsTrue result ↔ Holds (side_of (listing_of filling.now) (level filling.now)) (assignment_of known.now) constraint.now }
@@ -52,6 +54,7 @@ fn constraint_holds(constraint: &Constraint, filling: &Filling, known: &Seen<'_>
 }
 
 /// The length of a side of a field, 0 where there is no such field.
+#[inline(always)]
 fn length_of(filling: &Filling, field: usize, side: Side) -> usize
     ensures { result ≡ length (side_of (listing_of filling.now) (level filling.now) (subject.Field field) side) }
 {
@@ -65,6 +68,7 @@ fn length_of(filling: &Filling, field: usize, side: Side) -> usize
 }
 
 /// Whether the length is the value of one of the expressions.
+#[inline(always)]
 fn is_value_of(length: usize, expressions: &[Expr], known: &Seen<'_>) -> bool
     requires { AllRanged known.now expressions.now }
     ensures { IsTrue result ↔ ((n : ℕ) × (e : Expr) × (slice_get expressions.now n ≡ Some e) × (val (assignment_of known.now) e ≡ Some (pos length))) }

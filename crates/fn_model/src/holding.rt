@@ -45,6 +45,7 @@ pub fn holds(
 }
 
 /// The two sides of the filling, where it fits likewise.
+#[inline(always)]
 pub fn sides_if_fits(
     alloc: Global,
     profile: &Profile,
@@ -195,6 +196,7 @@ fn plain_field_holds(
 }
 
 /// Whether the constraints of the level hold. All its lengths lie in their bounds, so what is not listed has no bits.
+#[inline(always)]
 fn level_holds(
     profile: &Profile,
     method: usize,

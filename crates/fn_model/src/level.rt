@@ -33,6 +33,7 @@ struct Place<'a> {
 
 /// The level of a filling of the method, where its header and its packed bits are these. None where no filling that fits is
 /// like it.
+#[inline(always)]
 pub(crate) fn level_of<'a>(
     profile: &'a Profile,
     method: usize,
@@ -63,6 +64,7 @@ pub(crate) fn level_of<'a>(
 }
 
 /// The format of a filling of the method, if it has the fields and the listing of one.
+#[inline(always)]
 fn place_of<'a>(profile: &'a Profile, method: usize, filling: &Filling) -> Option<Place<'a>>
     ensures found { IfSome result (λ p. ready.IsPlace profile.now method filling.now p.format.now p.sizes.now) }
     ensures none { IfNone result (ready.NeverPlaced profile.now.methods method filling.now) }
@@ -76,12 +78,14 @@ fn place_of<'a>(profile: &'a Profile, method: usize, filling: &Filling) -> Optio
     Some(Place { format, sizes })
 }
 
+#[inline(always)]
 fn format_of(profile: &Profile, method: usize, index: usize) -> Option<&Format>
     ensures { option_copied result ≡ format_at profile.now.methods method index }
 {
     profile.methods().get(method)?.formats.get(index)
 }
 
+#[inline(always)]
 fn sizes_of(profile: &Profile, method: usize, index: usize) -> Option<&FormatSizes>
     ensures { option_copied result ≡ sizes_at profile.now.sizes method index }
 {

@@ -120,6 +120,7 @@ pub(crate) fn number_in(expression: &Expr, seen: &Seen<'_>) -> Option<i128>
 }
 
 /// Whether the expression has that value.
+#[inline(always)]
 pub(crate) fn is_number(expression: &Expr, seen: &Seen<'_>, number: i128) -> bool
     requires { IsRanged (assignment_of seen.now) expression.now }
     ensures { IsTrue result ↔ (val (assignment_of seen.now) expression.now ≡ Some number) }

@@ -32,6 +32,7 @@ use fn_normal::{CrcArguments, Field, Library};
 use std::alloc::{AllocError, Global};
 
 /// Whether a field without an encoding fits: it has at most 64 bits, and none is sent.
+#[inline(always)]
 pub(crate) fn is_bare(filled: &FilledField) -> bool
     ensures { IsTrue result ↔ ((length (sides_of filled.now).uncompressed ≤ 64) × ((sides_of filled.now).compressed ≡ []) × (inner_of filled.now ≡ None)) }
 {
@@ -39,6 +40,7 @@ pub(crate) fn is_bare(filled: &FilledField) -> bool
 }
 
 /// Whether the library method relates the two sides of the field.
+#[inline(always)]
 pub(crate) fn is_coded(
     alloc: Global,
     context: &Context,
@@ -73,6 +75,7 @@ pub(crate) fn is_coded(
 }
 
 /// Whether the bits are as many as the one expression says, at most 64, and spell the value of the other.
+#[inline(always)]
 fn is_spelled(known: &Seen<'_>, length: &Expr, number: &Expr, bits: &Bits) -> bool
     requires length { IsRanged (assignment_of known.now) length.now }
     requires number { IsRanged (assignment_of known.now) number.now }
@@ -85,6 +88,7 @@ fn is_spelled(known: &Seen<'_>, length: &Expr, number: &Expr, bits: &Bits) -> bo
 }
 
 /// Whether both sides are the same bits, as many as the expression says, at most 64.
+#[inline(always)]
 fn is_carried(known: &Seen<'_>, length: &Expr, up: &Bits, down: &Bits) -> bool
     requires { IsRanged (assignment_of known.now) length.now }
     ensures { IsTrue result ↔ IsCarried (assignment_of known.now) length.now up.now down.now }

@@ -12,6 +12,7 @@ use fn_filling::{FilledField, Filling};
 use fn_normal::{Bounds, Declared, Field, Format, FormatSizes, Sizes};
 
 /// Whether the filling has the listing and the fields of the format.
+#[inline(always)]
 pub(crate) fn is_shaped(format: &Format, filling: &Filling) -> bool
     ensures { IsTrue result ↔ IsShaped format.now filling.now }
 {
@@ -19,6 +20,7 @@ pub(crate) fn is_shaped(format: &Format, filling: &Filling) -> bool
         && are_declared(format.fields.as_slice(), filling.fields.as_slice())
 }
 
+#[inline(always)]
 fn are_declared(fields: &[Field], filled: &[FilledField]) -> bool
     ensures { IsTrue result ↔ (map (λ s. s.declared) (map sides_of filled.now) ≡ map (λ d. d.declared) fields.now) }
 {
@@ -33,6 +35,7 @@ fn are_declared(fields: &[Field], filled: &[FilledField]) -> bool
     true
 }
 
+#[inline(always)]
 fn is_declared(declared: &Declared, filled: &Declared) -> bool
     ensures { IsTrue result ↔ (filled.now ≡ declared.now) }
 {
@@ -44,6 +47,7 @@ fn is_declared(declared: &Declared, filled: &Declared) -> bool
 }
 
 /// Whether all lengths lie in the format's bounds.
+#[inline(always)]
 pub(crate) fn is_bounded(
     sizes: &FormatSizes,
     filling: &Filling,
@@ -58,6 +62,7 @@ pub(crate) fn is_bounded(
         && sides_lie(sizes.whole, header_bits.len(), packed_bits.len())
 }
 
+#[inline(always)]
 fn are_bounded(sizes: &[Sizes], filled: &[FilledField]) -> bool
     ensures { IsTrue result ↔ FieldsLie sizes.now filled.now }
 {
@@ -70,6 +75,7 @@ fn are_bounded(sizes: &[Sizes], filled: &[FilledField]) -> bool
 }
 
 /// Whether the lengths of the field at the place lie in its bounds, if it has any.
+#[inline(always)]
 fn field_lies(sizes: &[Sizes], place: usize, filled: &FilledField) -> bool
     ensures { IsTrue result ↔ FieldLies sizes.now place (sides_of filled.now) }
 {
@@ -79,12 +85,14 @@ fn field_lies(sizes: &[Sizes], place: usize, filled: &FilledField) -> bool
     }
 }
 
+#[inline(always)]
 fn sides_lie(sizes: Sizes, uncompressed: usize, compressed: usize) -> bool
     ensures { IsTrue result ↔ SidesLie sizes uncompressed compressed }
 {
     lies_between(sizes.uncompressed, uncompressed) && lies_between(sizes.compressed, compressed)
 }
 
+#[inline(always)]
 fn lies_between(bounds: Bounds, length: usize) -> bool
     ensures { IsTrue result ↔ LiesBetween bounds length }
 {
