@@ -18,7 +18,8 @@ struct Known {
 }
 
 /// The acts so far, what each field begins with, and what is known of both its sides; how many places of the source are passed, how many bits of these the next
-/// act is to pass, and how many they are in all, as far as numbers tell it.
+/// act is to pass, and how many they are in all, as far as numbers tell it. Of the fields from the first new one on, to before the past one, a length may be
+/// known that isn't noted.
 #[derive(Drop)]
 pub(crate) struct Shortened<'a> {
     format: &'a Format,
@@ -29,6 +30,8 @@ pub(crate) struct Shortened<'a> {
     passed: usize,
     passes: usize,
     place: Option<usize>,
+    first_new: usize,
+    past_new: usize,
     acts: Items<Act>,
 }
 
@@ -47,6 +50,8 @@ impl<'a> Shortened<'a> {
             passed: 0,
             passes: 0,
             place: Some(0),
+            first_new: usize::MAX,
+            past_new: 0,
             acts: Items::new(alloc),
         })
     }
@@ -108,6 +113,10 @@ impl<'a> Shortened<'a> {
         };
         if field < sides.len() {
             sides[field] = known;
+        }
+        if known.count.is_some() && !known.is_given {
+            self.first_new = self.first_new.min(field);
+            self.past_new = self.past_new.max(field.saturating_add(1));
         }
     }
 
@@ -551,10 +560,12 @@ impl<'a> Shortened<'a> {
 
     /// Adds a step as it stands, before which each known length is noted.
     fn follow(&mut self, step: Step) -> Result<(), AllocError> {
-        for field in 0..self.format.fields.len() {
+        for field in self.first_new..self.past_new {
             self.note_length(field, Side::Uncompressed)?;
             self.note_length(field, Side::Compressed)?;
         }
+        self.first_new = usize::MAX;
+        self.past_new = 0;
         self.acts.push(Act::Follow(step))
     }
 
