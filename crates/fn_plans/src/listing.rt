@@ -36,7 +36,7 @@ pub fn listed_flags(alloc: Global, format: &Format) -> Result<Items<bool>, Alloc
 fn no_flags(alloc: Global, count: usize) -> Result<Items<bool>, AllocError>
     ensures { IfOk result (λ flags. flags ≡ replicate count false) }
 {
-    let mut flags = Items::new(alloc);
+    let mut flags = Items::from_vec(Vec::with_capacity(alloc, count)?);
     for _ in 0..count {
         flags.push(false)?;
     }
