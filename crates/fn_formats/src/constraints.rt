@@ -16,6 +16,9 @@ use fn_tree::{Item, Section};
 use sqlite_items::Items;
 use std::alloc::{AllocError, Global};
 
+/// For how many constraints a format has room at first, at most.
+const ROOM: usize = 64;
+
 /// The constraints of a format by their numbers, and the earliest fault in its statements. With a fault some are missing.
 #[derive(Drop)]
 pub struct Constraints {
@@ -37,8 +40,9 @@ pub(crate) fn format_constraints(
     ensures fault { IfOk result (λ c. c.fault ≡ earliest (spec.statement_fault scope.now) (spec.statements scope.now chosen.now sections.now own.now)) }
     ensures found { IfOk result (λ c. c.fault ≡ None → spec.AreNumbered scope.now (spec.statements scope.now chosen.now sections.now own.now) c.found) }
 {
+    let room = kept.fields.len().saturating_add(own.len()).min(ROOM);
     let mut all = Constraints {
-        found: Items::new(alloc),
+        found: Items::from_vec(Vec::with_capacity(alloc, room)?),
         fault: None,
     };
     add_group(alloc, scope, kept, Group::Header, sections, &mut all)?;

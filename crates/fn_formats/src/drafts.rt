@@ -1,7 +1,7 @@
 //! The parts of a format.
 
-ghost use Rattle.std.specs.Prelude.{◌≡◌, Some, IfOk, slice_get};
-ghost use Rattle.fn_sections.specs.Fields.{in_field_order};
+ghost use Rattle.std.specs.Prelude.{◌≡◌, Some, IfOk, map, slice_get};
+ghost use Rattle.fn_sections.specs.Fields.{in_field_order, place};
 ghost use Rattle.fn_sections.specs.Tables.{IsTable};
 ghost use Rattle.fn_formats.specs.Drafts as spec;
 ghost use Rattle.fn_formats.specs.Kept.{HasKept};
@@ -11,7 +11,7 @@ use crate::encodings::format_encodings;
 use crate::kept::Kept;
 use fn_bits::Bits;
 use fn_normal::{Constraint, Encoding, ProfileFault, Shared, Words, earlier};
-use fn_sections::{Mention, Table, encoded, encodings, listing, of_section};
+use fn_sections::{Mention, Table, encodings, listing, of_section, own_encodings};
 use fn_statements::Methods;
 use fn_terms::Scope;
 use fn_tree::Section;
@@ -65,7 +65,7 @@ pub(crate) fn draft_format<'t>(
     let own = of_section(alloc, text, number, section)?;
     let fields = format_fields(alloc, setting, kept, own.as_slice())?;
     let listing = listing(alloc, text, &fields, own.as_slice())?;
-    let chosen = choices(alloc, setting, own.as_slice(), fields.firsts.as_slice())?;
+    let chosen = choices(alloc, setting, &fields, own.as_slice(), listing.as_slice())?;
     let scope = Scope::new(
         text,
         setting.constants,
@@ -115,23 +115,25 @@ fn format_fields<'t>(
     kept.table.with(alloc, setting.text, own)
 }
 
-/// For each field the statement that encodes it. The section's own mentions are given.
-fn choices<'t>(
+/// For each field the statement that encodes it. The section's own mentions are given, and the places of their fields.
+fn choices(
     alloc: Global,
-    setting: &Setting<'_, 't>,
+    setting: &Setting<'_, '_>,
+    fields: &Table<'_>,
     own: &[Mention],
-    fields: &[Mention],
+    listing: &[usize],
 ) -> Result<Items<Option<Mention>>, AllocError>
-    ensures { IsTable setting.now.text.now (spec.base setting.now) setting.now.base.now → IsTable setting.now.text.now (spec.default setting.now) setting.now.default.now → IfOk result (λ all. all ≡ spec.chosen_by setting.now own.now fields.now) }
+    requires fields { IsTable setting.now.text.now (in_field_order setting.now.text.now setting.now.sections.now own.now) fields.now }
+    requires listing { listing.now ≡ map (place setting.now.text.now fields.now.words) own.now }
+    ensures { IsTable setting.now.text.now (spec.base setting.now) setting.now.base.now → IsTable setting.now.text.now (spec.default setting.now) setting.now.default.now → IfOk result (λ all. all ≡ spec.chosen_by setting.now own.now fields.now.firsts) }
 {
-    let own = encoded(alloc, own)?;
-    let own = Table::of(alloc, setting.text, own.as_slice())?;
+    let own = own_encodings(alloc, setting.text, fields, own, listing)?;
     encodings(
         alloc,
         setting.text,
         setting.base,
-        &own,
+        own.as_slice(),
         setting.default,
-        fields,
+        fields.firsts.as_slice(),
     )
 }

@@ -1,8 +1,8 @@
 //! The fields of a format.
 
-ghost use Rattle.std.specs.Prelude.{◌≡◌, IfOk, IfSome, get_or, slice_get};
+ghost use Rattle.std.specs.Prelude.{◌≡◌, IfOk, IfSome, IsTrue, get_or, slice_get};
 ghost use Rattle.std.specs.List.{AllByRecursion};
-ghost use Rattle.fn_normal.specs.Words.{word as words};
+ghost use Rattle.fn_normal.specs.Words.{word as words, is_name as is_word};
 ghost use Rattle.fn_formats.specs.Fields as spec;
 ghost use Rattle.fn_formats.specs.Kept as keeping;
 ghost use Rattle.fn_formats.specs.Worded.{IsNamed, AreMentionsWorded};
@@ -10,7 +10,7 @@ ghost use Rattle.fn_formats.specs.Worded.{IsNamed, AreMentionsWorded};
 use crate::drafts::Setting;
 use crate::kept::KeptField;
 use fn_bits::Bits;
-use fn_normal::{Declared, Encoding, Field, Name, Part, Shared, Words, word};
+use fn_normal::{Declared, Encoding, Field, Name, Part, Shared, Words, same, word};
 use fn_sections::Mention;
 use fn_tree::{Section, SectionKind};
 use sqlite_items::Items;
@@ -84,11 +84,12 @@ fn field_of(
     })
 }
 
-/// The fields of a format with their encodings, in field order. What is kept of a field is shared.
+/// The fields of a format with their encodings, in field order. What is kept of a field is shared, and so are names with the format before.
 pub(crate) fn joined_fields(
     alloc: Global,
     setting: &Setting<'_, '_>,
     kept: &[KeptField],
+    before: &[Field],
     mentions: &[Mention],
     encodings: &[Shared<Encoding>],
 ) -> Result<Items<Field>, AllocError>
@@ -99,7 +100,7 @@ pub(crate) fn joined_fields(
     let mut all = Items::from_vec(Vec::with_capacity(alloc, mentions.len())?);
     for (place, mention) in mentions.iter().enumerate() {
         let encoding = encoding_at(alloc, encodings, place)?;
-        all.push(field(alloc, setting, kept, place, *mention, encoding)?)?;
+        all.push(field(alloc, setting, kept, before, place, *mention, encoding)?)?;
     }
     Ok(all)
 }
@@ -122,6 +123,7 @@ fn field(
     alloc: Global,
     setting: &Setting<'_, '_>,
     kept: &[KeptField],
+    before: &[Field],
     place: usize,
     mention: Mention,
     encoding: Shared<Encoding>,
@@ -134,7 +136,7 @@ fn field(
         mention: _,
         declared,
         initial,
-    } = known_field(alloc, setting, kept, place, mention)?;
+    } = known_field(alloc, setting, kept, before, place, mention)?;
     Ok(Field {
         declared,
         encoding,
@@ -147,6 +149,7 @@ fn known_field(
     alloc: Global,
     setting: &Setting<'_, '_>,
     kept: &[KeptField],
+    before: &[Field],
     place: usize,
     mention: Mention,
 ) -> Result<KeptField, AllocError>
@@ -159,8 +162,26 @@ fn known_field(
             return shared_field(alloc, field);
         }
     }
-    let name = Name::of_octets(alloc, word(setting.text, mention.name))?;
+    let name = shared_name(alloc, before, place, word(setting.text, mention.name))?;
     field_of(alloc, setting, mention, name)
+}
+
+/// The name of these octets, which are one. It is shared with the format before where that has it at the same place.
+fn shared_name(
+    alloc: Global,
+    before: &[Field],
+    place: usize,
+    octets: &[u8],
+) -> Result<Name, AllocError>
+    requires { IsTrue (is_word octets.now) }
+    ensures { IfOk result (λ name. name ≡ octets.now) }
+{
+    if let Some(field) = before.get(place) {
+        if same(field.declared.name.as_str().as_bytes(), octets) {
+            return field.declared.name.share();
+        }
+    }
+    Name::of_octets(alloc, octets)
 }
 
 /// The same field, whose name is shared.

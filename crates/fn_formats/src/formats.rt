@@ -12,7 +12,7 @@ ghost use Rattle.fn_formats.specs.Worded as worded;
 use crate::drafts::{Setting, draft_format};
 use crate::fields::joined_fields;
 use crate::kept::Kept;
-use fn_normal::{Format, Name, ProfileFault, Shared, word};
+use fn_normal::{Field, Format, Name, ProfileFault, Shared, word};
 use fn_source::Span;
 use fn_tree::{Section, SectionKind};
 use std::alloc::{AllocError, Global};
@@ -24,11 +24,13 @@ pub struct Resolved {
     pub fault: Option<ProfileFault>,
 }
 
-/// The format of a COMPRESSED section, which is the method's section of this number. It shares what is kept of UNCOMPRESSED, CONTROL and DEFAULT.
+/// The format of a COMPRESSED section, which is the method's section of this number. It shares what is kept of UNCOMPRESSED, CONTROL and DEFAULT,
+/// and names with the fields of the format before.
 pub fn section_format<'t>(
     alloc: Global,
     setting: &Setting<'_, 't>,
     kept: &Kept<'t>,
+    before: &[Field],
     number: usize,
     section: &Section,
 ) -> Result<Resolved, AllocError>
@@ -44,6 +46,7 @@ pub fn section_format<'t>(
         alloc,
         setting,
         kept.fields.as_slice(),
+        before,
         draft.fields.firsts.as_slice(),
         draft.encodings.as_slice(),
     )?;

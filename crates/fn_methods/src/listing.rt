@@ -10,7 +10,7 @@ ghost use Rattle.fn_formats.specs.Worded.{AreSectionsWorded, SectionIsWorded};
 ghost use Rattle.fn_methods.specs.Listing as spec;
 
 use fn_formats::{Kept, Setting, section_format};
-use fn_normal::{Format, ProfileFault, earlier};
+use fn_normal::{Field, Format, ProfileFault, earlier};
 use fn_sections::Group;
 use fn_sections::mention::is_in;
 use fn_tree::Section;
@@ -59,9 +59,18 @@ fn add_section<'t>(
     ensures { IsTable setting.now.text.now (drafts.base setting.now) setting.now.base.now → IsTable setting.now.text.now (drafts.default setting.now) setting.now.default.now → OnOk result ((rest : List GivenSection) → spec.Leads setting.now place (section.now ∷ rest) all.old → spec.Leads setting.now (place + 1) rest all.new) }
 {
     if is_in(Group::Formats, section.kind) {
-        let resolved = section_format(alloc, setting, kept, place, section)?;
+        let before = last_fields(all.found.as_slice());
+        let resolved = section_format(alloc, setting, kept, before, place, section)?;
         all.found.push(resolved.format)?;
         all.fault = earlier(all.fault, resolved.fault);
     }
     Ok(())
+}
+
+/// The fields of the last of these formats.
+fn last_fields(formats: &[Format]) -> &[Field] {
+    match formats {
+        [.., last] => last.fields.as_slice(),
+        [] => &[],
+    }
 }

@@ -1,6 +1,11 @@
 -- Of several faults the earliest is answered: where none is answered none has a cause, and what is answered has one.
 use Rattle.std.proofs.Common.{◌≡◌, ◌∙◌, ap, ℕ, ◌<◌, ◌⊎◌, inl, inr, List, [], ◌∷◌, fold, map, ◌++◌, get_or, drop, ◌+◌, refl, sym, suc, zero, length, Some, None, Option, arith, subst}
+use Rattle.std.specs.Prelude.{option_and_then, option_map, position, slice_get}
+use Rattle.std.specs.Str.{bytes_eq}
 use Rattle.std.proofs.lemmas.List.{append_assoc}
+use Rattle.fn_normal.specs.declared.fault.ProfileFaultKind.TheVariants as kinds
+use Rattle.fn_normal.specs.Faults.{about}
+use Rattle.fn_normal.specs.Words.{word}
 use Rattle.fn_normal.specs.declared.fault.ProfileFault.{ProfileFault}
 use Rattle.fn_normal.specs.Judging.{earlier}
 use Rattle.fn_normal.proofs.JudgingLemmas.{which, neither}
@@ -8,7 +13,7 @@ use Rattle.fn_sections.specs.declared.mention.Mention.{Mention}
 use Rattle.fn_sections.specs.declared.table.Table.{Table}
 use Rattle.fn_sections.specs.Mentions.{first_of}
 use Rattle.fn_sections.specs.Tables.{IsTable, find_in}
-use Rattle.fn_sections.specs.Causes.{Answers, earliest, IsOneOf, is_one_of}
+use Rattle.fn_sections.specs.Causes.{Answers, earliest, IsOneOf, is_one_of, encoded_before, later}
 
 -- the same causes in other words
 pub answers_as : {C D : ProfileFault → Type 0} {o : Option ProfileFault} → ((f : ProfileFault) → D f → C f) → ((f : ProfileFault) → C f → D f) → Answers D o → Answers C o
@@ -92,3 +97,17 @@ one_answers g xs look real o same is = subst (Answers (IsOneOf (g real) xs)) (sy
 -- two answers whose causes are those of a third
 pub answers_join : {C D E : ProfileFault → Type 0} {a b o : Option ProfileFault} → ((f : ProfileFault) → C f ⊎ D f → E f) → ((f : ProfileFault) → E f → C f ⊎ D f) → Answers C a → Answers D b → o ≡ earlier a b → Answers E o
 answers_join {E = E} to from j k is = subst (Answers E) (sym is) (answers_as to from (answers_both j k))
+
+-- an empty table has an encoding of no name
+pub none_before : (text : List ℕ) (table : Table) (mentions : List Mention) → table.firsts ≡ [] → None ≡ earliest (encoded_before text (find_in table)) mentions
+none_before text table mentions empty = by mentions
+  where
+    look : (o : Option ℕ) → option_and_then (slice_get table.firsts) o ≡ None
+    look None = refl
+    look (Some k) = ap (λ xs. slice_get xs k) empty
+
+    by : (ms : List Mention) → None ≡ earliest (encoded_before text (find_in table)) ms
+    by [] = refl
+    by (m ∷ ms) =
+        by ms ∙ sym (ap (λ o. fold (λ found x. earlier found (encoded_before text (find_in table) x)) (earlier None (option_map (λ s. about kinds.SecondEncoding (later s.name m.name)) o)) ms)
+        (look (position (bytes_eq (word text m.name)) table.words)))

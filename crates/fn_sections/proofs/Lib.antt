@@ -5,3 +5,5 @@ pub mod CausesFolding
 pub mod Naming
 pub mod NamesWhole
 pub mod MentionsPointing
+pub mod FieldsOwned
+pub mod SecondsApart

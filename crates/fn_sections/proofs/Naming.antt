@@ -1,5 +1,5 @@
 -- The causes of a method's faults, as sums.
-use Rattle.std.proofs.Common.{◌≡◌, ◌∙◌, ℕ, ◌<◌, ◌≤◌, ◌+◌, ◌⊎◌, inl, inr, Bool, true, false, cond, List, [], map, refl, sym, Some, None, Option, arith, subst, length}
+use Rattle.std.proofs.Common.{◌≡◌, ◌∙◌, ap, ℕ, ◌<◌, ◌≤◌, ◌+◌, ◌⊎◌, inl, inr, Bool, true, false, cond, List, [], map, refl, sym, Some, None, Option, arith, subst, length}
 use Rattle.std.specs.Prelude.{slice_get, is_some}
 use Rattle.std.specs.Option.{option_or}
 use Rattle.std.proofs.lemmas.Option.{slice_get_within}
@@ -57,6 +57,13 @@ encodings_judged text lists table is formats defaults joined =
     cases f (in_default_too y) = inr y
 
 -- both look-ups find nothing for a name in DEFAULT
+pub defaults_among : (text : List ℕ) (lists : Lists) (base : Table) {o : Option ProfileFault} → IsTable text lists.base base
+    → o ≡ earliest (unknown text (look_in (find_in base) (first_of text lists.formats))) lists.default
+    → Answers (IsOneOf (unknown text (look_in (first_of text lists.base) (first_of text lists.formats))) lists.default) o
+defaults_among text lists base base_is is =
+    one_answers (unknown text) lists.default (look_in (find_in base) (first_of text lists.formats)) (look_in (first_of text lists.base) (first_of text lists.formats)) _
+    (ap (λ look. look_in look (first_of text lists.formats)) (finds text lists.base base base_is)) is
+
 pub defaults_judged : (text : List ℕ) (lists : Lists) (base formats : Table) {o : Option ProfileFault} → IsTable text lists.base base → IsTable text lists.formats formats
     → o ≡ earliest (unknown text (look_in (find_in base) (find_in formats))) lists.default → Answers (IsOneOf (unknown text (look_in (first_of text lists.base) (first_of text lists.formats))) lists.default) o
 defaults_judged text lists base formats base_is formats_are defaults =

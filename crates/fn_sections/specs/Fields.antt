@@ -1,5 +1,5 @@
 -- The fields of a format, in order, and what each is encoded by.
-use Rattle.std.specs.Prelude.{◌≡◌, ◌++◌, ℕ, List, Option, Some, None, length, position, unwrap_or, slice_get, option_and_then}
+use Rattle.std.specs.Prelude.{◌≡◌, ◌++◌, ℕ, zero, suc, List, [], ◌∷◌, Option, Some, None, length, position, unwrap_or, get_or, drop, slice_get, option_and_then, if◌then◌else◌}
 use Rattle.std.specs.Option.{option_or}
 use Rattle.std.specs.Str.{bytes_eq}
 use Rattle.fn_tree.specs.declared.tree.Encoding.{Encoding}
@@ -10,7 +10,7 @@ use Rattle.fn_normal.specs.Words.{word}
 use Rattle.fn_sections.specs.declared.mention.Mention.{Mention}
 use Rattle.fn_sections.specs.declared.mention.Group.{Group}
 use Rattle.fn_sections.specs.declared.mention.Group.TheVariants as groups
-use Rattle.fn_sections.specs.Mentions.{mentions_in, mention_of}
+use Rattle.fn_sections.specs.Mentions.{mentions_in, mention_of, first_of, encoded}
 
 -- the mentions in UNCOMPRESSED, in CONTROL and in the format
 abbrev pub in_field_order : List ℕ → List Section → List Mention → List Mention
@@ -23,6 +23,25 @@ place text names m = unwrap_or (position (bytes_eq (word text m.name)) names) (l
 -- the one encoding of a field
 abbrev pub encoding : List ℕ → (List ℕ → Option Mention) → (List ℕ → Option Mention) → (List ℕ → Option Mention) → Mention → Option Mention
 encoding text base own default m = option_or (option_or (base (word text m.name)) (own (word text m.name))) (default (word text m.name))
+
+-- for fields and the encodings that their format gives them, side by side
+abbrev pub encodings_by : List ℕ → (List ℕ → Option Mention) → (List ℕ → Option Mention) → List Mention → List (Option Mention) → List (Option Mention)
+encodings_by text base default [] os = []
+encodings_by text base default (f ∷ fs) os = encoding text base (λ name. get_or os 0 None) default f ∷ encodings_by text base default fs (drop 1 os)
+
+-- the encoding that a format with these mentions gives a field
+abbrev pub own_encoding : List ℕ → List Mention → Mention → Option Mention
+own_encoding text own f = first_of text (encoded own) (word text f.name)
+
+-- a mention at a place where none is
+abbrev pub with_first : List (Option Mention) → ℕ → Mention → List (Option Mention)
+with_first [] k m = []
+with_first (o ∷ os) zero m = option_or o (Some m) ∷ os
+with_first (o ∷ os) (suc k) m = o ∷ with_first os k m
+
+-- one mention more, in the order of the text
+abbrev pub with_own : List ℕ → List (List ℕ) → List (Option Mention) → Mention → List (Option Mention)
+with_own text names found m = if m.is_encoded then with_first found (place text names m) m else found
 
 abbrev pub encoding_of : Item → Option Encoding
 encoding_of (items.Bound b) = Some b.encoding

@@ -1,8 +1,8 @@
 //! The fields of a format, in order, and what each is encoded by.
 
-ghost use Rattle.std.specs.Prelude.{◌≡◌, ◌++◌, IfOk, OnOk, map, List};
+ghost use Rattle.std.specs.Prelude.{◌≡◌, ◌++◌, None, IfOk, OnOk, map, get_or, replicate, List};
 ghost use Rattle.std.specs.Option.{option_copied};
-ghost use Rattle.fn_sections.specs.Mentions.{first_of, mentions_in, mentions_of};
+ghost use Rattle.fn_sections.specs.Mentions.{encoded, first_of, mentions_in, mentions_of};
 ghost use Rattle.fn_sections.specs.Tables.{IsTable, find_in};
 ghost use Rattle.fn_sections.specs.Fields as spec;
 
@@ -86,19 +86,65 @@ pub fn listing(
     Ok(places)
 }
 
+/// Puts a mention at the place of its field, unless one is there.
+fn keep_first(found: &mut Items<Option<Mention>>, place: usize, mention: Mention)
+    ensures { found.new ≡ spec.with_first found.old place mention }
+{
+    match found.get(place) {
+        Some(None) => found.set(place, Some(mention)),
+        Some(Some(_)) => {}
+        None => {}
+    }
+}
+
+fn nothing_yet(alloc: Global, count: usize) -> Result<Items<Option<Mention>>, AllocError>
+    ensures { IfOk result (λ found. found ≡ replicate count None) }
+{
+    Ok(Items::from_vec(vec![in alloc; None; count]?))
+}
+
+/// For each field of a format the first of the format's mentions that encodes it. The places are those of the mentions' fields.
+pub fn own_encodings(
+    alloc: Global,
+    text: &[u8],
+    fields: &Table<'_>,
+    own: &[Mention],
+    places: &[usize],
+) -> Result<Items<Option<Mention>>, AllocError>
+    requires { places.now ≡ map (spec.place text.now fields.now.words) own.now }
+    ensures { (all : List Mention) → IsTable text.now all fields.now → IfOk result (λ found. found ≡ map (spec.own_encoding text.now own.now) fields.now.firsts) }
+{
+    let mut found = nothing_yet(alloc, fields.firsts.len())?;
+    for (k, mention) in own.iter().enumerate() {
+        if mention.is_encoded {
+            keep_first(&mut found, places[k], *mention);
+        }
+    }
+    Ok(found)
+}
+
+fn choice_at(choices: &[Option<Mention>], place: usize) -> Option<Mention>
+    ensures { result ≡ get_or choices.now place None }
+{
+    match choices.get(place) {
+        Some(choice) => *choice,
+        None => None,
+    }
+}
+
 fn encoding(
     text: &[u8],
     base: &Table<'_>,
-    own: &Table<'_>,
+    own: Option<Mention>,
     default: &Table<'_>,
     field: Mention,
 ) -> Option<Mention>
-    ensures { result ≡ spec.encoding text.now (find_in base.now) (find_in own.now) (find_in default.now) field }
+    ensures { result ≡ spec.encoding text.now (find_in base.now) (λ name. own) (find_in default.now) field }
 {
     let name = word(text, field.name);
     match base.find(name) {
         Some(found) => Some(found),
-        None => match own.find(name) {
+        None => match own {
             Some(found) => Some(found),
             None => default.find(name),
         },
@@ -109,29 +155,31 @@ fn find_all(
     alloc: Global,
     text: &[u8],
     base: &Table<'_>,
-    own: &Table<'_>,
+    own: &[Option<Mention>],
     default: &Table<'_>,
     fields: &[Mention],
 ) -> Result<Items<Option<Mention>>, AllocError>
-    ensures { IfOk result (λ all. all ≡ map (spec.encoding text.now (find_in base.now) (find_in own.now) (find_in default.now)) fields.now) }
+    ensures { IfOk result (λ all. all ≡ spec.encodings_by text.now (find_in base.now) (find_in default.now) fields.now own.now) }
 {
     let mut all = Items::from_vec(Vec::with_capacity(alloc, fields.len())?);
-    for field in fields {
+    for (place, field) in fields.iter().enumerate() {
+        let own = choice_at(own, place);
         all.push(encoding(text, base, own, default, *field))?;
     }
     Ok(all)
 }
 
 /// For each field of a format the mention that encodes it: in UNCOMPRESSED or CONTROL, else in the format, else in DEFAULT. The tables are those of the encoded mentions there.
+/// Of the format for each field that mention is given.
 pub fn encodings(
     alloc: Global,
     text: &[u8],
     base: &Table<'_>,
-    own: &Table<'_>,
+    own: &[Option<Mention>],
     default: &Table<'_>,
     fields: &[Mention],
 ) -> Result<Items<Option<Mention>>, AllocError>
-    ensures { (of_base of_own of_default : List Mention) → IsTable text.now of_base base.now → IsTable text.now of_own own.now → IsTable text.now of_default default.now → IfOk result (λ all. all ≡ map (spec.encoding text.now (first_of text.now of_base) (first_of text.now of_own) (first_of text.now of_default)) fields.now) }
+    ensures { (of_base of_own of_default : List Mention) → IsTable text.now of_base base.now → own.now ≡ map (spec.own_encoding text.now of_own) fields.now → IsTable text.now of_default default.now → IfOk result (λ all. all ≡ map (spec.encoding text.now (first_of text.now of_base) (first_of text.now (encoded of_own)) (first_of text.now of_default)) fields.now) }
 {
     find_all(alloc, text, base, own, default, fields)
 }

@@ -1,7 +1,7 @@
 //! The names and sections of one method: what stands twice, what is missing, and what each field is encoded by.
 #![tactic(auto)]
 
-pub use fields::{encoding_at, encodings, in_order, listing, mentions_point};
+pub use fields::{encoding_at, encodings, in_order, listing, mentions_point, own_encodings};
 pub use mention::{Group, Mention, encoded, mentions, of_section};
 pub use names::judge;
 pub use table::Table;

@@ -2,10 +2,12 @@
 
 ghost use Rattle.std.specs.Prelude.{◌≡◌};
 ghost use Rattle.fn_sections.specs.Causes as spec;
+ghost use Rattle.fn_sections.specs.Mentions.{first_of};
 ghost use Rattle.fn_sections.specs.Tables.{find_in};
 
 use crate::judging::later;
 use crate::mention::Mention;
+use crate::repeats::first_among;
 use crate::table::Table;
 use fn_normal::{ProfileFault, ProfileFaultKind, earlier, word};
 
@@ -56,6 +58,9 @@ pub(crate) fn all_encoded_before(
 ) -> Option<ProfileFault>
     ensures { result ≡ spec.earliest (spec.encoded_before text.now (find_in table.now)) mentions.now }
 {
+    if table.firsts.is_empty() {
+        return None;
+    }
     let mut found = None;
     for mention in mentions {
         found = earlier(found, encoded_before(text, table, *mention));
@@ -93,6 +98,38 @@ pub(crate) fn all_not_found(
     for mention in mentions {
         let next = not_found(text, table, more, ProfileFaultKind::UnknownName, *mention);
         found = earlier(found, next);
+    }
+    found
+}
+
+fn not_among(
+    text: &[u8],
+    table: &Table<'_>,
+    more: &[Mention],
+    mention: Mention,
+) -> Option<ProfileFault>
+    ensures { result ≡ spec.unknown text.now (spec.look_in (find_in table.now) (first_of text.now more.now)) mention }
+{
+    let name = word(text, mention.name);
+    if table.find(name).is_some() || first_among(text, more, name).is_some() {
+        None
+    } else {
+        Some(ProfileFault::about(ProfileFaultKind::UnknownName, mention.name))
+    }
+}
+
+/// The first fault of names that are neither in the table nor among the other mentions, which are looked at one by one.
+pub(crate) fn all_not_among(
+    text: &[u8],
+    table: &Table<'_>,
+    more: &[Mention],
+    mentions: &[Mention],
+) -> Option<ProfileFault>
+    ensures { result ≡ spec.earliest (spec.unknown text.now (spec.look_in (find_in table.now) (first_of text.now more.now))) mentions.now }
+{
+    let mut found = None;
+    for mention in mentions {
+        found = earlier(found, not_among(text, table, more, *mention));
     }
     found
 }

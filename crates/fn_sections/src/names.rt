@@ -8,10 +8,11 @@ ghost use Rattle.fn_sections.specs.Causes.{Answers, IsOneOf, IsSecond, look_in, 
 ghost use Rattle.fn_sections.specs.Names as spec;
 
 use crate::lookups::{
-    all_defined_before, all_encoded_before, all_not_encoded, all_not_found, all_not_kept,
+    all_defined_before, all_encoded_before, all_not_among, all_not_encoded, all_not_found,
+    all_not_kept,
 };
 use crate::mention::{Group, Mention, all_listed, encoded, is_in, listed, mentions, of_section};
-use crate::repeats::second;
+use crate::repeats::{FEW, second};
 use crate::sections::incomplete;
 use crate::table::Table;
 use fn_normal::{ProfileFault, earlier};
@@ -117,7 +118,7 @@ fn judge_defaults(
     }
 }
 
-/// The same by a table of what the formats mention.
+/// The same by what the formats mention. Few names are looked for one by one, others in a table.
 fn judge_defaults_among(
     alloc: Global,
     text: &[u8],
@@ -126,8 +127,13 @@ fn judge_defaults_among(
 ) -> Result<Option<ProfileFault>, AllocError>
     ensures { IsTable text.now lists.now.base base.now → IfOk result (Answers (IsOneOf (unknown text.now (look_in (first_of text.now lists.now.base) (first_of text.now lists.now.formats))) lists.now.default)) }
 {
+    let defaults = lists.default.as_slice();
+    if defaults.len() <= FEW {
+        let formats = lists.formats.as_slice();
+        return Ok(all_not_among(text, base, formats, defaults));
+    }
     let formats = Table::of(alloc, text, lists.formats.as_slice())?;
-    Ok(all_not_found(text, base, &formats, lists.default.as_slice()))
+    Ok(all_not_found(text, base, &formats, defaults))
 }
 
 /// A name that must be a header or control field, or a listed one, and isn't. The table is that of the header and control fields.

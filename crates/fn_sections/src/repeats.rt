@@ -1,6 +1,6 @@
 //! Names that are given twice.
 
-ghost use Rattle.std.specs.Prelude.{◌≡◌, IfOk};
+ghost use Rattle.std.specs.Prelude.{◌≡◌, ◌<◌, None, IsTrue, IfOk};
 ghost use Rattle.fn_sections.specs.Causes as spec;
 ghost use Rattle.fn_sections.specs.Mentions.{first_of};
 
@@ -11,7 +11,10 @@ use fn_normal::{ProfileFault, same, word};
 use std::alloc::{AllocError, Global};
 
 /// How many mentions are compared with each other rather than put into a table.
-const FEW: usize = 16;
+pub(crate) const FEW: usize = 16;
+
+/// How many numbers there are for names that are looked at.
+const MARKS: usize = 2_000;
 
 /// The first mention of a name that an earlier one has.
 pub(crate) fn second(
@@ -24,11 +27,14 @@ pub(crate) fn second(
     if mentions.len() <= FEW {
         return Ok(second_of_few(text, mentions));
     }
+    if are_apart(text, mentions) {
+        return Ok(None);
+    }
     second_of_many(alloc, text, mentions)
 }
 
 /// The first of these mentions with the name.
-fn first_among(text: &[u8], mentions: &[Mention], name: &[u8]) -> Option<Mention>
+pub(crate) fn first_among(text: &[u8], mentions: &[Mention], name: &[u8]) -> Option<Mention>
     ensures { result ≡ first_of text.now mentions.now name.now }
 {
     for mention in mentions {
@@ -50,6 +56,33 @@ fn second_of_few(text: &[u8], mentions: &[Mention]) -> Option<ProfileFault>
         }
     }
     None
+}
+
+/// A number for a name, by its octets.
+fn mark_of(name: &[u8]) -> usize
+    ensures value { result ≡ spec.mark_of name.now }
+    ensures within { result < 2000 }
+{
+    let mut mark = 0;
+    for octet in name {
+        mark = (mark * 31 + *octet as usize) % MARKS;
+    }
+    mark
+}
+
+/// Whether the names are seen to differ at a glance: each has a number of its own.
+fn are_apart(text: &[u8], mentions: &[Mention]) -> bool
+    ensures { IsTrue result → spec.Answers (spec.IsSecond text.now mentions.now) None }
+{
+    let mut seen = [false; MARKS];
+    for mention in mentions {
+        let mark = mark_of(word(text, mention.name));
+        if seen[mark] {
+            return false;
+        }
+        seen[mark] = true;
+    }
+    true
 }
 
 /// The same by a table.

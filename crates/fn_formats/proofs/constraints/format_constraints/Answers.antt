@@ -1,4 +1,4 @@
-use Rattle.std.proofs.Common.{[], map, refl}
+use Rattle.std.proofs.Common.{◌∙◌, [], map, refl}
 use Rattle.fn_expr.specs.declared.expr.Side.TheVariants.{Uncompressed, Compressed}
 use Rattle.fn_sections.specs.declared.mention.Group.TheVariants.{Header, Control}
 use Rattle.fn_formats.specs.Constraints.{Leads, on, of_group, defaults_from, statements}
@@ -8,7 +8,7 @@ use Rattle.fn_formats.proofs.constraints.format_constraints.Goals as goal
 all_of : (c : goal.In_ok-add_items) → Leads c.args.scope.now [] (statements c.args.scope.now c.args.chosen.now c.args.sections.now c.args.own.now) c.add_items.new.all.found c.add_items.new.all.fault
 all_of c = joined
     (of_group Uncompressed Header c.args.sections.now) (of_group Uncompressed Control c.args.sections.now) (defaults_from c.args.scope.now c.args.chosen.now 0 c.args.sections.now) (map (on Compressed) c.args.own.now)
-    c.new.ensures refl c.in_ok-add_group.ensures c.in_ok-add_group-2.ensures c.in_ok-add_defaults.ensures c.in_ok-add_items.ensures
+    (c.from_vec.ensures ∙ c.in_ok-with_capacity.ensures.items) refl c.in_ok-add_group.ensures c.in_ok-add_group-2.ensures c.in_ok-add_defaults.ensures c.in_ok-add_items.ensures
 
 pub returns-clause-fault : goal.returns-clause-fault
 returns-clause-fault c = (all_of c).faults

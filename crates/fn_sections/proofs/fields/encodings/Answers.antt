@@ -1,10 +1,16 @@
-use Rattle.std.proofs.Common.{◌≡◌, map, IfOk, subst}
-use Rattle.fn_sections.specs.Fields.{encoding}
+use Rattle.std.proofs.Common.{◌≡◌, ◌∙◌, ap, map, IfOk, subst}
+use Rattle.fn_sections.specs.Mentions.{first_of, encoded}
+use Rattle.fn_sections.specs.Tables.{find_in}
+use Rattle.fn_sections.specs.Fields.{encoding, encodings_by}
 use Rattle.fn_sections.proofs.CausesFolding.{finds}
+use Rattle.fn_sections.proofs.FieldsOwned.{by_each}
 use Rattle.fn_sections.proofs.fields.encodings.Goals as goal
 
 pub returns : goal.returns
 returns c = λ base own default base_is own_is default_is.
-    subst (λ f. IfOk c.find_all.result (λ all. all ≡ map f c.args.fields.now))
-    (λ i. encoding c.args.text.now (finds c.args.text.now base c.args.base.now base_is i) (finds c.args.text.now own c.args.own.now own_is i) (finds c.args.text.now default c.args.default.now default_is i))
+    let text = c.args.text.now in
+    subst (λ es. IfOk c.find_all.result (λ all. all ≡ es))
+    (ap (encodings_by text (find_in c.args.base.now) (find_in c.args.default.now) c.args.fields.now) own_is
+    ∙ (by_each text (find_in c.args.base.now) (first_of text (encoded own)) (find_in c.args.default.now) c.args.fields.now
+    ∙ (λ i. map (encoding text (finds text base c.args.base.now base_is i) (first_of text (encoded own)) (finds text default c.args.default.now default_is i)) c.args.fields.now)))
     c.find_all.ensures
