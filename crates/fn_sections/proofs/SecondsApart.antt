@@ -7,7 +7,7 @@ use Rattle.std.proofs.lemmas.Slice.Eq.{bytes_eq-Decides}
 use Rattle.fn_normal.specs.Words.{word}
 use Rattle.fn_sections.specs.declared.mention.Mention.{Mention}
 use Rattle.fn_sections.specs.Mentions.{first_of}
-use Rattle.fn_sections.specs.Causes.{mark_of}
+use Rattle.fn_sections.specs.Marks.{mark_of}
 use Rattle.fn_sections.proofs.Tabled.{read_at}
 use Rattle.fn_sections.proofs.CausesSeconds.{NoneSecond, few_further}
 
@@ -73,13 +73,13 @@ marked_more text mentions i t seen before here within k u lt at = elim (cases_or
   ]
 ]
 
-pub free_at : (seen : List Bool) (mark : ℕ) (d : Bool) → length seen ≡ 2000 → mark < 2000 → get_or seen mark d ≡ false → slice_get seen mark ≡ Some false
+pub free_at : (seen : List Bool) (mark : ℕ) (d : Bool) → length seen ≡ 2039 → mark < 2039 → get_or seen mark d ≡ false → slice_get seen mark ≡ Some false
 free_at seen mark d long within free = read_at seen mark d (omega (arith, long, within)) ∙ ap Some free
 
 -- one name more
-pub apart_more : (text : List ℕ) (mentions : List Mention) (i : ℕ) (t : Mention) (seen : List Bool) (name : List ℕ) (mark : ℕ) → slice_get mentions i ≡ Some t → name ≡ word text t.name → mark ≡ mark_of name → mark < 2000
-    → slice_get seen mark ≡ Some false → AreMarked text mentions i seen × (length seen ≡ 2000) × NoneSecond text mentions i
-    → AreMarked text mentions (i + 1) (slice_set seen mark true) × (length (slice_set seen mark true) ≡ 2000) × NoneSecond text mentions (i + 1)
+pub apart_more : (text : List ℕ) (mentions : List Mention) (i : ℕ) (t : Mention) (seen : List Bool) (name : List ℕ) (mark : ℕ) → slice_get mentions i ≡ Some t → name ≡ word text t.name → mark ≡ mark_of name → mark < 2039
+    → slice_get seen mark ≡ Some false → AreMarked text mentions i seen × (length seen ≡ 2039) × NoneSecond text mentions i
+    → AreMarked text mentions (i + 1) (slice_set seen mark true) × (length (slice_set seen mark true) ≡ 2039) × NoneSecond text mentions (i + 1)
 apart_more text mentions i t seen name mark here name_is mark_is within free so =
     let long = so.1 in
     let place : mark_of (word text t.name) ≡ mark = ap mark_of (sym name_is) ∙ sym mark_is in

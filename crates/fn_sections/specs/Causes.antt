@@ -1,6 +1,6 @@
 -- What stands behind a fault of a method's names and sections.
 pub use Rattle.fn_normal.specs.Judging.{earliest}
-use Rattle.std.specs.Prelude.{◌≡◌, ◌&&◌, ◌+◌, ◌*◌, ◌%◌, ℕ, List, fold, slice_get, take, Option, Some, None, option_map, is_some, if◌then◌else◌, nat_lt, nat_eq}
+use Rattle.std.specs.Prelude.{◌≡◌, ◌&&◌, ℕ, List, slice_get, take, Option, Some, None, option_map, is_some, if◌then◌else◌, nat_lt, nat_eq}
 use Rattle.std.specs.Option.{option_or}
 use Rattle.fn_source.specs.declared.span.Span.{Span}
 use Rattle.fn_normal.specs.declared.fault.ProfileFault.{ProfileFault}
@@ -60,7 +60,3 @@ look_in look more name = option_or (look name) (more name)
 
 abbrev pub unknown : List ℕ → (List ℕ → Option Mention) → Mention → Option ProfileFault
 unknown text look m = not_found text look kinds.UnknownName m
-
--- a number for a name
-abbrev pub mark_of : List ℕ → ℕ
-mark_of name = fold (λ mark octet. (mark * 31 + octet) % 2000) 0 name

@@ -4,3 +4,4 @@ pub mod Causes
 pub mod Sections
 pub mod Names
 pub mod Fields
+pub mod Marks

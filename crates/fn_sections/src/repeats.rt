@@ -2,6 +2,7 @@
 
 ghost use Rattle.std.specs.Prelude.{◌≡◌, ◌<◌, None, IsTrue, IfOk};
 ghost use Rattle.fn_sections.specs.Causes as spec;
+ghost use Rattle.fn_sections.specs.Marks.{mark_of};
 ghost use Rattle.fn_sections.specs.Mentions.{first_of};
 
 use crate::judging::second_statement;
@@ -14,7 +15,7 @@ use std::alloc::{AllocError, Global};
 pub(crate) const FEW: usize = 16;
 
 /// How many numbers there are for names that are looked at.
-const MARKS: usize = 2_000;
+const MARKS: usize = 2_039;
 
 /// The first mention of a name that an earlier one has.
 pub(crate) fn second(
@@ -60,8 +61,8 @@ fn second_of_few(text: &[u8], mentions: &[Mention]) -> Option<ProfileFault>
 
 /// A number for a name, by its octets.
 fn mark_of(name: &[u8]) -> usize
-    ensures value { result ≡ spec.mark_of name.now }
-    ensures within { result < 2000 }
+    ensures value { result ≡ mark_of name.now }
+    ensures within { result < 2039 }
 {
     let mut mark = 0;
     for octet in name {
