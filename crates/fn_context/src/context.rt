@@ -148,10 +148,11 @@ impl Context {
     {
         let place = self.kept.len();
         let key = path.clone()?;
+        make_hints(self.kept.as_slice(), &mut self.hints)?;
         self.kept.reserve(1)?;
         self.places.insert(key, place)?;
+        self.hints.note(path.as_str(), place);
         self.kept.push_reserved((path, bits));
-        give_hint(self.kept.as_slice(), &mut self.hints);
         Ok(())
     }
 
@@ -259,22 +260,16 @@ fn is_at(kept: &[(String, Bits)], place: usize, path: &str) -> bool
     }
 }
 
-/// Gives a hint of where the last of the entries stands, if they are more than a few. Where there is no memory for more hints it is as well without.
-fn give_hint(kept: &[(String, Bits)], hints: &mut Hints) {
-    if kept.len() <= FEW {
-        return;
+/// Makes room for the hint of one entry more, where they are more than a few then.
+fn make_hints(kept: &[(String, Bits)], hints: &mut Hints) -> Result<(), AllocError> {
+    if kept.len() < FEW || hints.has_room(kept.len()) {
+        return Ok(());
     }
-    if hints.has_room(kept.len()) {
-        note(kept, kept.len() - 1, hints);
-    } else if hints.make_room(kept.len()).is_ok() {
-        for place in 0..kept.len() {
-            note(kept, place, hints);
+    hints.make_room(kept.len())?;
+    for place in 0..kept.len() {
+        if let Some((path, _)) = kept.get(place) {
+            hints.note(path.as_str(), place);
         }
     }
-}
-
-fn note(kept: &[(String, Bits)], place: usize, hints: &mut Hints) {
-    if let Some((path, _)) = kept.get(place) {
-        hints.note(path.as_str(), place);
-    }
+    Ok(())
 }

@@ -24,9 +24,9 @@ impl Hints {
         }
     }
 
-    /// Whether so many entries have sums enough.
+    /// Whether there are sums enough for one entry more than so many.
     pub(crate) fn has_room(&self, entries: usize) -> bool {
-        entries <= self.places.len() / SUMS
+        entries < self.places.len() / SUMS
     }
 
     /// Makes sums for twice so many entries. What was noted is forgotten.

@@ -12,19 +12,22 @@ use Rattle.fn_expr.specs.declared.expr.Operator.TheVariants.{Add, Subtract, Mult
 use Rattle.fn_expr.specs.declared.interval.Interval.{Interval}
 use Rattle.fn_expr.specs.declared.fault.RangeFault.{RangeFault}
 use Rattle.fn_expr.specs.Rules.{is_within, is_limited, rule, refuses, has_negative, up_to_size, greatest_size}
-use Rattle.fn_expr.specs.Ranged.{joined, both_ranged}
+use Rattle.fn_expr.specs.Ranged.{joined, both_ranged, ranged}
 use Rattle.fn_expr.proofs.RulesLimits.{is_within_by}
 use Rattle.fn_expr.proofs.RulesParts.{joined_ok, limited_ok}
 use Rattle.fn_expr.specs.declared.expr.Attribute.{Attribute}
 use Rattle.fn_expr.specs.declared.expr.Side.{Side}
 use Rattle.fn_expr.specs.declared.expr.Side.TheVariants.{Uncompressed, Compressed}
+use Rattle.fn_expr.specs.declared.expr.Expr.{Expr}
 use Rattle.fn_expr.specs.declared.expr.Expr.TheVariants as expr
 use Rattle.fn_expr.specs.Bounds.{side_intervals, interval_of}
 use Rattle.fn_normal.specs.declared.profile.Bounds.{Bounds}
 use Rattle.fn_normal.specs.declared.profile.Sizes.{Sizes}
 use Rattle.fn_normal.specs.declared.profile.FormatSizes.{FormatSizes}
 use Rattle.fn_bounds.specs.Ranging.{side_ranges, intervals_of}
-use Rattle.fn_bounds.specs.Faults.{side_bounds, is_wide_by, wide_value}
+use Rattle.fn_normal.specs.declared.profile.Format.{Format}
+use Rattle.fn_normal.specs.Judging.{earlier}
+use Rattle.fn_bounds.specs.Faults.{side_bounds, is_wide_by, wide_in, wide_value}
 use Rattle.fn_sizes.specs.Magnitude.{bounding, LiesUpTo, IsUpTo, HasRange, IsFound, IsNarrow, Combines, Reaches}
 
 size-of : (m : ℕ) (z : ℤ) → LiesUpTo m z → unsigned_abs z ≤ m
@@ -168,4 +171,17 @@ attribute-reaches o s parameters at t h =
       ranged =
           let up = k.up_to parameters in
           record { range = (bounding s parameters).attribute t; is = limited_ok at ((bounding s parameters).attribute t) (up-to-limited ((bounding s parameters).attribute t) m up); up_to = up };
+    })
+
+-- the same of two operands, where both reach so far
+pub binary-reaches : (o : Option ℕ) (s : FormatSizes) (parameters : List Interval) (at : Span) (op : Operator) (e x y : Expr) (l r : ℕ)
+    → ((format : Format) → wide_in format s e ≡ earlier (wide_in format s x) (wide_in format s y))
+    → ranged (bounding s parameters) e ≡ both_ranged (joined at op) (ranged (bounding s parameters) x) (ranged (bounding s parameters) y)
+    → Reaches s parameters x l → Reaches s parameters y r → IfSome o (Combines op l r) → IfSome o (Reaches s parameters e)
+binary-reaches o s parameters at op e x y l r wide is left right h =
+    IfSome_then o h (λ m k. record {
+      wide = λ format. wide format ∙ (λ i. earlier (left.wide format i) (right.wide format i));
+      ranged =
+          let joined = k.joins at (ranged (bounding s parameters) x) (ranged (bounding s parameters) y) left.ranged right.ranged in
+          record { range = joined.range; is = is ∙ joined.is; up_to = joined.up_to };
     })

@@ -5,7 +5,7 @@ ghost use Rattle.fn_bounds.specs.Constants.{constant};
 ghost use Rattle.fn_bounds.specs.Fields as spec;
 ghost use Rattle.fn_bounds.specs.Passes.{indexed, narrow, changed};
 
-use fn_bounds::constants::constant_of;
+use crate::constants::constant_of;
 use fn_expr::{Expr, Side};
 use fn_normal::{Bounds, Constraint, Encoding, Field, Format, Library, MethodSizes, Sizes};
 use sqlite_items::Items;

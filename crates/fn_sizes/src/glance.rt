@@ -8,7 +8,7 @@ ghost use Rattle.fn_bounds.specs.Ranging.{format_ranges};
 ghost use Rattle.fn_normal.specs.declared.profile.Format.{Format};
 ghost use Rattle.fn_normal.specs.Judging.{earlier};
 
-use crate::magnitude::reach;
+use crate::magnitude::{reach, reached};
 use fn_bounds::extent::Extent;
 use fn_expr::{Cond, Expr, Interval};
 use fn_normal::{Constraint, Encoding, Format, FormatSizes, Library};
@@ -16,7 +16,7 @@ use fn_normal::{Constraint, Encoding, Format, FormatSizes, Library};
 fn is_quiet(sizes: &FormatSizes, parameters: &[Interval], expr: &Expr) -> bool
     ensures { IsTrue result → (format : Format) → spec.judge sizes.now parameters.now format expr.now ≡ None }
 {
-    reach(sizes, parameters, expr).is_some()
+    reached(sizes, parameters, expr).is_some()
 }
 
 fn are_quiet(sizes: &FormatSizes, parameters: &[Interval], first: &Expr, second: &Expr) -> bool

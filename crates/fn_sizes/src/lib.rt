@@ -4,6 +4,7 @@
 pub use methods::sizes;
 
 mod callers;
+mod constants;
 mod fields;
 mod formats;
 mod glance;

@@ -1,9 +1,11 @@
 //! How far from 0 an expression may reach, where its range is seen to be within the limit at a glance.
 
-ghost use Rattle.std.specs.Prelude.{◌≡◌, ◌+◌, ◌*◌, ◌≤◌, ◌^◌, false, IfSome};
+ghost use Rattle.std.specs.Prelude.{◌≡◌, ◌+◌, ◌*◌, ◌≤◌, ◌^◌, false, List, IfSome};
 ghost use Rattle.fn_expr.specs.Bounds.{interval_of};
 ghost use Rattle.fn_bounds.specs.Faults.{is_wide_by};
 ghost use Rattle.fn_bounds.specs.Ranging.{intervals_of};
+ghost use Rattle.fn_expr.specs.declared.interval.Interval.{Interval};
+ghost use Rattle.fn_normal.specs.declared.profile.FormatSizes.{FormatSizes};
 ghost use Rattle.fn_sizes.specs.Magnitude as spec;
 
 use crate::judging::side_bounds;
@@ -118,6 +120,44 @@ fn power_reach(base: &Expr, exponent: &Expr) -> Option<u128>
     power(*base, *exponent)
 }
 
+fn small_sum(left: u64, right: u64) -> Option<u64>
+    ensures { IfSome result (λ m. (m ≡ left + right) × (m ≤ 2 ^ 120)) }
+{
+    left.checked_add(right)
+}
+
+fn small_product(left: u64, right: u64) -> Option<u64>
+    ensures { IfSome result (λ m. (m ≡ left * right) × (m ≤ 2 ^ 120)) }
+{
+    left.checked_mul(right)
+}
+
+fn small_combined(operator: Operator, left: u64, right: u64) -> Option<u64>
+    ensures { IfSome result (spec.Combines operator left right) }
+{
+    match operator {
+        Operator::Add => small_sum(left, right),
+        Operator::Subtract => small_sum(left, right),
+        Operator::Multiply => small_product(left, right),
+        Operator::Divide | Operator::Remainder | Operator::Power => None,
+    }
+}
+
+/// The same of a sum, a difference or a product of literals, as far as 64 bits tell it. It costs less, and most expressions are such.
+fn small_reach(expr: &Expr) -> Option<u64>
+    ensures { (sizes : FormatSizes) (parameters : List Interval) → IfSome result (spec.Reaches sizes parameters expr.now) }
+{
+    match expr {
+        Expr::Number(_, number) => u64::try_from(number.unsigned_abs()).ok(),
+        Expr::Parameter(_, _) | Expr::Attribute(_, _) => None,
+        Expr::Binary(_, operator, left, right) => {
+            let right = small_reach(right)?;
+            let left = small_reach(left)?;
+            small_combined(*operator, left, right)
+        }
+    }
+}
+
 /// How far from 0 the values of an expression may be, by its parts. None where that is not seen, or where it may have a fault.
 pub(crate) fn reach(sizes: &FormatSizes, parameters: &[Interval], expr: &Expr) -> Option<u128>
     ensures { IfSome result (spec.Reaches sizes.now parameters.now expr.now) }
@@ -134,5 +174,15 @@ pub(crate) fn reach(sizes: &FormatSizes, parameters: &[Interval], expr: &Expr) -
                 combined(*operator, left, right)
             }
         },
+    }
+}
+
+/// The same, looked for in 64 bits first.
+pub(crate) fn reached(sizes: &FormatSizes, parameters: &[Interval], expr: &Expr) -> Option<u128>
+    ensures { IfSome result (spec.Reaches sizes.now parameters.now expr.now) }
+{
+    match small_reach(expr) {
+        Some(size) => Some(size as u128),
+        None => reach(sizes, parameters, expr),
     }
 }

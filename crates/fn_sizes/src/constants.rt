@@ -1,0 +1,52 @@
+//! Constants of few digits, worked out in 64 bits. It costs less than in 128, and most constants are such.
+
+ghost use Rattle.std.specs.Prelude.{◌≡◌, true, IsTrue, IfSome};
+ghost use Rattle.fn_expr.specs.Rules.{is_within};
+ghost use Rattle.fn_bounds.specs.Constants as spec;
+
+use fn_bounds::constants;
+use fn_expr::{Expr, Operator};
+use std::alloc::Global;
+
+/// The value of a constant: an expression without attributes and parameters, which has a range and a value. It takes no memory.
+pub(crate) fn constant_of(alloc: Global, expr: &Expr) -> Option<i128>
+    ensures { result ≡ spec.constant expr.now }
+{
+    match small(expr) {
+        Some(value) => Some(value as i128),
+        None => constants::constant_of(alloc, expr),
+    }
+}
+
+/// The one value of a sum, a difference or a product of literals, where 64 bits hold it and all parts of it.
+fn small(expr: &Expr) -> Option<i64>
+    ensures { IfSome result (spec.IsExact expr.now) }
+{
+    match expr {
+        Expr::Number(_, number) => within(i64::try_from(*number).ok()?),
+        Expr::Parameter(_, _) | Expr::Attribute(_, _) => None,
+        Expr::Binary(_, operator, left, right) => {
+            let right = small(right)?;
+            let left = small(left)?;
+            calculated(*operator, left, right)
+        }
+    }
+}
+
+fn calculated(operator: Operator, left: i64, right: i64) -> Option<i64>
+    ensures { IfSome result (spec.Calculates operator left right) }
+{
+    match operator {
+        Operator::Add => within(left.checked_add(right)?),
+        Operator::Subtract => within(left.checked_sub(right)?),
+        Operator::Multiply => within(left.checked_mul(right)?),
+        Operator::Divide | Operator::Remainder | Operator::Power => None,
+    }
+}
+
+/// The number, which is within the limit of ranges.
+fn within(number: i64) -> Option<i64>
+    ensures { IfSome result (spec.IsWithin number) }
+{
+    Some(number)
+}
