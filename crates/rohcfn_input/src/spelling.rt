@@ -1,7 +1,7 @@
 //! The texts of bits and of items, at the end of what is printed.
 
-ghost use Rattle.std.specs.Prelude.{◌≡◌, ◌≤◌, ◌<◌, ◌*◌, ◌/◌, ◌%◌, ◌+◌, ◌-◌, ◌^◌, [], ◌∷◌, ◌++◌, take, length, OnOk, codes, decimal, slice_index, string_bytes};
-ghost use Rattle.hex.specs.Hex.{encode_lower, lower_digits};
+ghost use Rattle.std.specs.Prelude.{◌≡◌, ◌≤◌, ◌<◌, ◌*◌, ◌/◌, ◌+◌, ◌-◌, ◌^◌, [], ◌∷◌, ◌++◌, take, length, OnOk, codes, decimal, string_bytes};
+ghost use Rattle.hex.specs.Hex.{encode_lower};
 ghost use Rattle.fn_bits.specs.Number.{enc};
 ghost use Rattle.fn_bits.specs.Text.{IsText};
 ghost use Rattle.rohcfn_input.specs.ItemTexts.{AreValuesText, HasMore, IsItemText, IsValueText};
@@ -10,9 +10,6 @@ use fn_bits::{Bits, octets_of};
 use fn_filling::{AskedValue, Item};
 use itoa::Buffer;
 use std::alloc::{AllocError, Global};
-
-/// The sixteen hex digits.
-const DIGITS: &[u8; 16] = b"0123456789abcdef";
 
 /// Adds the text of bits, as `Bits::print_text` has it. That of at most 64 bits takes no allocation of its own.
 pub fn push_bits(alloc: Global, text: &mut String, bits: &Bits) -> Result<(), AllocError>
@@ -44,47 +41,35 @@ fn push_word(text: &mut String, count: usize, word: u64) -> Result<(), AllocErro
 {
     let octets = octets_of(word, count);
     let many = (count + 7) / 8;
-    push_count(text, count)?;
-    push_octets(text, &octets[..many])?;
+    let mut digits = [0u8; 16];
+    push_octets(text, count, &octets[..many], &mut digits[..2 * many])?;
     Ok(())
 }
 
-/// Adds a count and a colon.
+/// Adds a count, a colon and the hex digits of octets, for which there is room.
 #[inline(always)]
-fn push_count(text: &mut String, count: usize) -> Result<(), AllocError>
-    ensures { OnOk result (string_bytes text.new ≡ string_bytes text.old ++ decimal count ++ codes ":") }
+fn push_octets(
+    text: &mut String,
+    count: usize,
+    octets: &[u8],
+    room: &mut [u8],
+) -> Result<(), AllocError>
+    requires { length room.old ≡ 2 * length octets.now }
+    ensures { OnOk result (string_bytes text.new ≡ string_bytes text.old ++ decimal count ++ 58 ∷ encode_lower octets.now) }
+{
+    hex::encode_to_slice(octets, room).unwrap();
+    push_digits(text, count, str::from_utf8(room).unwrap())
+}
+
+/// Adds a count, a colon and digits.
+#[inline(always)]
+fn push_digits(text: &mut String, count: usize, digits: &str) -> Result<(), AllocError>
+    ensures { OnOk result (string_bytes text.new ≡ string_bytes text.old ++ decimal count ++ 58 ∷ digits.now) }
 {
     let mut buffer = Buffer::new();
     text.push_str(buffer.format(count))?;
-    text.push(':')
-}
-
-/// Adds the hex digits of octets.
-fn push_octets(text: &mut String, octets: &[u8]) -> Result<(), AllocError>
-    ensures { OnOk result (string_bytes text.new ≡ string_bytes text.old ++ encode_lower octets.now) }
-{
-    for octet in octets {
-        push_octet(text, *octet)?;
-    }
-    Ok(())
-}
-
-/// Adds the two hex digits of an octet.
-#[inline(always)]
-fn push_octet(text: &mut String, octet: u8) -> Result<(), AllocError>
-    ensures { OnOk result (string_bytes text.new ≡ string_bytes text.old ++ slice_index lower_digits (octet / 16) ∷ slice_index lower_digits (octet % 16) ∷ []) }
-{
-    text.push(digit(octet / 16))?;
-    text.push(digit(octet % 16))
-}
-
-/// The hex digit of a number.
-fn digit(number: u8) -> char
-    requires { number < 16 }
-    ensures is { result ≡ slice_index lower_digits number }
-    ensures ascii { result < 128 }
-{
-    char::from(DIGITS[usize::from(number)])
+    text.push(':')?;
+    text.push_str(digits)
 }
 
 /// Adds the text of an item: its header, then each value after a blank.

@@ -1,9 +1,11 @@
-use Rattle.std.proofs.Common.{refl}
-use Rattle.rohcfn_input.proofs.Spelled.{digits_end, digits_more}
+use Rattle.std.proofs.Common.{◌≡◌, sym, subst, List, ℕ}
+use Rattle.std.specs.Str.{IsUtf8}
+use Rattle.hex.specs.Hex.{encode_lower}
+use Rattle.fn_bits.proofs.Texts.{digits_text, is_read}
 use Rattle.rohcfn_input.proofs.spelling.push_octets.Goals as goal
 
-pub loop-octet-preserved : goal.loop-octet-preserved
-loop-octet-preserved c = digits_more c.args.octets.now c.loop-octet.octet-index _ _ _ _ c.loop-octet-test.true refl c.loop-octet.invariant c.in_ok-push_octet.ensures
-
-pub returns : goal.returns
-returns c = digits_end c.args.octets.now c.loop-octet.octet-index _ _ c.loop-octet-test.false c.loop-octet.invariant
+pub unwrap-requires-2 : goal.unwrap-requires-2
+unwrap-requires-2 c =
+    let written : c.encode_to_slice.new.output ≡ encode_lower c.args.octets.now = rw c.unwrap.ensures at c.encode_to_slice.ensures.written in
+    let P : List ℕ → Type 0 = λ x. IsUtf8 x in
+    is_read c.from_utf8.result c.encode_to_slice.new.output _ _ c.from_utf8.ensures.cases (subst P (sym written) (digits_text c.args.octets.now))
