@@ -118,7 +118,7 @@ def paths(program):
     return whole("pack --context --top t", profile) + b"=== context\n" + context.encode() + b"=== items\n8:01\n"
 
 
-# seconds and MiB at most: some three times what was measured
+# seconds and MiB at most: some three times what was measured, or a second
 BOUNDS = {waiting: (1, 36), operands: (1, 45), steps: (1, 45), encodings: (4, 350), brackets: (3, 730), conditions: (30, 60), paths: (1, 60)}
 
 
