@@ -1,5 +1,5 @@
 -- Tables of places.
-use Rattle.std.specs.Prelude.{◌≡◌, ℕ, ◌*◌, List, Some}
+use Rattle.std.specs.Prelude.{◌≡◌, ℕ, ◌*◌, ◌<◌, nat_lt, Bool, true, ◌&&◌, ◌==◌, not, List, length, get_or, Some}
 use Rattle.std.specs.List.{slice_get}
 use Rattle.fn_source.specs.Places.{line_of, column_of}
 use Rattle.fn_source.specs.declared.source.Position.{Position}
@@ -12,3 +12,10 @@ pub record IsPlace (octets : List ℕ) (offset : ℕ) (place : Position) : Type 
 -- each entry is the place of an octet, of every sixteenth
 abbrev pub AreKnown : List ℕ → List Position → Type 0
 AreKnown octets table = (k : ℕ) (place : Position) → slice_get table k ≡ Some place → IsPlace octets (k * 16) place
+
+-- an octet that is a character and ends no line
+abbrev pub is_plain : ℕ → Bool
+is_plain c = nat_lt c 128 && not (c == 10)
+
+abbrev pub ArePlain : List ℕ → Type 0
+ArePlain part = (j : ℕ) → j < length part → is_plain (get_or part j 0) ≡ true

@@ -1,8 +1,8 @@
 //! Where the octets of a text stand.
 
-ghost use Rattle.std.specs.Prelude.{◌≡◌, ◌≤◌, length, IfOk};
+ghost use Rattle.std.specs.Prelude.{◌≡◌, ◌≤◌, ◌+◌, length, IfOk, IsTrue};
 ghost use Rattle.fn_source.specs.Places.{begins_character, line_of, column_of};
-ghost use Rattle.fn_show.specs.Known.{IsPlace, AreKnown};
+ghost use Rattle.fn_show.specs.Known.{IsPlace, AreKnown, ArePlain, is_plain};
 
 use fn_source::{Position, line_column};
 use std::alloc::{AllocError, Global};
@@ -59,10 +59,46 @@ fn positions(alloc: Global, octets: &[u8]) -> Result<Vec<Position>, AllocError>
     let mut place = Position { line: 1, column: 1 };
     table.push(place)?;
     for k in 0..parts {
-        place = place_after(octets, k * 16, k * 16 + 16, place);
+        place = place_further(octets, k * 16, place);
         table.push(place)?;
     }
     Ok(table)
+}
+
+/// The place of the sixteenth octet after one, found from the place of that one. Most often it is on the same line.
+fn place_further(octets: &[u8], from: usize, place: Position) -> Position
+    requires within { from + 16 ≤ length octets.now }
+    requires here { IsPlace octets.now from place }
+    ensures { IsPlace octets.now (from + 16) result }
+{
+    if are_plain(&octets[from..from + 16]) {
+        Position {
+            line: place.line,
+            column: place.column + 16,
+        }
+    } else {
+        place_after(octets, from, from + 16, place)
+    }
+}
+
+/// Whether each octet is a character and ends no line. All are looked at, which takes less time than to stop at one.
+fn are_plain(part: &[u8]) -> bool
+    ensures { IsTrue result → ArePlain part.now }
+{
+    let mut others = false;
+    for octet in part {
+        if !is_plain(*octet) {
+            others = true;
+        }
+    }
+    !others
+}
+
+/// Whether the octet is a character and ends no line.
+fn is_plain(octet: u8) -> bool
+    ensures { result ≡ is_plain octet }
+{
+    octet < 128 && octet != b'\n'
 }
 
 /// The place of an octet, found from that of an octet before it.

@@ -8,9 +8,9 @@ loop-k-preserved c =
     let before = c.loop-k.invariant in
     let pushed = c.in_ok-push-2.ensures.items in
     let next : c.loop-k.k * 16 + 16 ≡ (c.loop-k.k + 1) * 16 = omega arith in
-    let here : IsPlace c.args.octets.now ((c.loop-k.k + 1) * 16) c.place_after-place.result = subst (λ (n : ℕ). IsPlace c.args.octets.now n c.place_after-place.result) next c.place_after-place.ensures in
+    let here : IsPlace c.args.octets.now ((c.loop-k.k + 1) * 16) c.place_further-place.result = subst (λ (n : ℕ). IsPlace c.args.octets.now n c.place_further-place.result) next c.place_further-place.ensures in
     record {
       here = here;
-      known = known_on c.args.octets.now c.loop-k.table.items _ (c.loop-k.k + 1) c.place_after-place.result before.known before.count here pushed;
+      known = known_on c.args.octets.now c.loop-k.table.items _ (c.loop-k.k + 1) c.place_further-place.result before.known before.count here pushed;
       count = count_on c.loop-k.table.items _ _ (c.loop-k.k + 1) before.count pushed;
     }
