@@ -1,5 +1,5 @@
 -- How expressions are read.
-use Rattle.std.specs.Prelude.{ℕ, zero, suc, Bool, ◌&&◌, true, false, Option, Some, None}
+use Rattle.std.specs.Prelude.{ℕ, zero, suc, ◌&&◌, true, false, Option, Some, None}
 use Rattle.fn_source.specs.declared.span.Span.{Span}
 use Rattle.fn_source.specs.declared.fault.FaultKind.TheVariants as f
 use Rattle.fn_source.specs.declared.token.Kind.{Kind}
@@ -81,12 +81,6 @@ leaf_by _ = refuse
 unfoldable pub leaf : Reader Expr
 leaf = peek >>= leaf_by
 
--- an operand of more than one part begins
-abbrev pub opens : Option Kind → Bool
-opens (Some (k.Mark m.Open)) = true
-opens (Some (k.Mark m.Not)) = true
-opens _ = false
-
 module _ (r : Rules) where
   -- an operator, where the rules let it stand
   unfoldable pub admit : Operator → Progress → Reader Span
@@ -160,7 +154,3 @@ module _ (r : Rules) where
   -- expr, the outermost
   unfoldable pub whole : Reader Expr
   whole = (λ c. c.expr) <$> tiers 6 (prim (nesting r)) start
-
-  -- what comes of a first operand and of the operators after it
-  unfoldable pub continued : Expr → Reader Expr
-  continued first = (λ c. c.expr) <$> climb 6 (prim (nesting r)) (counted start first)

@@ -6,7 +6,6 @@ ghost use Rattle.fn_tree.specs.Rules.{all};
 ghost use Rattle.fn_tree.specs.Grammar as grammar;
 ghost use Rattle.fn_tree.specs.Spans as spans;
 ghost use Rattle.fn_tree.specs.Expr as spec;
-ghost use Rattle.fn_tree.specs.Operators.{start};
 
 use crate::progress::{Progress, Sum, binds, follows, inside, is_late, operator, outside, step};
 use crate::refusal::ParseError;
@@ -323,61 +322,26 @@ fn climb(
     Ok(left)
 }
 
-/// Whether an operand of more than one part begins: round brackets or `!`.
-fn opens(next: Option<Kind>) -> bool
-    ensures { result ≡ spec.opens next }
-{
-    match next {
-        Some(Kind::Mark(mark)) => match mark {
-            Mark::Open | Mark::Not => true,
-            _ => false,
-        },
-        _ => false,
-    }
-}
-
-/// Before the first operator.
-fn start() -> Progress
-    ensures { result ≡ start }
-{
-    Progress {
-        operators: 0,
-        sum: Sum::Empty,
-    }
-}
-
 /// A whole expression, by its tiers.
 #[tactic(auto, unfolding(crate::specs::Expr::whole))]
 fn tiered(alloc: Global, tokens: &mut Tokens<'_>) -> Result<Expr, ParseError>
     ensures { Reads (spec.whole all tokens.old) result tokens.new }
 {
-    let found = tiers(alloc, tokens, MOST_NESTING, WHOLE, start())?;
-    Ok(found.expr)
-}
-
-/// What comes of a first operand that has no other expression in it, and of the operators after it.
-#[tactic(auto, unfolding(crate::specs::Expr::continued))]
-fn continued(alloc: Global, tokens: &mut Tokens<'_>, first: Expr) -> Result<Expr, ParseError>
-    ensures { Reads (spec.continued all first tokens.old) result tokens.new }
-{
-    let left = Counted {
-        expr: first,
-        after: start(),
+    let start = Progress {
+        operators: 0,
+        sum: Sum::Empty,
     };
-    let found = climb(alloc, tokens, MOST_NESTING, WHOLE, left)?;
+    let found = tiers(alloc, tokens, MOST_NESTING, WHOLE, start)?;
     Ok(found.expr)
 }
 
-/// A whole expression. Most are one operand alone, which is read without the tiers.
+/// A whole expression. Most are a number or a name alone, which are read without the tiers.
 pub(crate) fn whole(alloc: Global, tokens: &mut Tokens<'_>) -> Result<Expr, ParseError>
     ensures { Reads (spec.whole all tokens.old) result tokens.new }
 {
-    if opens(tokens.peek()) {
-        return tiered(alloc, tokens);
-    }
-    let first = leaf(tokens)?;
-    match operator(1, WHOLE, tokens.peek()) {
-        None => Ok(first),
-        Some(_) => continued(alloc, tokens, first),
+    match tokens.lone() {
+        Some(Kind::Number(n)) => Ok(Expr::Number(tokens.take()?, n)),
+        Some(Kind::Name) => Ok(Expr::Name(tokens.take()?)),
+        _ => tiered(alloc, tokens),
     }
 }
