@@ -24,6 +24,9 @@ const MOSTLY_ARGUMENTS: usize = 2;
 /// As many lengths as most brackets have.
 const MOSTLY_LENGTHS: usize = 1;
 
+/// As many statements as a section has room for at first.
+const MOSTLY_STATEMENTS: usize = 8;
+
 /// The most statements of a section.
 const MOST_STATEMENTS: usize = 128;
 
@@ -321,7 +324,7 @@ pub(crate) fn statements(
 ) -> Result<Items<Item>, ParseError>
     ensures { Reads (spec.statements all only_bound tokens.old) result tokens.new }
 {
-    let mut found = Items::new(alloc);
+    let mut found = Items::from_vec(Vec::with_capacity(alloc, MOSTLY_STATEMENTS)?);
     'more: while !tokens.sees(Mark::CloseBrace) {
         let count = found.len();
         found.push(statement(alloc, tokens, only_bound, count)?)?;
