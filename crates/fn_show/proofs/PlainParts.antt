@@ -1,9 +1,9 @@
 -- Parts of a text in which no line ends, and each octet is a character.
-use Rattle.std.proofs.Common.{◌≡◌, ℕ, zero, suc, ◌+◌, ◌-◌, ◌*◌, ◌<◌, ◌≤◌, Bool, true, false, List, length, take, drop, get_or, length-take, length-drop, refl, ap, subst, sym, ◌∙◌, arith}
-use Rattle.std.specs.Prelude.{count_by, nat_lt, nat_le, ◌&&◌, ◌||◌, not, ◌==◌}
+use Rattle.std.proofs.Common.{◌≡◌, ℕ, zero, suc, ◌+◌, ◌-◌, ◌<◌, ◌≤◌, Bool, true, false, List, length, take, drop, get_or, length-take, length-drop, refl, ap, subst, sym, ◌∙◌, arith}
+use Rattle.std.specs.Prelude.{nat_lt, nat_le, ◌&&◌, ◌||◌, not, ◌==◌}
 use Rattle.std.specs.List.{after_last, suffix_len}
 use Rattle.std.proofs.lemmas.List.Sums.{count_by-le-length}
-use Rattle.fn_source.specs.Places.{line_of, column_of, is_line_end, begins_character}
+use Rattle.fn_source.specs.Places.{is_line_end, begins_character}
 use Rattle.fn_source.specs.declared.source.Position.{Position}
 use Rattle.fn_show.specs.Known.{IsPlace, ArePlain, is_plain}
 use Rattle.fn_show.proofs.PlacesSteps.{Stands, after_other, first_counts, read_in_part}
