@@ -1,6 +1,6 @@
 -- The encodings that a format gives its fields, found by the places of its mentions.
 use Rattle.std.proofs.Common.{◌≡◌, ◌∙◌, ap, ℕ, zero, suc, ◌+◌, ◌≤◌, Bool, true, false, cond, List, [], ◌∷◌, ◌++◌, refl, sym, fold, map, drop, length, get_or, replicate, not, nat_lt, Some, None, Option, arith, subst}
-use Rattle.std.specs.Prelude.{is_some, position, slice_get, slice_set, unwrap_or}
+use Rattle.std.specs.Prelude.{is_some, slice_get, slice_set, unwrap_or}
 use Rattle.std.specs.Option.{option_or}
 use Rattle.std.specs.List.{position_or_len}
 use Rattle.std.specs.Str.{bytes_eq}

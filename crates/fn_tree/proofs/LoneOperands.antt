@@ -1,9 +1,8 @@
 -- A whole expression of one token.
-use Rattle.std.proofs.Common.{◌≡◌, ℕ, suc, Bool, List, [], ◌∷◌, Option, Some, None, Ok, true, false, refl, ap, sym, subst, ◌∙◌, if◌then◌else◌}
+use Rattle.std.proofs.Common.{◌≡◌, Bool, List, [], ◌∷◌, Some, None, Ok, true, false, refl, ap, sym, ◌∙◌, if◌then◌else◌}
 use Rattle.fn_source.specs.declared.span.Span.{Span}
 use Rattle.fn_source.specs.declared.token.Kind.{Kind}
 use Rattle.fn_source.specs.declared.token.Kind.TheVariants as k
-use Rattle.fn_source.specs.declared.token.Mark.{Mark}
 use Rattle.fn_source.specs.declared.token.Mark.TheVariants as m
 use Rattle.fn_source.specs.declared.token.Token.{Token}
 use Rattle.fn_source.specs.Kinds.{same_mark}
@@ -13,8 +12,8 @@ use Rattle.fn_tree.specs.declared.tree.Owner.TheVariants as owners
 use Rattle.fn_tree.specs.declared.expr.Counted.{Counted}
 use Rattle.fn_tree.specs.Operators.{operator_within, start}
 use Rattle.fn_tree.specs.Rules.{all}
-use Rattle.fn_tree.specs.Reading.{Reader, Outcome, and_then, ◌>>◌, ◌<$>◌, pure, take, either, is_next, kind_at, ends, lone}
-use Rattle.fn_tree.specs.Expr.{counted, attribute, named, leaf_by, leaf, climb, group, denial, prim_by, nested, prim, whole}
+use Rattle.fn_tree.specs.Reading.{Outcome, and_then, ◌>>◌, pure, take, either, is_next, kind_at, ends, lone}
+use Rattle.fn_tree.specs.Expr.{counted, attribute, named, leaf, climb, nested, prim, whole}
 use Rattle.fn_tree.proofs.Exprs.{climb_all, loop_stops, tiers_climb}
 
 -- no operator ends an expression, and no dot

@@ -3,7 +3,7 @@ use Rattle.std.proofs.lemmas.Option.{slice_get_read}
 use Rattle.fn_sections.specs.declared.mention.Group.TheVariants as groups
 use Rattle.fn_sections.specs.Mentions.{mentions_in}
 use Rattle.fn_sections.specs.Names.{own_mentions}
-use Rattle.fn_sections.proofs.Naming.{none_below, one_below, all_below}
+use Rattle.fn_sections.proofs.Naming.{one_below, all_below}
 use Rattle.fn_sections.proofs.NamesOwn.{at_place, parted, rest_of}
 use Rattle.fn_sections.proofs.names.judge_sections.Goals as goal
 
