@@ -18,12 +18,6 @@ use std::alloc::Global;
 /// The most arguments of a call, and the most lengths in a bracket.
 const MOST_VALUES: usize = 32;
 
-/// As many arguments as most calls have.
-const MOSTLY_ARGUMENTS: usize = 2;
-
-/// As many lengths as most brackets have.
-const MOSTLY_LENGTHS: usize = 1;
-
 /// As many statements as a section has room for at first.
 const MOSTLY_STATEMENTS: usize = 8;
 
@@ -95,9 +89,10 @@ fn next_expr(alloc: Global, tokens: &mut Tokens<'_>, count: usize) -> Result<Exp
     whole(alloc, tokens)
 }
 
-fn exprs(alloc: Global, tokens: &mut Tokens<'_>, room: usize) -> Result<Items<Expr>, ParseError>
+fn exprs(alloc: Global, tokens: &mut Tokens<'_>) -> Result<Items<Expr>, ParseError>
     ensures { Reads (spec.exprs all tokens.old) result tokens.new }
 {
+    let room = tokens.commas(MOST_VALUES).saturating_add(1);
     let mut found = Items::from_vec(Vec::with_capacity(alloc, room)?);
     found.push(whole(alloc, tokens)?)?;
     'more: while tokens.sees(Mark::Comma) {
@@ -124,7 +119,7 @@ fn lengths(
 ) -> Result<Option<Bracket>, ParseError>
     ensures { Reads (spec.lengths all first tokens.old) result tokens.new }
 {
-    let found = exprs(alloc, tokens, MOSTLY_LENGTHS)?;
+    let found = exprs(alloc, tokens)?;
     let last = tokens.expect(Mark::CloseSquare)?;
     Ok(Some(Bracket::Lengths(cover(first, last), found)))
 }
@@ -171,7 +166,7 @@ fn bracket(alloc: Global, tokens: &mut Tokens<'_>) -> Result<Option<Bracket>, Pa
 fn given(alloc: Global, tokens: &mut Tokens<'_>) -> Result<Items<Expr>, ParseError>
     ensures { Reads (spec.given all tokens.old) result tokens.new }
 {
-    let found = exprs(alloc, tokens, MOSTLY_ARGUMENTS)?;
+    let found = exprs(alloc, tokens)?;
     tokens.expect(Mark::Close)?;
     Ok(found)
 }

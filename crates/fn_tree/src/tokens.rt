@@ -55,6 +55,25 @@ impl<'a> Tokens<'a> {
         }
     }
 
+    /// How many commas come before the next closing bracket, or the limit where there are more: a list has room for so many.
+    pub(crate) fn commas(&self, limit: usize) -> usize {
+        let mut count: usize = 0;
+        for token in self.rest {
+            match token.kind {
+                Kind::Mark(Mark::Close) => return count,
+                Kind::Mark(Mark::CloseSquare) => return count,
+                Kind::Mark(Mark::Comma) => {
+                    if count >= limit {
+                        return count;
+                    }
+                    count = count.saturating_add(1);
+                }
+                _ => {}
+            }
+        }
+        count
+    }
+
     fn place(&self) -> Place
         ensures { result ≡ spec.place self.now }
     {
