@@ -77,7 +77,7 @@ fn crc_in(encoding: &Encoding) -> Option<&CrcArguments>
     ensures { option_copied result ≡ spec.crc_in encoding.now }
 {
     match encoding {
-        Encoding::Library(Library::Crc(crc)) => Some(crc),
+        Encoding::Library(Library::Crc(crc)) => Some(crc.get()),
         _ => None,
     }
 }

@@ -70,7 +70,7 @@ pub(crate) fn is_coded(
         Library::Lsb { bits, offset } => {
             is_near(alloc, context, path, level, field, bits, offset, filled)
         }
-        Library::Crc(crc) => is_summed(alloc, level, crc, filled),
+        Library::Crc(crc) => is_summed(alloc, level, crc.get(), filled),
     }
 }
 

@@ -5,7 +5,7 @@ use crate::shared::Shared;
 use fn_bits::Bits;
 use fn_expr::{Cond, Expr, Interval, Side, Subject};
 use fn_source::Span;
-use sqlite_items::Items;
+use sqlite_items::{Boxed, Items};
 
 /// Which list of a method declares a field (RFC 4997, section 4.10).
 #[derive(Clone, Copy, PartialEq, Eq)]
@@ -35,7 +35,7 @@ pub enum Library {
     Irregular { length: Expr },
     Static,
     Lsb { bits: Expr, offset: Expr },
-    Crc(CrcArguments),
+    Crc(Boxed<CrcArguments>),
 }
 
 /// The arguments of `crc`. Its data are the bits of a side of a field or of the whole.

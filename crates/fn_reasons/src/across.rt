@@ -68,7 +68,7 @@ pub(crate) fn with_values(library: &Library, ranges: &Ranges) -> Option<Valued>
             let offset = pinned(offset, ranges)?;
             Some(Valued::Lsb { bits, offset })
         }
-        Library::Crc(crc) => crc_with_values(crc, ranges),
+        Library::Crc(crc) => crc_with_values(crc.get(), ranges),
     }
 }
 

@@ -217,7 +217,7 @@ fn covered_by<'a>(seen: &'a Seen, library: &Library, nothing: &'a Bits) -> Optio
     ensures { IfSome result (λ bits. told.Covers seen.now library.now bits.now) }
 {
     match library {
-        Library::Crc(crc) => seen_subject(seen, crc.subject, crc.side),
+        Library::Crc(crc) => seen_subject(seen, crc.get().subject, crc.get().side),
         _ => Some(nothing),
     }
 }

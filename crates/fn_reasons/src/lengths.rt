@@ -80,7 +80,7 @@ fn library_length(
         | (Library::CompressedValue { length, .. }, Side::Compressed)
         | (Library::Irregular { length }, _) => pinned_length(length, ranges),
         (Library::Lsb { bits, .. }, Side::Compressed) => pinned_length(bits, ranges),
-        (Library::Crc(crc), Side::Compressed) => pinned_length(&crc.bits, ranges),
+        (Library::Crc(crc), Side::Compressed) => pinned_length(&crc.get().bits, ranges),
         (Library::Static | Library::Lsb { .. }, Side::Uncompressed) => length_of(reference),
         _ => None,
     }

@@ -30,7 +30,7 @@ fn undefined_in(library: &Library, ranges: &Ranges) -> Option<Span>
         Library::Irregular { length } => undefined(length, ranges),
         Library::Static => None,
         Library::Lsb { bits, offset } => undefined_of_two(bits, offset, ranges),
-        Library::Crc(crc) => undefined_of_crc(crc, ranges),
+        Library::Crc(crc) => undefined_of_crc(crc.get(), ranges),
     }
 }
 

@@ -46,7 +46,7 @@ pub fn size_of(side: Side, library: &Library) -> Option<&Expr>
         Side::Compressed => match library {
             Library::CompressedValue { length, .. } | Library::Irregular { length } => Some(length),
             Library::Lsb { bits, .. } => Some(bits),
-            Library::Crc(crc) => Some(&crc.bits),
+            Library::Crc(crc) => Some(&crc.get().bits),
             Library::UncompressedValue { .. } | Library::Static => None,
         },
     }

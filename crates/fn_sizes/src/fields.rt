@@ -76,7 +76,7 @@ fn library_sizes(alloc: Global, library: &Library) -> Sizes
         },
         Library::Crc(arguments) => Sizes {
             uncompressed: NO_BITS,
-            compressed: by_length(alloc, &arguments.bits),
+            compressed: by_length(alloc, &arguments.get().bits),
         },
     }
 }

@@ -51,8 +51,8 @@ fn library_quiet(sizes: &FormatSizes, parameters: &[Interval], library: &Library
         Library::Static => true,
         Library::Lsb { bits, offset } => are_quiet(sizes, parameters, bits, offset),
         Library::Crc(crc) => {
-            are_quiet(sizes, parameters, &crc.bits, &crc.polynomial)
-                && are_quiet(sizes, parameters, &crc.initial, &crc.length)
+            are_quiet(sizes, parameters, &crc.get().bits, &crc.get().polynomial)
+                && are_quiet(sizes, parameters, &crc.get().initial, &crc.get().length)
         }
     }
 }

@@ -299,7 +299,7 @@ fn go_down(
         Library::Irregular { .. } => sheet.bits(field, Side::Uncompressed)?.copy(alloc)?,
         Library::CompressedValue { length, value } => constant(alloc, sheet, length, value)?,
         Library::Lsb { bits, offset } => lowered(alloc, desk, sheet, field, coded, bits, offset)?,
-        Library::Crc(crc) => summed(alloc, sheet, crc)?,
+        Library::Crc(crc) => summed(alloc, sheet, crc.get())?,
     };
     sheet.set(field, Side::Compressed, bits);
     Ok(())

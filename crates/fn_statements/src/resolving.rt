@@ -11,6 +11,7 @@ use fn_normal::{Encoding, Library, ProfileFault, ProfileFaultKind, ResolveError,
 use fn_source::Span;
 use fn_terms::Scope;
 use fn_tree::tree;
+use sqlite_items::Boxed;
 use std::alloc::Global;
 
 /// The meaning of an encoding, or its first fault: a method that is not known, a wrong number of arguments, or an argument's.
@@ -97,7 +98,7 @@ fn call(
         }
         Callee::Crc => {
             let found = of_crc(alloc, scope, name, arguments)?;
-            Ok(Encoding::Library(Library::Crc(found)))
+            Ok(Encoding::Library(Library::Crc(Boxed::new(alloc, found)?)))
         }
         Callee::Own(method) => {
             let arguments = several(alloc, scope, name, methods.arity(callee), arguments)?;

@@ -46,7 +46,7 @@ fn in_library(library: &Library, named: usize) -> Option<Span> {
         Library::Irregular { length } => in_expr(length, named),
         Library::Static => None,
         Library::Lsb { bits, offset } => in_both(bits, offset, named),
-        Library::Crc(crc) => in_crc(crc, named),
+        Library::Crc(crc) => in_crc(crc.get(), named),
     }
 }
 

@@ -1,6 +1,8 @@
-use Rattle.std.proofs.Common.{rules, refl, subst}
+use Rattle.std.proofs.Common.{rules, refl, subst, sym}
 use Rattle.fn_context.specs.Entries.{bits_at}
 use Rattle.fn_expr.specs.Known.{assignment_of}
+use Rattle.fn_normal.specs.declared.profile.CrcArguments.{CrcArguments}
+use Rattle.fn_normal.specs.declared.profile.Library.TheVariants as library
 use Rattle.fn_bounds.specs.Laws.{library_exprs}
 use Rattle.fn_fits.specs.Level.{AllRanged}
 use Rattle.fn_fits.proofs.Coded.{argument_ranged, spelled_up, spelled_down, carried_is}
@@ -28,7 +30,9 @@ pub is_near-requires-clause-offset : goal.is_near-requires-clause-offset
 is_near-requires-clause-offset c = argument_ranged c.args.level.now.known 1 c.requires.ranged c.in-Lsb.is refl
 
 pub is_summed-requires-clause-ranged : goal.is_summed-requires-clause-ranged
-is_summed-requires-clause-ranged c = subst (λ l. AllRanged c.args.level.now.known (library_exprs l)) c.in-Crc.is c.requires.ranged
+is_summed-requires-clause-ranged c =
+    let ranged = subst (λ l. AllRanged c.args.level.now.known (library_exprs l)) c.in-Crc.is c.requires.ranged in
+    subst (λ (crc : CrcArguments). AllRanged c.args.level.now.known (library_exprs (library.Crc crc))) (sym c.get.ensures) ranged
 
 pub returns-then-is_empty : goal.returns-then-is_empty
 returns-then-is_empty c =

@@ -16,8 +16,8 @@ returns-in_ok-no_arguments-in-Static-clause-means c = rw c.in-Static.is (static 
 pub returns-in_ok-found-in-Lsb-clause-means : goal.returns-in_ok-found-in-Lsb-clause-means
 returns-in_ok-found-in-Lsb-clause-means c = rw c.in-Lsb.is (lsb _ c.in_ok-found-in-Lsb.ensures.means)
 
-pub returns-in_ok-found-in-Crc-clause-means : goal.returns-in_ok-found-in-Crc-clause-means
-returns-in_ok-found-in-Crc-clause-means c = rw c.in-Crc.is (crc c.in_ok-found-in-Crc.ensures.means)
+pub returns-in_ok-new-in-Crc-clause-means : goal.returns-in_ok-new-in-Crc-clause-means
+returns-in_ok-new-in-Crc-clause-means c = rw (c.in-Crc.is, c.in_ok-new-in-Crc.ensures) (crc c.in_ok-found-in-Crc.ensures.means)
 
 pub returns-in_ok-arguments-in-Own-clause-means : goal.returns-in_ok-arguments-in-Own-clause-means
 returns-in_ok-arguments-in-Own-clause-means c = let many = rw c.arity.ensures at c.in_ok-arguments-in-Own.ensures.means in rw c.in-Own.is (own many)
