@@ -109,7 +109,7 @@ fn kept_sections(
 ) -> Result<Items<Items<KeptStatement>>, AllocError>
     ensures { IfOk result (AllZip (spec.SectionIsKept scope.now methods.now) sections.now) }
 {
-    let mut kept = Items::new(alloc);
+    let mut kept = Items::from_vec(Vec::with_capacity(alloc, sections.len())?);
     for section in sections {
         kept.push(kept_section(alloc, scope, methods, section)?)?;
     }
@@ -142,7 +142,7 @@ fn kept_encodings(
 ) -> Result<Items<KeptStatement>, AllocError>
     ensures { IfOk result (AllZip (spec.IsKept scope.now methods.now) items.now) }
 {
-    let mut kept = Items::new(alloc);
+    let mut kept = Items::from_vec(Vec::with_capacity(alloc, items.len())?);
     for item in items {
         let encoding = kept_encoding(alloc, scope, methods, item)?;
         kept.push(KeptStatement {
@@ -161,7 +161,7 @@ fn kept_items(
 ) -> Result<Items<KeptStatement>, AllocError>
     ensures { IfOk result (AllZip (spec.IsKept scope.now methods.now) items.now) }
 {
-    let mut kept = Items::new(alloc);
+    let mut kept = Items::from_vec(Vec::with_capacity(alloc, items.len())?);
     for item in items {
         kept.push(kept_statement(alloc, scope, methods, item)?)?;
     }

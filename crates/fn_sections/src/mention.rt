@@ -118,6 +118,17 @@ pub fn of_section(
     Ok(found)
 }
 
+/// How many statements the sections of a group have: at most so many mentions are in them.
+fn count_in(sections: &[Section], group: Group) -> usize {
+    let mut count: usize = 0;
+    for section in sections {
+        if is_in(group, section.kind) {
+            count = count.saturating_add(section.items.len());
+        }
+    }
+    count
+}
+
 /// The mentions in the sections of a group, in text order.
 pub fn mentions(
     alloc: Global,
@@ -127,7 +138,8 @@ pub fn mentions(
 ) -> Result<Items<Mention>, AllocError>
     ensures { IfOk result (λ found. found ≡ spec.mentions_in text.now group 0 sections.now) }
 {
-    let mut found = Items::new(alloc);
+    let room = count_in(sections, group);
+    let mut found = Items::from_vec(Vec::with_capacity(alloc, room)?);
     for (place, section) in sections.iter().enumerate() {
         if is_in(group, section.kind) {
             add_mentions(text, place, section.items.as_slice(), &mut found)?;

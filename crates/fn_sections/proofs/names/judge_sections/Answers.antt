@@ -16,8 +16,7 @@ loop-place-preserved c =
     let so = c.loop-place.invariant in
     let here = slice_get_read sections _ place s refl c.loop-place-test.true c.index-sections-place.is in
     let more = mentions_in text groups.Formats (place + 1) (drop (place + 1) sections) in
-    let parts = parted text sections place s c.loop-place.rest.now (at_place sections place s here) so.1 in
-    (
+    let parts = parted text sections place s c.loop-place.rest.now (at_place sections place s here) so.1 in (
       (λ encodings is. one_below text encodings sections place s here (c.in_ok-next.ensures encodings is) (so.0 encodings is) c.earlier-found.ensures),
       rest_of c.own_part-own.result.now (own_mentions text place s) more c.loop-place.rest.now (c.own_part-own.ensures text place more parts) parts,
     )
