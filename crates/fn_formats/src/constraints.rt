@@ -17,7 +17,7 @@ use sqlite_items::Items;
 use std::alloc::{AllocError, Global};
 
 /// For how many constraints a format has room at first, at most.
-const ROOM: usize = 64;
+const ROOM: usize = 128;
 
 /// The constraints of a format by their numbers, and the earliest fault in its statements. With a fault some are missing.
 #[derive(Drop)]
@@ -40,7 +40,7 @@ pub(crate) fn format_constraints(
     ensures fault { IfOk result (λ c. c.fault ≡ earliest (spec.statement_fault scope.now) (spec.statements scope.now chosen.now sections.now own.now)) }
     ensures found { IfOk result (λ c. c.fault ≡ None → spec.AreNumbered scope.now (spec.statements scope.now chosen.now sections.now own.now) c.found) }
 {
-    let room = kept.fields.len().saturating_add(own.len()).min(ROOM);
+    let room = count_base(sections).saturating_add(own.len()).min(ROOM);
     let mut all = Constraints {
         found: Items::from_vec(Vec::with_capacity(alloc, room)?),
         fault: None,
@@ -50,6 +50,17 @@ pub(crate) fn format_constraints(
     add_defaults(alloc, scope, chosen, sections, &mut all)?;
     add_items(alloc, scope, Side::Compressed, own, &mut all)?;
     Ok(all)
+}
+
+/// How many statements UNCOMPRESSED and CONTROL have.
+fn count_base(sections: &[Section]) -> usize {
+    let mut count: usize = 0;
+    for section in sections {
+        if is_in(Group::Base, section.kind) {
+            count = count.saturating_add(section.items.len());
+        }
+    }
+    count
 }
 
 fn add_statement(

@@ -21,12 +21,12 @@ pub fn word<'a>(text: &'a [u8], span: Span) -> &'a [u8]
     &text[from..to]
 }
 
-/// Whether two names are one.
+/// Whether two names are one. Most that are not differ in their lengths.
 pub fn same(one_name: &[u8], other: &[u8]) -> bool
     ensures test { result ≡ bytes_eq one_name.now other.now }
     ensures equal { IsTrue result ↔ (one_name.now ≡ other.now) }
 {
-    one_name == other
+    one_name.len() == other.len() && one_name == other
 }
 
 /// Distinct names in one table.

@@ -3,6 +3,7 @@ pub mod TablesInserting
 pub mod CausesSeconds
 pub mod CausesFolding
 pub mod Naming
+pub mod NamesOwn
 pub mod NamesWhole
 pub mod MentionsPointing
 pub mod FieldsOwned

@@ -1,10 +1,12 @@
 -- What stands behind the faults of a method's names.
-use Rattle.std.specs.Prelude.{◌≡◌, ◌++◌, ℕ, List, map, Option, Some, None, slice_get, true, false}
+use Rattle.std.specs.Prelude.{◌≡◌, ◌++◌, ℕ, Bool, List, [], map, Option, Some, None, slice_get, true, false, if◌then◌else◌}
 use Rattle.std.specs.List.{filter_map}
 use Rattle.fn_source.specs.declared.span.Span.{Span}
 use Rattle.fn_tree.specs.declared.tree.SectionKind.{SectionKind}
 use Rattle.fn_tree.specs.declared.tree.SectionKind.TheVariants as kinds
 use Rattle.fn_tree.specs.declared.tree.Section.{Section}
+use Rattle.fn_tree.specs.declared.tree.Item.{Item}
+use Rattle.fn_tree.specs.declared.tree.Item.TheVariants as items
 use Rattle.fn_tree.specs.declared.tree.Method.{Method}
 use Rattle.fn_normal.specs.declared.fault.ProfileFault.{ProfileFault}
 use Rattle.fn_sections.specs.declared.mention.Mention.{Mention}
@@ -52,6 +54,15 @@ pub data ContextCause (text : List ℕ) (lists : Lists) : ProfileFault → Type 
   local_in_format : {f : ProfileFault} → IsOneOf (not_kept text (first_of text lists.base)) lists.formats f → ContextCause text lists f
   -- the same in DEFAULT
   local_in_default : {f : ProfileFault} → IsOneOf (not_kept text (first_of text lists.base)) lists.default f → ContextCause text lists f
+
+-- an ENFORCE is no statement on a name
+abbrev pub is_named : Item → Bool
+is_named (items.Enforce at condition) = false
+is_named _ = true
+
+-- the mentions of a section, where it is a format
+abbrev pub own_mentions : List ℕ → ℕ → Section → List Mention
+own_mentions text place s = if is_in groups.Formats s.kind then mentions_of text place s.items else []
 
 -- behind a fault of the section with this place, where these mentions encode fields for all formats
 pub data SectionCause (text : List ℕ) (encodings : List Mention) (place : ℕ) (s : Section) : ProfileFault → Type 0 where

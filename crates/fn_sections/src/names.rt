@@ -1,9 +1,9 @@
 //! The faults of a method's names.
 
-ghost use Rattle.std.specs.Prelude.{◌≡◌, ◌++◌, ◌⊎◌, ℕ, List, IfOk, map};
+ghost use Rattle.std.specs.Prelude.{◌≡◌, ◌++◌, ◌⊎◌, ℕ, List, IfOk, length, map};
 ghost use Rattle.std.specs.List.{filter_map};
 ghost use Rattle.fn_sections.specs.Tables.{IsTable};
-ghost use Rattle.fn_sections.specs.Mentions.{first_of, encoded as encoded_ones};
+ghost use Rattle.fn_sections.specs.Mentions.{first_of, mentions_in, mentions_of, encoded as encoded_ones};
 ghost use Rattle.fn_sections.specs.Causes.{Answers, IsOneOf, IsSecond, look_in, not_encoded, unknown};
 ghost use Rattle.fn_sections.specs.Names as spec;
 
@@ -17,7 +17,7 @@ use crate::sections::incomplete;
 use crate::table::Table;
 use fn_normal::{ProfileFault, earlier};
 use fn_source::Span;
-use fn_tree::{Method, Section, SectionKind};
+use fn_tree::{Item, Method, Section, SectionKind};
 use sqlite_items::Items;
 use std::alloc::{AllocError, Global};
 
@@ -203,41 +203,82 @@ fn judge_bare_among(
     Ok(all_not_encoded(text, shared, &table, own))
 }
 
-/// A second statement on a name in a section for some formats or contexts, or a listed field that has no encoding.
+/// How many of the items are statements on names.
+fn count_named(items: &[Item]) -> usize
+    ensures { (text : List ℕ) (section : ℕ) → result ≡ length (mentions_of text section items.now) }
+{
+    let mut count = 0;
+    for item in items {
+        if is_named(item) {
+            count += 1;
+        }
+    }
+    count
+}
+
+/// Whether the item is a statement on a name.
+fn is_named(item: &Item) -> bool
+    ensures { result ≡ spec.is_named item.now }
+{
+    match item {
+        Item::Enforce(_, _) => false,
+        _ => true,
+    }
+}
+
+/// The mentions of a section, where those of the formats from it on are given: the first of them, or none where it is no format.
+fn own_part<'m>(section: &Section, formats: &'m [Mention]) -> &'m [Mention]
+    ensures { (text : List ℕ) (place : ℕ) (more : List Mention) → formats.now ≡ spec.own_mentions text place section.now ++ more → result.now ≡ spec.own_mentions text place section.now }
+{
+    if !is_in(Group::Formats, section.kind) {
+        return &[];
+    }
+    let count = count_named(section.items.as_slice());
+    &formats[..count.min(formats.len())]
+}
+
+/// A second statement on a name in a section for some formats or contexts, or a listed field that has no encoding. Of a format its mentions are given.
 pub(crate) fn judge_section(
     alloc: Global,
     text: &[u8],
     shared: &Table<'_>,
     place: usize,
     section: &Section,
+    own: &[Mention],
 ) -> Result<Option<ProfileFault>, AllocError>
+    requires { own.now ≡ spec.own_mentions text.now place section.now }
     ensures { (encodings : List Mention) → IsTable text.now encodings shared.now → IfOk result (Answers (spec.SectionCause text.now encodings place section.now)) }
 {
     if is_in(Group::Base, section.kind) {
         return Ok(None);
     }
-    let own = of_section(alloc, text, place, section)?;
-    let repeated = second(alloc, text, own.as_slice())?;
     if !is_in(Group::Formats, section.kind) {
-        return Ok(repeated);
+        let own = of_section(alloc, text, place, section)?;
+        return second(alloc, text, own.as_slice());
     }
-    let bare = judge_bare(alloc, text, shared, own.as_slice())?;
+    let repeated = second(alloc, text, own)?;
+    let bare = judge_bare(alloc, text, shared, own)?;
     Ok(earlier(repeated, bare))
 }
 
-/// Such a fault of any section.
+/// Such a fault of any section. The mentions of all formats are given.
 pub(crate) fn judge_sections(
     alloc: Global,
     text: &[u8],
     shared: &Table<'_>,
     sections: &[Section],
+    formats: &[Mention],
 ) -> Result<Option<ProfileFault>, AllocError>
+    requires { formats.now ≡ mentions_in text.now Group.Formats 0 sections.now }
     ensures { (encodings : List Mention) → IsTable text.now encodings shared.now → IfOk result (Answers (spec.SectionsCause text.now encodings sections.now)) }
 {
     let mut found = None;
+    let mut rest = formats;
     for (place, section) in sections.iter().enumerate() {
-        let next = judge_section(alloc, text, shared, place, section)?;
+        let own = own_part(section, rest);
+        let next = judge_section(alloc, text, shared, place, section, own)?;
         found = earlier(found, next);
+        rest = &rest[own.len()..];
     }
     Ok(found)
 }
@@ -300,8 +341,7 @@ fn judge_fields(
     let lists = split(alloc, text, sections)?;
     let of_lists = judge_lists(alloc, text, &lists)?;
     let shared = for_all_formats(alloc, text, &lists)?;
-    drop(lists);
-    let own = judge_sections(alloc, text, &shared, sections)?;
+    let own = judge_sections(alloc, text, &shared, sections, lists.formats.as_slice())?;
     Ok(earlier(of_lists, own))
 }
 

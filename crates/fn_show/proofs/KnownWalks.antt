@@ -4,8 +4,8 @@ use Rattle.std.specs.Prelude.{Some, flat_map}
 use Rattle.std.specs.List.{slice_get, enumerate_from}
 use Rattle.std.proofs.lemmas.List.{append-nil, drop_more, drop_all}
 use Rattle.std.proofs.lemmas.Option.{none-some, same_Some}
-use Rattle.fn_source.specs.declared.source.Position.{Position}
-use Rattle.fn_show.specs.Known.{IsPlace, AreKnown}
+use Rattle.fn_show.specs.declared.places.Spot.{Spot}
+use Rattle.fn_show.specs.Known.{IsPlace, AreKnown, place_of}
 
 -- the text so far, and that of what is left, are the whole text
 abbrev pub Goes : {A : Type 0} → (ℕ × A → List ℕ) → List A → ℕ → List ℕ → List ℕ → Type 0
@@ -27,14 +27,14 @@ pushed_holds P [] y h p (suc k) x e = absurd (none-some x e)
 pushed_holds P (z ∷ xs) y h p zero x e = h 0 x e
 pushed_holds P (z ∷ xs) y h p (suc k) x e = pushed_holds (λ n. P (suc n)) xs y (λ n. h (suc n)) p k x e
 
-pub known_on : (octets : List ℕ) (table next : List Position) (k : ℕ) (place : Position) → AreKnown octets table → length table ≡ k → IsPlace octets (k * 16) place → next ≡ table ++ place ∷ [] → AreKnown octets next
-known_on octets table next k place known count here n =
-    let P : List Position → Type 0 = λ t. AreKnown octets t in
-    let Q : ℕ → Type 0 = λ n. IsPlace octets (n * 16) place in
-    subst P (sym n) (pushed_holds (λ n. IsPlace octets (n * 16)) table place known (subst Q (sym count) here))
+pub known_on : (octets : List ℕ) (table next : List Spot) (k : ℕ) (spot : Spot) → AreKnown octets table → length table ≡ k → IsPlace octets (k * 16) (place_of spot) → next ≡ table ++ spot ∷ [] → AreKnown octets next
+known_on octets table next k spot known count here n =
+    let P : List Spot → Type 0 = λ t. AreKnown octets t in
+    let Q : ℕ → Type 0 = λ n. IsPlace octets (n * 16) (place_of spot) in
+    subst P (sym n) (pushed_holds (λ k s. IsPlace octets (k * 16) (place_of s)) table spot known (subst Q (sym count) here))
 
-pub count_on : (table next : List Position) (place : Position) (i : ℕ) → length table ≡ i → next ≡ table ++ place ∷ [] → length next ≡ i + 1
-count_on table next place i e n = ap length n ∙ length-append table (place ∷ []) ∙ ap (λ k. k + 1) e
+pub count_on : (table next : List Spot) (spot : Spot) (i : ℕ) → length table ≡ i → next ≡ table ++ spot ∷ [] → length next ≡ i + 1
+count_on table next spot i e n = ap length n ∙ length-append table (spot ∷ []) ∙ ap (λ k. k + 1) e
 
 pub texts_joined : (a b c : List ℕ) → (a ++ b) ++ c ≡ a ++ (b ++ c)
 texts_joined a b c = append_assoc a b c

@@ -1,2 +1,3 @@
 pub mod KnownWalks
 pub mod PlacesSteps
+pub mod PlainParts

@@ -9,6 +9,12 @@ use fn_source::Span;
 use itoa::Buffer;
 use std::alloc::{AllocError, Global};
 
+/// As many octets as most lines of a constraint have.
+const CONSTRAINT_LINE: usize = 12;
+
+/// As many octets as most lines of a format have.
+const FORMAT_LINE: usize = 48;
+
 /// The lines of all methods that have formats, with the bounds on the packed bits of their formats and with the places
 /// of their constraints in the text. Bounds that are missing in the sizes are 0 and 0.
 pub fn show(
@@ -20,9 +26,21 @@ pub fn show(
     ensures { IfOk result (λ text. string_bytes text ≡ spec.shown octets.now methods.now sizes.now) }
 {
     let places = Places::new(alloc, octets)?;
-    let mut output = String::new(alloc);
+    let mut output = String::with_capacity(alloc, room_for(methods))?;
     push_methods(alloc, &mut output, &places, methods, sizes)?;
     Ok(output)
+}
+
+/// About how many octets the lines take, so that there is room from the start.
+fn room_for(methods: &[Method]) -> usize {
+    let mut room: usize = 0;
+    for method in methods {
+        for format in method.formats.as_slice() {
+            let lines = format.constraints.len().saturating_mul(CONSTRAINT_LINE);
+            room = room.saturating_add(lines).saturating_add(FORMAT_LINE);
+        }
+    }
+    room
 }
 
 fn push_methods(
@@ -63,11 +81,10 @@ fn push_method(
     let formats = method.formats.as_slice();
     let title = title(alloc, &method.name, formats)?;
     output.push_str(title.as_str())?;
-    push_formats(alloc, output, places, sizes, formats)
+    push_formats(output, places, sizes, formats)
 }
 
 fn push_formats(
-    alloc: Global,
     output: &mut String,
     places: &Places<'_>,
     sizes: &[FormatSizes],
@@ -76,7 +93,7 @@ fn push_formats(
     ensures { OnOk result (string_bytes output.new ≡ string_bytes output.old ++ spec.formats_text places.now sizes.now formats.now) }
 {
     for (n, format) in formats.iter().enumerate() {
-        push_format(alloc, output, places, packed_bounds(sizes, n), format)?;
+        push_format(output, places, packed_bounds(sizes, n), format)?;
     }
     Ok(())
 }
@@ -104,7 +121,6 @@ fn packed_bounds(sizes: &[FormatSizes], n: usize) -> Bounds
 
 /// A format and its constraints.
 fn push_format(
-    alloc: Global,
     output: &mut String,
     places: &Places<'_>,
     bounds: Bounds,
@@ -112,8 +128,7 @@ fn push_format(
 ) -> Result<(), AllocError>
     ensures { OnOk result (string_bytes output.new ≡ string_bytes output.old ++ spec.format_text places.now bounds format.now) }
 {
-    let line = format_line(alloc, name_of(&format.name), bounds)?;
-    output.push_str(line.as_str())?;
+    push_format_line(output, name_of(&format.name), bounds)?;
     push_constraints(output, places, format.constraints.as_slice())
 }
 
@@ -127,11 +142,17 @@ fn name_of(name: &Option<Name>) -> &str
     }
 }
 
-fn format_line(alloc: Global, name: &str, bounds: Bounds) -> Result<String, AllocError>
-    ensures { IfOk result (λ text. string_bytes text ≡ spec.format_line name.now bounds) }
+fn push_format_line(output: &mut String, name: &str, bounds: Bounds) -> Result<(), AllocError>
+    ensures { OnOk result (string_bytes output.new ≡ string_bytes output.old ++ spec.format_line name.now bounds) }
 {
-    let Bounds { least, most } = bounds;
-    format!(in alloc; "format {name} least {least} most {most}\n")
+    let mut buffer = Buffer::new();
+    output.push_str("format ")?;
+    output.push_str(name)?;
+    output.push_str(" least ")?;
+    output.push_str(buffer.format(bounds.least))?;
+    output.push_str(" most ")?;
+    output.push_str(buffer.format(bounds.most))?;
+    output.push('\n')
 }
 
 /// The lines of constraints by their numbers.

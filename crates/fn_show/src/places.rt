@@ -1,18 +1,28 @@
 //! Where the octets of a text stand.
 
-ghost use Rattle.std.specs.Prelude.{◌≡◌, ◌≤◌, length, IfOk};
+ghost use Rattle.std.specs.Prelude.{◌≡◌, ◌<◌, ◌≤◌, ◌+◌, ◌^◌, length, IfOk, IsTrue};
 ghost use Rattle.fn_source.specs.Places.{begins_character, line_of, column_of};
-ghost use Rattle.fn_show.specs.Known.{IsPlace, AreKnown};
+ghost use Rattle.fn_show.specs.Known.{IsPlace, AreKnown, ArePlain, is_plain, place_of};
 
 use fn_source::{Position, line_column};
 use std::alloc::{AllocError, Global};
 use std::marker::Model;
 
+/// The most places that a table has: lines and columns of so many parts of a text are below 2^32.
+const MOST_PLACES: usize = 0x1000_0000;
+
+/// A place in half the room.
+#[derive(Clone, Copy, PartialEq, Eq)]
+pub struct Spot {
+    pub line: u32,
+    pub column: u32,
+}
+
 /// The places of every sixteenth octet of a text, found by one walk. Contracts see the octets.
 #[derive(Drop)]
 pub struct Places<'a> {
     octets: &'a [u8],
-    table: Vec<Position>,
+    table: Vec<Spot>,
 }
 
 impl<'a> Model for Places<'a> {
@@ -44,25 +54,83 @@ impl<'a> Places<'a> {
             return line_column(self.octets, offset);
         }
         match self.table.get(offset / 16) {
-            Some(start) => place_after(self.octets, offset / 16 * 16, offset, *start),
+            Some(start) => {
+                let start = place_of(*start);
+                place_after(self.octets, offset / 16 * 16, offset, start)
+            }
             None => line_column(self.octets, offset),
         }
     }
 }
 
+fn place_of(spot: Spot) -> Position
+    ensures { result ≡ place_of spot }
+{
+    Position {
+        line: spot.line as usize,
+        column: spot.column as usize,
+    }
+}
+
+fn spot_of(place: Position) -> Spot
+    requires { (place.line < 2 ^ 32) × (place.column < 2 ^ 32) }
+    ensures { place_of result ≡ place }
+{
+    Spot {
+        line: place.line as u32,
+        column: place.column as u32,
+    }
+}
+
 /// The place of every sixteenth octet, in their order.
-fn positions(alloc: Global, octets: &[u8]) -> Result<Vec<Position>, AllocError>
+fn positions(alloc: Global, octets: &[u8]) -> Result<Vec<Spot>, AllocError>
     ensures { IfOk result (λ table. AreKnown octets.now table.items) }
 {
-    let parts = octets.len() / 16;
+    let parts = (octets.len() / 16).min(MOST_PLACES - 1);
     let mut table = Vec::with_capacity(alloc, parts + 1)?;
     let mut place = Position { line: 1, column: 1 };
-    table.push(place)?;
+    table.push(spot_of(place))?;
     for k in 0..parts {
-        place = place_after(octets, k * 16, k * 16 + 16, place);
-        table.push(place)?;
+        place = place_further(octets, k * 16, place);
+        table.push(spot_of(place))?;
     }
     Ok(table)
+}
+
+/// The place of the sixteenth octet after one, found from the place of that one. Most often it is on the same line.
+fn place_further(octets: &[u8], from: usize, place: Position) -> Position
+    requires within { from + 16 ≤ length octets.now }
+    requires here { IsPlace octets.now from place }
+    ensures { IsPlace octets.now (from + 16) result }
+{
+    if are_plain(&octets[from..from + 16]) {
+        Position {
+            line: place.line,
+            column: place.column + 16,
+        }
+    } else {
+        place_after(octets, from, from + 16, place)
+    }
+}
+
+/// Whether each octet is a character and ends no line. All are looked at, which takes less time than to stop at one.
+fn are_plain(part: &[u8]) -> bool
+    ensures { IsTrue result → ArePlain part.now }
+{
+    let mut others = false;
+    for octet in part {
+        if !is_plain(*octet) {
+            others = true;
+        }
+    }
+    !others
+}
+
+/// Whether the octet is a character and ends no line.
+fn is_plain(octet: u8) -> bool
+    ensures { result ≡ is_plain octet }
+{
+    octet < 128 && octet != b'\n'
 }
 
 /// The place of an octet, found from that of an octet before it.

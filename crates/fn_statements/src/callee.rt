@@ -3,7 +3,7 @@
 ghost use Rattle.std.specs.Prelude.{◌≡◌, length};
 ghost use Rattle.fn_statements.specs.Callees as spec;
 
-use fn_normal::Words;
+use fn_normal::{Words, same};
 
 /// The methods of a file, by their names, with how many parameters each has.
 #[derive(Drop)]
@@ -27,22 +27,22 @@ pub enum Callee {
 fn library(name: &[u8]) -> Option<Callee>
     ensures { result ≡ spec.library name.now }
 {
-    if name == b"uncompressed_value".as_slice() {
+    if same(name, b"uncompressed_value".as_slice()) {
         return Some(Callee::UncompressedValue);
     }
-    if name == b"compressed_value".as_slice() {
+    if same(name, b"compressed_value".as_slice()) {
         return Some(Callee::CompressedValue);
     }
-    if name == b"irregular".as_slice() {
+    if same(name, b"irregular".as_slice()) {
         return Some(Callee::Irregular);
     }
-    if name == b"static".as_slice() {
+    if same(name, b"static".as_slice()) {
         return Some(Callee::Static);
     }
-    if name == b"lsb".as_slice() {
+    if same(name, b"lsb".as_slice()) {
         return Some(Callee::Lsb);
     }
-    if name == b"crc".as_slice() {
+    if same(name, b"crc".as_slice()) {
         return Some(Callee::Crc);
     }
     None

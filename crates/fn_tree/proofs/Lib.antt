@@ -6,6 +6,7 @@ pub mod BegunExpr
 pub mod BegunFile
 pub mod Counted
 pub mod Exprs
+pub mod LoneOperands
 pub mod RulesFew
 pub mod FileLemmas
 pub mod ReadingLocal

@@ -5,6 +5,8 @@ use Rattle.fn_source.specs.declared.fault.FaultKind.{FaultKind}
 use Rattle.fn_source.specs.declared.fault.FaultKind.TheVariants as f
 use Rattle.fn_source.specs.declared.token.Mark.{Mark}
 use Rattle.fn_source.specs.declared.token.Kind.{Kind}
+use Rattle.fn_source.specs.declared.token.Kind.TheVariants as k
+use Rattle.fn_source.specs.declared.token.Mark.TheVariants as m
 use Rattle.fn_source.specs.declared.token.Token.{Token}
 use Rattle.fn_source.specs.Kinds.{is_mark}
 use Rattle.fn_tree.specs.declared.refusal.Place.{Place}
@@ -45,6 +47,19 @@ place (t ∷ ts) = At t.span
 abbrev pub kind_at : List Token → Option Kind
 kind_at [] = None
 kind_at (t ∷ ts) = Some t.kind
+
+-- whether an expression ends before such a token, whatever is after it
+abbrev pub ends : Kind → Bool
+ends (k.Mark m.Comma) = true
+ends (k.Mark m.Close) = true
+ends (k.Mark m.CloseSquare) = true
+ends (k.Mark m.Semicolon) = true
+ends _ = false
+
+-- the kind of the next token, where what comes after it ends an expression
+abbrev pub lone : List Token → Option Kind
+lone (t ∷ u ∷ ts) = if ends u.kind then Some t.kind else None
+lone _ = None
 
 abbrev pub refusal_of : FaultKind → Place → Refusal
 refusal_of kind at = record { kind = kind; at = at }

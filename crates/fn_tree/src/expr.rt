@@ -322,9 +322,9 @@ fn climb(
     Ok(left)
 }
 
-/// A whole expression.
+/// A whole expression, by its tiers.
 #[tactic(auto, unfolding(crate::specs::Expr::whole))]
-pub(crate) fn whole(alloc: Global, tokens: &mut Tokens<'_>) -> Result<Expr, ParseError>
+fn tiered(alloc: Global, tokens: &mut Tokens<'_>) -> Result<Expr, ParseError>
     ensures { Reads (spec.whole all tokens.old) result tokens.new }
 {
     let start = Progress {
@@ -333,4 +333,15 @@ pub(crate) fn whole(alloc: Global, tokens: &mut Tokens<'_>) -> Result<Expr, Pars
     };
     let found = tiers(alloc, tokens, MOST_NESTING, WHOLE, start)?;
     Ok(found.expr)
+}
+
+/// A whole expression. Most are a number or a name alone, which are read without the tiers.
+pub(crate) fn whole(alloc: Global, tokens: &mut Tokens<'_>) -> Result<Expr, ParseError>
+    ensures { Reads (spec.whole all tokens.old) result tokens.new }
+{
+    match tokens.lone() {
+        Some(Kind::Number(n)) => Ok(Expr::Number(tokens.take()?, n)),
+        Some(Kind::Name) => Ok(Expr::Name(tokens.take()?)),
+        _ => tiered(alloc, tokens),
+    }
 }

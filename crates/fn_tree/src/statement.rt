@@ -18,8 +18,14 @@ use std::alloc::Global;
 /// The most arguments of a call, and the most lengths in a bracket.
 const MOST_VALUES: usize = 32;
 
-/// As many as most lists of them have.
-const MOSTLY: usize = 2;
+/// As many arguments as most calls have.
+const MOSTLY_ARGUMENTS: usize = 2;
+
+/// As many lengths as most brackets have.
+const MOSTLY_LENGTHS: usize = 1;
+
+/// As many statements as a section has room for at first.
+const MOSTLY_STATEMENTS: usize = 8;
 
 /// The most statements of a section.
 const MOST_STATEMENTS: usize = 128;
@@ -89,10 +95,10 @@ fn next_expr(alloc: Global, tokens: &mut Tokens<'_>, count: usize) -> Result<Exp
     whole(alloc, tokens)
 }
 
-fn exprs(alloc: Global, tokens: &mut Tokens<'_>) -> Result<Items<Expr>, ParseError>
+fn exprs(alloc: Global, tokens: &mut Tokens<'_>, room: usize) -> Result<Items<Expr>, ParseError>
     ensures { Reads (spec.exprs all tokens.old) result tokens.new }
 {
-    let mut found = Items::from_vec(Vec::with_capacity(alloc, MOSTLY)?);
+    let mut found = Items::from_vec(Vec::with_capacity(alloc, room)?);
     found.push(whole(alloc, tokens)?)?;
     'more: while tokens.sees(Mark::Comma) {
         let count = found.len();
@@ -118,7 +124,7 @@ fn lengths(
 ) -> Result<Option<Bracket>, ParseError>
     ensures { Reads (spec.lengths all first tokens.old) result tokens.new }
 {
-    let found = exprs(alloc, tokens)?;
+    let found = exprs(alloc, tokens, MOSTLY_LENGTHS)?;
     let last = tokens.expect(Mark::CloseSquare)?;
     Ok(Some(Bracket::Lengths(cover(first, last), found)))
 }
@@ -165,7 +171,7 @@ fn bracket(alloc: Global, tokens: &mut Tokens<'_>) -> Result<Option<Bracket>, Pa
 fn given(alloc: Global, tokens: &mut Tokens<'_>) -> Result<Items<Expr>, ParseError>
     ensures { Reads (spec.given all tokens.old) result tokens.new }
 {
-    let found = exprs(alloc, tokens)?;
+    let found = exprs(alloc, tokens, MOSTLY_ARGUMENTS)?;
     tokens.expect(Mark::Close)?;
     Ok(found)
 }
@@ -318,7 +324,7 @@ pub(crate) fn statements(
 ) -> Result<Items<Item>, ParseError>
     ensures { Reads (spec.statements all only_bound tokens.old) result tokens.new }
 {
-    let mut found = Items::new(alloc);
+    let mut found = Items::from_vec(Vec::with_capacity(alloc, MOSTLY_STATEMENTS)?);
     'more: while !tokens.sees(Mark::CloseBrace) {
         let count = found.len();
         found.push(statement(alloc, tokens, only_bound, count)?)?;

@@ -45,6 +45,16 @@ impl<'a> Tokens<'a> {
         }
     }
 
+    /// The kind of the next token, where what comes after it ends an expression.
+    pub(crate) fn lone(&self) -> Option<Kind>
+        ensures { result ≡ spec.lone self.now }
+    {
+        match self.rest {
+            [first, second, ..] if ends(second.kind) => Some(first.kind),
+            _ => None,
+        }
+    }
+
     fn place(&self) -> Place
         ensures { result ≡ spec.place self.now }
     {
@@ -109,6 +119,19 @@ impl<'a> Tokens<'a> {
         } else {
             Err(self.refusal())
         }
+    }
+}
+
+/// Whether an expression ends before such a token, whatever is after it.
+fn ends(kind: Kind) -> bool
+    ensures { result ≡ spec.ends kind }
+{
+    match kind {
+        Kind::Mark(mark) => match mark {
+            Mark::Comma | Mark::Close | Mark::CloseSquare | Mark::Semicolon => true,
+            _ => false,
+        },
+        _ => false,
     }
 }
 

@@ -10,7 +10,7 @@ use Rattle.fn_tree.proofs.statement.statements.Goals as goal
 
 pub more-init : goal.more-init
 unfolding statements
-more-init c = rw c.new-found.ensures refl
+more-init c = rw (c.from_vec-found.ensures, c.in_ok-with_capacity.ensures.items) refl
 
 pub more-preserved : goal.more-preserved
 more-preserved c =
@@ -23,7 +23,7 @@ more-smaller c = (consumes_statement all c.args.only_bound c.len-count.result).s
 
 pub returns-in_err-statement : goal.returns-in_err-statement
 returns-in_err-statement c =
-    let p = err_from_is_err_and c.from_residual.result c.from_residual.ensures.1 in
+    let p = err_from_is_err_and c.from_residual-in_err-statement.result c.from_residual-in_err-statement.ensures.1 in
     let failed : Fails c.in_err-statement.field-0.0 (statement all c.args.only_bound (length c.more.found) c.more.tokens) =
     subst (λ (n : ℕ). Fails c.in_err-statement.field-0.0 (statement all c.args.only_bound n c.more.tokens)) c.len-count.ensures c.in_err-statement.ensures in
     rw (p.1, p.2, ← c.more.invariant) (many_fails (before m.CloseBrace) (λ found. consumes_statement all c.args.only_bound (length found)) c.more.found c.more.tokens c.in_err-statement.field-0.0 (ap not (sym c.sees.ensures ∙ c.more-test.true)) failed)
