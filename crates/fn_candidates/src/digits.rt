@@ -55,6 +55,15 @@ impl Digits {
         digit
     }
 
+    /// Goes on to the candidate so many places after this one, which shares the digits that were read.
+    pub fn skip(&mut self, numbers: u64)
+        requires within { self.old.rest + numbers < self.old.span }
+        ensures rest { self.new.rest ≡ self.old.rest + numbers }
+        ensures span { self.new.span ≡ self.old.span }
+    {
+        self.rest += numbers;
+    }
+
     /// How many candidates share the digits that were read, from this one on: so many a candidate that fails here takes with it.
     pub fn alike(&self) -> u64
         requires within { self.now.rest < self.now.span }

@@ -27,6 +27,8 @@ pub struct Context {
     places: BTreeMap<String, usize>,
     /// Where a path may stand, which is tried first.
     hints: Hints,
+    /// What `put_in_order` took last, kept for its room.
+    room: Vec<Bits>,
 }
 
 // Clauses see the list of the entries: each path as its octets, and its bits.
@@ -51,6 +53,7 @@ impl Context {
             kept: Vec::new(alloc),
             places: BTreeMap::new(alloc),
             hints: Hints::new(alloc),
+            room: Vec::new(alloc),
         }
     }
 
@@ -85,6 +88,17 @@ impl Context {
         }
     }
 
+    /// An empty list for `put_in_order`. It has the room of the list that was put last, so that a line of packets needs it once.
+    pub fn take_room(&mut self) -> Vec<Bits>
+        ensures empty { result.items ≡ [] }
+        ensures stays { self.new ≡ self.old }
+    {
+        let mut room = Vec::new(*self.kept.allocator());
+        swap(&mut room, &mut self.room);
+        room.clear();
+        room
+    }
+
     /// Puts bits in the first entries, in their order. It takes no memory.
     pub fn put_in_order(&mut self, values: Vec<Bits>)
         ensures { (es : Entries) → IsFront (keys_of self.old) values.items es → self.new ≡ overridden self.old es }
@@ -93,6 +107,7 @@ impl Context {
         for place in 0..values.len() {
             self.exchange(place, &mut values[place]);
         }
+        self.room = values;
     }
 
     /// Puts bits at each path in turn: a path that is there keeps its place, a new one goes last, and of two entries for one

@@ -3,13 +3,8 @@ use Rattle.std.proofs.Common.{◌≡◌, ◌∙◌, refl, sym, ap, ℕ, ◌+◌,
 use Rattle.std.specs.Prelude.{Some, None, slice_get, ◌↔◌}
 use Rattle.fn_filling.specs.declared.filling.AskedValue.{AskedValue}
 use Rattle.fn_filling.specs.declared.filling.FilledField.{FilledField}
-use Rattle.fn_filling.specs.Fillings.{Sides, sides_of, asked_values}
-use Rattle.fn_engine.specs.Searching.{value_of}
-
-drop_at : {X : Type 0} (xs : List X) (i : ℕ) (x : X) → slice_get xs i ≡ Some x → drop i xs ≡ x ∷ drop (suc i) xs
-drop_at [] i x e = absurd (cc)
-drop_at (y ∷ ys) zero x e = let same : y ≡ x = cc in ap (λ z. z ∷ ys) same
-drop_at (y ∷ ys) (suc i) x e = drop_at ys i x e
+use Rattle.fn_filling.specs.Fillings.{sides_of, asked_values, value_of}
+use Rattle.fn_filling.proofs.FillingsAsked.{asked_more, drop_at}
 
 -- where an element isn't there, no more are left
 left_none : {X : Type 0} (xs : List X) (i : ℕ) → slice_get xs i ≡ None → drop i xs ≡ []
@@ -37,32 +32,17 @@ values_end whole gs i values place over same =
     let none : asked_values (map sides_of (drop i gs)) ≡ [] = ap (λ z. asked_values (map sides_of z)) (drop_over gs i over) in
     (λ e. same.1 (none ∙ sym (left_none values place e)), λ w. none_left values place (sym (same.0 w) ∙ none))
 
-abbrev value_in : Sides → AskedValue
-value_in s = record { name = s.declared.name; bits = s.uncompressed }
-
-asked_step : (s : Sides) (ss : List Sides) (b : Bool) → s.declared.asked ≡ b → asked_values (s ∷ ss) ≡ cond b (value_in s ∷ asked_values ss) (asked_values ss)
-asked_step s ss b is = ap (λ t. map value_in (cond t (s ∷ filter (λ (x : Sides). x.declared.asked) ss) (filter (λ (x : Sides). x.declared.asked) ss))) is ∙ by b
-  where
-    by : (t : Bool) → map value_in (cond t (s ∷ filter (λ (x : Sides). x.declared.asked) ss) (filter (λ (x : Sides). x.declared.asked) ss)) ≡ cond t (value_in s ∷ asked_values ss) (asked_values ss)
-    by true = refl
-    by false = refl
-
 module _ (gs : List FilledField) (i : ℕ) (g : FilledField) (at : slice_get gs i ≡ Some g) where
-  asked_more : (b : Bool) → (sides_of g).declared.asked ≡ b → asked_values (map sides_of (drop i gs)) ≡ cond b (value_of g ∷ asked_values (map sides_of (drop (i + 1) gs))) (asked_values (map sides_of (drop (i + 1) gs)))
-  asked_more b is =
-      let one : suc i ≡ i + 1 = sym (add-one i) in
-      ap (λ z. asked_values (map sides_of z)) (drop_at gs i g at ∙ ap (λ n. g ∷ drop n gs) one) ∙ asked_step (sides_of g) (map sides_of (drop (i + 1) gs)) b is
-
   module _ (whole : Type 0) (values : List AskedValue) (place : ℕ) (same : whole ↔ (asked_values (map sides_of (drop i gs)) ≡ drop place values)) where
     -- a field that isn't asked
     pub value_past : (sides_of g).declared.asked ≡ false → whole ↔ (asked_values (map sides_of (drop (i + 1) gs)) ≡ drop place values)
-    value_past is = let more = asked_more false is in (λ w. sym more ∙ same.0 w, λ e. same.1 (more ∙ e))
+    value_past is = let more = asked_more gs i g at false is in (λ w. sym more ∙ same.0 w, λ e. same.1 (more ∙ e))
 
     -- one whose value comes next
     pub value_on : (sides_of g).declared.asked ≡ true → slice_get values place ≡ Some (value_of g) → whole ↔ (asked_values (map sides_of (drop (i + 1) gs)) ≡ drop (place + 1) values)
     value_on is next =
         let one : suc place ≡ place + 1 = sym (add-one place) in
-        let more = asked_more true is in
+        let more = asked_more gs i g at true is in
         let left = drop_at values place (value_of g) next ∙ ap (λ n. value_of g ∷ drop n values) one in (
           λ w. let e : value_of g ∷ asked_values (map sides_of (drop (i + 1) gs)) ≡ value_of g ∷ drop (place + 1) values = sym more ∙ same.0 w ∙ left in cc,
           λ e. same.1 (more ∙ ap (λ z. value_of g ∷ z) e ∙ sym left),
@@ -70,7 +50,7 @@ module _ (gs : List FilledField) (i : ℕ) (g : FilledField) (at : slice_get gs 
 
     -- one whose value doesn't
     pub value_off : (sides_of g).declared.asked ≡ true → (slice_get values place ≡ Some (value_of g) → ⊥) → whole → ⊥
-    value_off is wrong w = wrong (front_is values place (value_of g) (asked_values (map sides_of (drop (i + 1) gs))) (sym (same.0 w) ∙ asked_more true is))
+    value_off is wrong w = wrong (front_is values place (value_of g) (asked_values (map sides_of (drop (i + 1) gs))) (sym (same.0 w) ∙ asked_more gs i g at true is))
       where
         front_is : {X : Type 0} (xs : List X) (n : ℕ) (x : X) (rest : List X) → drop n xs ≡ x ∷ rest → slice_get xs n ≡ Some x
         front_is [] zero x rest e = absurd (cc)

@@ -8,7 +8,7 @@ pub use interval::{Interval, RANGE_LIMIT};
 pub use known::{Known, Numbers, SideNumbers};
 pub use ranges::{Intervals, Ranges, SideIntervals, condition_fault, range};
 pub use valuation::Valuation;
-pub use values::{calculate, compares, decide, value};
+pub use values::{calculate, compares, decide, operand, value};
 
 pub mod expr;
 pub mod fault;

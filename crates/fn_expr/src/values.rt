@@ -27,6 +27,20 @@ pub fn value<V: Valuation>(expr: &Expr, known: &V) -> Option<i128>
     }
 }
 
+/// The same; most expressions are a number or a parameter, which take no call.
+#[inline(always)]
+pub fn operand<V: Valuation>(expr: &Expr, known: &V) -> Option<i128>
+    requires ready { V.is_ready known.now }
+    requires ranged { IsRanged (V.assignment known.now) expr.now }
+    ensures { result ≡ val (V.assignment known.now) expr.now }
+{
+    match expr {
+        Expr::Number(_, number) => Some(*number),
+        Expr::Parameter(_, index) => known.parameter(*index),
+        _ => value(expr, known),
+    }
+}
+
 /// Whether a condition holds, where it has a value.
 /// It is asked where `range` accepts each expression of whole numbers in it, for ranges in which the known numbers lie.
 pub fn decide<V: Valuation>(cond: &Cond, known: &V) -> Option<bool>
@@ -37,8 +51,8 @@ pub fn decide<V: Valuation>(cond: &Cond, known: &V) -> Option<bool>
     match cond {
         Cond::Constant(_, holds) => Some(*holds),
         Cond::Compare(_, comparison, left, right) => {
-            let left = value(left, known)?;
-            let right = value(right, known)?;
+            let left = operand(left, known)?;
+            let right = operand(right, known)?;
             Some(compares(*comparison, left, right))
         }
         Cond::Not(_, inner) => {
@@ -73,6 +87,7 @@ pub fn compares(comparison: Comparison, left: i128, right: i128) -> bool
 }
 
 /// What the operator makes of the two numbers, where it makes one. It is asked where this is within 128 bits.
+#[inline(never)]
 pub fn calculate(operator: Operator, left: i128, right: i128) -> Option<i128>
     requires { IsCalculable operator left right }
     ensures { result ≡ apply operator left right }

@@ -56,6 +56,10 @@ packed f = packed_bits (listing_of f) (level f)
 abbrev pub asked_values : List Sides → List AskedValue
 asked_values fs = map (λ s. record { name = s.declared.name; bits = s.uncompressed }) (filter (λ s. s.declared.asked) fs)
 
+-- the value that a field has in a filling: its name with its uncompressed side
+abbrev pub value_of : FilledField → AskedValue
+value_of g = record { name = (sides_of g).declared.name; bits = (sides_of g).uncompressed }
+
 -- the header and the values of the asked fields
 abbrev pub item : Filling → Item
 item f = record { header = header f; asked = asked_values (level f) }

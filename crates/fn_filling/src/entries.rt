@@ -148,14 +148,18 @@ fn add_last(
 }
 
 /// The bits of the entries that a filling leaves, where the first entries of the context have their paths, in their order. So they are put there without a path.
+/// They stand in the room, which is an empty list.
 fn values_in_order(
     alloc: Global,
+    room: Vec<Bits>,
     context: &Context,
     filling: &Filling,
 ) -> Result<Option<Vec<Bits>>, AllocError>
+    requires { room.items ≡ [] }
     ensures { IfOk result (λ o. IfSome o (λ values. IsFront (keys_of context.now) values.items (entries filling.now))) }
 {
-    let mut values = Vec::with_capacity(alloc, context.len().min(MANY))?;
+    let mut values = room;
+    values.reserve(context.len().min(MANY))?;
     if !add_in_order(alloc, &mut values, context, filling, "")? {
         return Ok(None);
     }
@@ -253,7 +257,8 @@ pub fn advance(alloc: Global, context: &mut Context, filling: &Filling) -> Resul
     ensures ok { OnOk result (context.new ≡ next context.old filling.now) }
     ensures err { OnErr result (context.new ≡ context.old) }
 {
-    if let Some(values) = values_in_order(alloc, context, filling)? {
+    let room = context.take_room();
+    if let Some(values) = values_in_order(alloc, room, context, filling)? {
         context.put_in_order(values);
         return Ok(());
     }

@@ -1,6 +1,6 @@
 //! The two sides of a whole filling, and of what its format covers.
 
-ghost use Rattle.std.specs.Prelude.{◌≡◌, ◌≤◌, ◌^◌, ◌<◌, ◌↔◌, IsTrue, IfOk, MatchOption, length};
+ghost use Rattle.std.specs.Prelude.{◌≡◌, ◌≢◌, [], ◌≤◌, ◌^◌, ◌<◌, ◌↔◌, IsTrue, IfOk, MatchOption, length};
 ghost use Rattle.std.specs.Option.{option_copied};
 ghost use Rattle.fn_context.specs.Entries.{bits_at};
 ghost use Rattle.fn_filling.specs.Entries.{below};
@@ -91,6 +91,7 @@ pub fn reference_of<'a>(context: &'a Context, field: &'a Field, path: &str) -> O
 }
 
 /// The reference of a field below a path, which is empty at the top, likewise. No path is made for a field of the top, and a short one takes no memory. The error is want of memory.
+#[inline(always)]
 pub fn reference_below<'a>(
     alloc: Global,
     context: &'a Context,
@@ -99,10 +100,25 @@ pub fn reference_below<'a>(
 ) -> Result<Option<&'a Bits>, AllocError>
     ensures { IfOk result (λ o. option_copied o ≡ spec.reference_of field.now.declared.part (bits_at context.now) (below path.now field.now.declared.name) field.now.initial) }
 {
-    let name = field.declared.name.as_str();
     if path.is_empty() {
+        let name = field.declared.name.as_str();
         return Ok(reference_of(context, field, name));
     }
+    reference_inside(alloc, context, path, field)
+}
+
+/// The same below a path that isn't empty.
+#[inline(never)]
+fn reference_inside<'a>(
+    alloc: Global,
+    context: &'a Context,
+    path: &str,
+    field: &'a Field,
+) -> Result<Option<&'a Bits>, AllocError>
+    requires { path.now ≢ [] }
+    ensures { IfOk result (λ o. option_copied o ≡ spec.reference_of field.now.declared.part (bits_at context.now) (below path.now field.now.declared.name) field.now.initial) }
+{
+    let name = field.declared.name.as_str();
     if path.len().saturating_add(name.len()) < SHORT {
         let mut here = ArrayString::<SHORT>::new();
         here.push_str(path);

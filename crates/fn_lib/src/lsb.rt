@@ -76,6 +76,7 @@ pub fn lsb_down(
 }
 
 /// The last bits of a number, as many as said, or `None` where that is below 0 or above 64.
+#[inline(always)]
 pub fn low_bits(alloc: Global, count: i128, value: u64) -> Result<Option<Bits>, AllocError>
     ensures { IfOk result (IsOnly (IsLowPart count value)) }
 {

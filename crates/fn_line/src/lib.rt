@@ -4,7 +4,7 @@
 pub use fault::LineFault;
 pub use flow::{Flow, LineVersion};
 pub use receiver::Receiver;
-pub use runs::{Event, Received, RunFault, receive, run};
+pub use runs::{Event, RunFault, run};
 pub use sender::Sender;
 
 pub mod fault;

@@ -11,7 +11,7 @@ use crate::unfinished::Unfinished;
 use fn_accepted::Accepted;
 use fn_bits::{Bits, Cursor};
 use fn_context::Context;
-use fn_engine::{UnpackFault, Unpacked, most_octets, unpack_drawn, unpack_filling};
+use fn_engine::{UnpackFault, Unpacked, item_of, most_octets, unpack_drawn, unpack_filling};
 use fn_filling::{Item, advance};
 use std::alloc::{AllocError, Global};
 
@@ -48,7 +48,12 @@ fn try_packet(
             if !is_zero(&cursor) {
                 return Err(LineFault::Padding);
             }
-            let Unpacked { item, filling, .. } = read;
+            let Unpacked {
+                header,
+                filling,
+                ..
+            } = read;
+            let item = item_of(alloc, &filling, header)?;
             advance(alloc, context, &filling)?;
             Ok(Some(item))
         }
@@ -85,7 +90,12 @@ fn whole_packet(
     let Some(_own) = Bits::from_octets(alloc, &octets[..count], read.bits)? else {
         return Ok(None);
     };
-    let Unpacked { item, filling, .. } = read;
+    let Unpacked {
+        header,
+        filling,
+        ..
+    } = read;
+    let item = item_of(alloc, &filling, header)?;
     advance(alloc, context, &filling)?;
     Ok(Some((item, count)))
 }

@@ -6,9 +6,7 @@ ghost use Rattle.fn_line.specs.Lines.{no_entries};
 ghost use Rattle.fn_line.specs.States.{IsNotPut, IsPut};
 ghost use Rattle.fn_line.specs.Runs.{event_of, ArePut, IsRun, IsReceived, BlamesRun, run_fault};
 
-use crate::fault::LineFault;
 use crate::flow::{Flow, LineVersion};
-use crate::receiver::Receiver;
 use crate::sender::Sender;
 use fn_accepted::Accepted;
 use fn_engine::PackFault;
@@ -39,13 +37,6 @@ impl From<AllocError> for RunFault {
     fn from(_error: AllocError) -> RunFault {
         RunFault::OutOfMemory
     }
-}
-
-/// What is received of octets: items with their flows, and the fault that ends them, if there is one.
-#[derive(Drop)]
-pub struct Received {
-    pub items: Vec<(Flow, Item)>,
-    pub fault: Option<LineFault>,
 }
 
 /// Puts one event on the line.
@@ -102,34 +93,5 @@ pub fn run(
     match put_all(&mut sender, events, &mut octets) {
         Ok(()) => Ok(octets),
         Err(fault) => Err(fault),
-    }
-}
-
-/// What a new receiver hears of all octets of a line, and at their end.
-pub fn receive(
-    alloc: Global,
-    accepted: &Accepted,
-    version: LineVersion,
-    octets: &[u8],
-) -> Result<Received, AllocError>
-    ensures { IfOk result (λ r. IsReceived accepted.now version octets.now r.items.items r.fault) }
-{
-    let mut items = Vec::new(alloc);
-    let mut receiver = Receiver::new(alloc, accepted, version)?;
-    match receiver.feed(octets, &mut items) {
-        Ok(()) => match receiver.finish() {
-            Ok(()) => Ok(Received { items, fault: None }),
-            Err(fault) => Ok(Received {
-                items,
-                fault: Some(fault),
-            }),
-        },
-        Err(fault) => match fault {
-            LineFault::OutOfMemory => Err(AllocError),
-            _ => Ok(Received {
-                items,
-                fault: Some(fault),
-            }),
-        },
     }
 }

@@ -10,7 +10,7 @@ ghost use Rattle.fn_fits.specs.Level.{AllRanged};
 
 use crate::constraints::constraints_hold;
 use crate::level::{Level, level_of};
-use crate::numbers::{Seen, values_in};
+use crate::numbers::{Seen, add_values};
 use crate::plain::{is_bare, is_coded};
 use fn_bits::Bits;
 use fn_context::Context;
@@ -20,6 +20,7 @@ use fn_fits::WholeSides;
 use fn_fits::whole_sides::{header_of, is_header, is_packed, packed_of};
 use fn_normal::{Encoding, Field};
 use fn_profile::Profile;
+use smallvec::SmallVec;
 use std::alloc::{AllocError, Global};
 
 /// Whether the filling fits the method of the profile, under these arguments, below the path and in this context.
@@ -291,9 +292,10 @@ fn call_holds(
     requires lie { ValuesLieAt profile.now known.now method arguments.now }
     ensures { IfOk result (λ b. IsTrue b ↔ IsCalled profile.now.methods (bits_at context.now) path.now (assignment_of known.now) field.now method arguments.now filled.now) }
 {
-    let Some(values) = values_in(alloc, arguments, known)? else {
+    let mut values = SmallVec::<i128, 4>::new(alloc);
+    if !add_values(arguments, known, &mut values)? {
         return Ok(false);
-    };
+    }
     let here = FieldPath::of(alloc, path, field.declared.name.as_str())?;
     inner_holds(
         alloc,

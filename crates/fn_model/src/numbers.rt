@@ -1,6 +1,6 @@
 //! The numbers of a level, read off where an expression asks for them.
 
-ghost use Rattle.std.specs.Prelude.{◌≡◌, ◌↔◌, IsTrue, IfOk, Some, map};
+ghost use Rattle.std.specs.Prelude.{◌≡◌, ◌↔◌, [], IsTrue, IfOk, Some, None, false, map};
 ghost use Rattle.fn_expr.specs.Known.{assignment_of, measured, numbers_at, side_numbers};
 ghost use Rattle.fn_expr.specs.Spread.{IsRanged};
 ghost use Rattle.fn_expr.specs.Values.{val};
@@ -10,10 +10,10 @@ ghost use Rattle.fn_fits.specs.Numbers as fits;
 ghost use Rattle.fn_fits.specs.Level as spec;
 
 use fn_bits::Bits;
-use fn_expr::{Attribute, Expr, Measure, Side, Subject, Valuation, value};
+use fn_expr::{Attribute, Expr, Measure, Side, Subject, Valuation, operand};
 use fn_filling::Filling;
-use sqlite_items::Items;
-use std::alloc::{AllocError, Global};
+use smallvec::SmallVec;
+use std::alloc::AllocError;
 use std::marker::Model;
 
 /// The numbers of the fields, of the whole and of the arguments.
@@ -108,15 +108,21 @@ fn number_of(bits: &Bits, measure: Measure) -> Option<i128>
     }
 }
 
-/// The value of an expression, where it has one. Most are plain numbers.
+/// The value of an expression, where it has one.
 pub(crate) fn number_in(expression: &Expr, seen: &Seen<'_>) -> Option<i128>
     requires { IsRanged (assignment_of seen.now) expression.now }
     ensures { result ≡ val (assignment_of seen.now) expression.now }
 {
-    match expression {
-        Expr::Number(_, own) => Some(*own),
-        _ => value(expression, seen),
-    }
+    operand(expression, seen)
+}
+
+/// Whether the expression, which is no plain number, has that value.
+#[inline(never)]
+fn comes_to(expression: &Expr, seen: &Seen<'_>, number: i128) -> bool
+    requires { IsRanged (assignment_of seen.now) expression.now }
+    ensures { IsTrue result ↔ (val (assignment_of seen.now) expression.now ≡ Some number) }
+{
+    operand(expression, seen) == Some(number)
 }
 
 /// Whether the expression has that value.
@@ -127,25 +133,26 @@ pub(crate) fn is_number(expression: &Expr, seen: &Seen<'_>, number: i128) -> boo
 {
     match expression {
         Expr::Number(_, own) => *own == number,
-        _ => value(expression, seen) == Some(number),
+        _ => comes_to(expression, seen, number),
     }
 }
 
-/// The values of several expressions, where each has one.
-pub(crate) fn values_in(
-    alloc: Global,
+/// Makes an empty list that of the values of several expressions. Whether each of them has one.
+pub(crate) fn add_values(
     expressions: &[Expr],
     seen: &Seen<'_>,
-) -> Result<Option<Items<i128>>, AllocError>
-    requires { spec.AllRanged seen.now expressions.now }
-    ensures { IfOk result (λ o. o ≡ vals (assignment_of seen.now) expressions.now) }
+    values: &mut SmallVec<i128, 4>,
+) -> Result<bool, AllocError>
+    requires ranged { spec.AllRanged seen.now expressions.now }
+    requires empty { values.old.items ≡ [] }
+    ensures all { IfOk result (λ all. IsTrue all → vals (assignment_of seen.now) expressions.now ≡ Some values.new.items) }
+    ensures none { IfOk result (λ all. all ≡ false → vals (assignment_of seen.now) expressions.now ≡ None) }
 {
-    let mut values = Items::new(alloc);
     for expression in expressions {
         let Some(number) = number_in(expression, seen) else {
-            return Ok(None);
+            return Ok(false);
         };
         values.push(number)?;
     }
-    Ok(Some(values))
+    Ok(true)
 }

@@ -7,3 +7,4 @@ pub mod CallersRows
 pub mod WeightsLemmas
 pub mod CallersAgreeing
 pub mod MagnitudeLemmas
+pub mod ConstantsLemmas

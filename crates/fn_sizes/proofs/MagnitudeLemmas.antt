@@ -28,7 +28,7 @@ use Rattle.fn_bounds.specs.Ranging.{side_ranges, intervals_of}
 use Rattle.fn_normal.specs.declared.profile.Format.{Format}
 use Rattle.fn_normal.specs.Judging.{earlier}
 use Rattle.fn_bounds.specs.Faults.{side_bounds, is_wide_by, wide_in, wide_value}
-use Rattle.fn_sizes.specs.Magnitude.{bounding, LiesUpTo, IsUpTo, HasRange, IsFound, IsNarrow, Combines, Reaches}
+use Rattle.fn_sizes.specs.Magnitude.{bounding, LiesUpTo, IsUpTo, HasRange, IsFound, IsNarrow, Combines, Reaches, ReachesBeyond, HasOperands, TakesOn}
 
 size-of : (m : ℕ) (z : ℤ) → LiesUpTo m z → unsigned_abs z ≤ m
 size-of m (pos n) h = omega (arith, ints, h.high)
@@ -185,3 +185,51 @@ binary-reaches o s parameters at op e x y l r wide is left right h =
           let joined = k.joins at (ranged (bounding s parameters) x) (ranged (bounding s parameters) y) left.ranged right.ranged in
           record { range = joined.range; is = is ∙ joined.is; up_to = joined.up_to };
     })
+
+-- ---- a long sum
+
+both-reach : (s : FormatSizes) (parameters : List Interval) (op : Operator) (e x y : Expr) (l r m : ℕ)
+    → HasOperands s parameters op e x y → Reaches s parameters x l → Reaches s parameters y r → Combines op l r m → Reaches s parameters e m
+both-reach s parameters op e x y l r m has left right k =
+    record {
+      wide = λ format. has.wide format ∙ (λ i. earlier (left.wide format i) (right.wide format i));
+      ranged =
+          let joined = k.joins has.at (ranged (bounding s parameters) x) (ranged (bounding s parameters) y) left.ranged right.ranged in
+          record { range = joined.range; is = has.ranged_is ∙ joined.is; up_to = joined.up_to };
+    }
+
+adds : (l r : ℕ) → l + r ≤ 2 ^ 120 → Combines Add l r (l + r)
+adds l r h = joined-range Add l r (l + r) (λ i j. refl) (λ i j u v. up-by (l + r) (l + r) (rule Add i j) refl h (add-spans l r i j u v))
+
+subtracts : (l r : ℕ) → l + r ≤ 2 ^ 120 → Combines Subtract l r (l + r)
+subtracts l r h = joined-range Subtract l r (l + r) (λ i j. refl) (λ i j u v. up-by (l + r) (l + r) (rule Subtract i j) refl h (subtract-spans l r i j u v))
+
+takes-on : (op : Operator) (y : Expr) (n r k : ℕ) → ((l : ℕ) → l + r ≤ 2 ^ 120 → Combines op l r (l + r)) → ((s : FormatSizes) (parameters : List Interval) → Reaches s parameters y r) → k ≡ n + r → TakesOn op n y k
+takes-on op y n r k combines right same =
+    record {
+      on = λ s parameters e x m has b.
+          let a = b.sum in
+          let limit = b.limit in
+          let within : b.part + r ≤ 2 ^ 120 = omega (arith, same, a, limit) in
+          record {
+            part = b.part + r;
+            reaches = both-reach s parameters op e x y b.part r (b.part + r) has b.reaches (right s parameters) (combines b.part within);
+            sum = omega (arith, same, a);
+            limit = limit;
+          };
+    }
+
+pub with-sum : (o : Option ℕ) (y : Expr) (n r : ℕ) → ((s : FormatSizes) (parameters : List Interval) → Reaches s parameters y r) → IfSome o (λ m. (m ≡ n + r) × (m ≤ 2 ^ 120)) → IfSome o (TakesOn Add n y)
+with-sum o y n r right h = IfSome_then o h (λ k e. takes-on Add y n r k (λ l. adds l r) right e.0)
+
+pub with-difference : (o : Option ℕ) (y : Expr) (n r : ℕ) → ((s : FormatSizes) (parameters : List Interval) → Reaches s parameters y r) → IfSome o (λ m. (m ≡ n + r) × (m ≤ 2 ^ 120)) → IfSome o (TakesOn Subtract n y)
+with-difference o y n r right h = IfSome_then o h (λ k e. takes-on Subtract y n r k (λ l. subtracts l r) right e.0)
+
+-- what is left and the number are the whole
+pub at-last : (o : Option ℕ) (s : FormatSizes) (parameters : List Interval) (e x : Expr) (n l : ℕ)
+    → ((m : ℕ) → ReachesBeyond s parameters x n m → ReachesBeyond s parameters e 0 m) → Reaches s parameters x l → IfSome o (λ m. (m ≡ l + n) × (m ≤ 2 ^ 120)) → IfSome o (Reaches s parameters e)
+at-last o s parameters e x n l on left h =
+    IfSome_then o h (λ m k.
+    let all = on m (record { part = l; reaches = left; sum = k.0; limit = k.1 }) in
+    let whole : all.part ≡ m = (let a = all.sum in omega (arith, a)) in
+    subst (Reaches s parameters e) whole all.reaches)

@@ -1,5 +1,5 @@
 -- How far from 0 an expression may reach, where its range is seen to be within the limit.
-use Rattle.std.specs.Prelude.{◌≡◌, ℕ, ◌≤◌, ◌^◌, ℤ, pos, neg_ℤ, ◌≤ℤ◌, false, List, None, Result, Ok}
+use Rattle.std.specs.Prelude.{◌≡◌, ℕ, ◌+◌, ◌≤◌, ◌^◌, ℤ, pos, neg_ℤ, ◌≤ℤ◌, false, List, None, Result, Ok}
 use Rattle.fn_source.specs.declared.span.Span.{Span}
 use Rattle.fn_expr.specs.declared.expr.Attribute.{Attribute}
 use Rattle.fn_expr.specs.declared.expr.Subject.{Subject}
@@ -66,3 +66,20 @@ pub record PowerReaches (base exponent : Expr) (m : ℕ) : Type 0 where
 pub record Reaches (s : FormatSizes) (parameters : List Interval) (e : Expr) (m : ℕ) : Type 0 where
   pub wide : (format : Format) → wide_in format s e ≡ None
   pub ranged : HasRange (ranged (bounding s parameters) e) m
+
+-- so far the expression reaches, and n further
+pub record ReachesBeyond (s : FormatSizes) (parameters : List Interval) (e : Expr) (n m : ℕ) : Type 0 where
+  pub part : ℕ
+  pub reaches : Reaches s parameters e part
+  pub sum : m ≡ part + n
+  pub limit : m ≤ 2 ^ 120
+
+-- the expression has these operands
+pub record HasOperands (s : FormatSizes) (parameters : List Interval) (op : Operator) (e x y : Expr) : Type 0 where
+  pub at : Span
+  pub wide : (format : Format) → wide_in format s e ≡ earlier (wide_in format s x) (wide_in format s y)
+  pub ranged_is : ranged (bounding s parameters) e ≡ both_ranged (joined at op) (ranged (bounding s parameters) x) (ranged (bounding s parameters) y)
+
+-- what reaches k beyond the left operand reaches n beyond the whole
+pub record TakesOn (op : Operator) (n : ℕ) (y : Expr) (k : ℕ) : Type 0 where
+  pub on : (s : FormatSizes) (parameters : List Interval) (e x : Expr) (m : ℕ) → HasOperands s parameters op e x y → ReachesBeyond s parameters x k m → ReachesBeyond s parameters e n m

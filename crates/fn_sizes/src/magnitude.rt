@@ -158,6 +158,42 @@ fn small_reach(expr: &Expr) -> Option<u64>
     }
 }
 
+/// The same, where in a long sum the operands on the right are literals, and one after the other is added up.
+fn sum_reach(expr: &Expr) -> Option<u64>
+    ensures { (sizes : FormatSizes) (parameters : List Interval) → IfSome result (spec.Reaches sizes parameters expr.now) }
+{
+    let mut rest = expr;
+    let mut number = 0;
+    'operand: while let Expr::Binary(_, operator, left, right) = rest {
+        let Some(next) = with_operand(*operator, number, right) else {
+            break;
+        };
+        number = next;
+        rest = left;
+    }
+    small_sum(small_reach(rest)?, number)
+}
+
+/// The number with that of an operand on the right, where this is a literal that is added or taken away.
+fn with_operand(operator: Operator, number: u64, right: &Expr) -> Option<u64>
+    ensures { IfSome result (spec.TakesOn operator number right.now) }
+{
+    match operator {
+        Operator::Add => small_sum(number, literal_reach(right)?),
+        Operator::Subtract => small_sum(number, literal_reach(right)?),
+        Operator::Multiply | Operator::Divide | Operator::Remainder | Operator::Power => None,
+    }
+}
+
+fn literal_reach(expr: &Expr) -> Option<u64>
+    ensures { (sizes : FormatSizes) (parameters : List Interval) → IfSome result (spec.Reaches sizes parameters expr.now) }
+{
+    match expr {
+        Expr::Number(_, number) => u64::try_from(number.unsigned_abs()).ok(),
+        Expr::Parameter(_, _) | Expr::Attribute(_, _) | Expr::Binary(_, _, _, _) => None,
+    }
+}
+
 /// How far from 0 the values of an expression may be, by its parts. None where that is not seen, or where it may have a fault.
 pub(crate) fn reach(sizes: &FormatSizes, parameters: &[Interval], expr: &Expr) -> Option<u128>
     ensures { IfSome result (spec.Reaches sizes.now parameters.now expr.now) }
@@ -181,7 +217,7 @@ pub(crate) fn reach(sizes: &FormatSizes, parameters: &[Interval], expr: &Expr) -
 pub(crate) fn reached(sizes: &FormatSizes, parameters: &[Interval], expr: &Expr) -> Option<u128>
     ensures { IfSome result (spec.Reaches sizes.now parameters.now expr.now) }
 {
-    match small_reach(expr) {
+    match sum_reach(expr) {
         Some(size) => Some(size as u128),
         None => reach(sizes, parameters, expr),
     }

@@ -23,8 +23,38 @@ pub(crate) fn begin_level<'a>(
 ) -> Result<Sheet<'a>, Stop> {
     let mut fields = Vec::with_capacity(alloc, format.fields.len())?;
     for (field, beginning) in format.fields.as_slice().iter().zip(beginnings) {
-        let sides = sides_of(alloc, desk, field, beginning, source, from)?;
-        add(alloc, &mut fields, &field.declared, sides)?;
+        let (uncompressed, compressed) = match beginning {
+            Beginning::Constants {
+                uncompressed,
+                compressed,
+            } => (bits_of(alloc, *uncompressed)?, bits_of(alloc, *compressed)?),
+            Beginning::Taken {
+                place,
+                count,
+                side,
+                copies,
+            } => {
+                let count = count_of(desk, *count)?;
+                let bits = bits_of(alloc, taken(source, from, *place, count)?)?;
+                let other = if *copies {
+                    bits.copy(alloc)?
+                } else {
+                    Bits::new(alloc)
+                };
+                match side {
+                    Side::Uncompressed => (bits, other),
+                    Side::Compressed => (other, bits),
+                }
+            }
+            Beginning::Raised { .. } | Beginning::Lowered { .. } => {
+                let begun = referred(alloc, desk, field, beginning, source, from)?;
+                (
+                    bits_of(alloc, begun.uncompressed)?,
+                    bits_of(alloc, begun.compressed)?,
+                )
+            }
+        };
+        add(&mut fields, &field.declared, uncompressed, compressed)?;
     }
     Ok(Sheet {
         format,
@@ -42,43 +72,6 @@ struct Begun {
     compressed: Spelled,
 }
 
-/// The sides with which a field begins. The error is Nowhere or want of memory.
-fn sides_of(
-    alloc: Global,
-    desk: &Desk<'_>,
-    field: &Field,
-    beginning: &Beginning,
-    source: &Cursor<'_>,
-    from: usize,
-) -> Result<Begun, Stop> {
-    match beginning {
-        Beginning::Constants {
-            uncompressed,
-            compressed,
-        } => Ok(Begun {
-            uncompressed: *uncompressed,
-            compressed: *compressed,
-        }),
-        Beginning::Taken {
-            place,
-            count,
-            side,
-            copies,
-        } => {
-            let count = count_of(desk, *count)?;
-            Ok(on_side(taken(source, from, *place, count)?, *side, *copies))
-        }
-        Beginning::Raised { .. } | Beginning::Lowered { .. } => {
-            referred(alloc, desk, field, beginning, source, from)
-        }
-    }
-}
-
-const NOTHING: Spelled = Spelled {
-    count: 0,
-    number: 0,
-};
-
 /// How many bits that is, where a number or a parameter tells it. The error is Nowhere.
 fn count_of(desk: &Desk<'_>, count: Count) -> Result<usize, Stop> {
     match count {
@@ -93,25 +86,6 @@ fn taken(source: &Cursor<'_>, from: usize, place: usize, count: usize) -> Result
     match source.peek(from.saturating_add(place), count) {
         Some(number) => Ok(Spelled { count, number }),
         None => Err(Stop::Nowhere),
-    }
-}
-
-fn on_side(taken: Spelled, side: Side, copies: bool) -> Begun {
-    if copies {
-        return Begun {
-            uncompressed: taken,
-            compressed: taken,
-        };
-    }
-    match side {
-        Side::Uncompressed => Begun {
-            uncompressed: taken,
-            compressed: NOTHING,
-        },
-        Side::Compressed => Begun {
-            uncompressed: NOTHING,
-            compressed: taken,
-        },
     }
 }
 
@@ -179,16 +153,17 @@ fn spelling_of(bits: Option<Bits>) -> Result<Spelled, Stop> {
 }
 
 /// Adds a field with these sides.
+#[inline(always)]
 fn add(
-    alloc: Global,
     fields: &mut Vec<FilledField>,
     declared: &Declared,
-    begun: Begun,
+    uncompressed: Bits,
+    compressed: Bits,
 ) -> Result<(), Stop> {
     let filled = FilledField {
         declared: copy_of(declared)?,
-        uncompressed: bits_of(alloc, begun.uncompressed)?,
-        compressed: bits_of(alloc, begun.compressed)?,
+        uncompressed,
+        compressed,
         inner: None,
     };
     match fields.push(filled) {

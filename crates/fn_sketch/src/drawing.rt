@@ -5,7 +5,7 @@ use crate::level::Sheet;
 use crate::no_sketch::Stop;
 use crate::place::{Desk, Digits, Goal};
 use crate::steps::act;
-use crate::values::values;
+use crate::values::add_values;
 use fn_accepted::Accepted;
 use fn_acts::Act;
 use fn_bits::Cursor;
@@ -13,6 +13,7 @@ use fn_context::Context;
 use fn_filling::{AskedValue, Filling, Item, below};
 use fn_normal::Encoding;
 use fn_profile::DEPTH_LIMIT;
+use smallvec::SmallVec;
 use sqlite_items::at;
 use std::alloc::{AllocError, Global};
 
@@ -165,16 +166,15 @@ fn call(
     let Encoding::Call { method, arguments } = coded.encoding.get() else {
         return Err(Stop::Nowhere);
     };
-    let Some(arguments) = values(alloc, sheet, arguments.as_slice())? else {
-        return Err(Stop::Nowhere);
-    };
+    let mut values = SmallVec::<i128, 4>::new(alloc);
+    add_values(alloc, sheet, arguments.as_slice(), &mut values)?;
     let inside = Inside {
         method: *method,
         field,
         takes,
     };
     let (accepted, context) = (desk.accepted, desk.context);
-    let (arguments, name) = (arguments.as_slice(), coded.declared.name.as_str());
+    let (arguments, name) = (values.as_slice(), coded.declared.name.as_str());
     let filling = if desk.path.is_empty() {
         draw_inside(
             depth, alloc, accepted, context, arguments, name, sheet, goal, inside, source,

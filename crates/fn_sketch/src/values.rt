@@ -1,11 +1,12 @@
 //! The values of expressions by a sketch.
 
 use crate::level::Sheet;
+use crate::no_sketch::Stop;
 use fn_bits::Bits;
 use fn_expr::{Attribute, Expr, Measure, Operator, Side, Subject};
 use fn_normal::Part;
 use smallvec::SmallVec;
-use std::alloc::{AllocError, Global};
+use std::alloc::Global;
 
 /// The value of an expression, if one is found by what was drawn so far.
 pub(crate) fn value(alloc: Global, sheet: &Sheet<'_>, expr: &Expr) -> Option<i128> {
@@ -29,20 +30,22 @@ pub(crate) fn number_of(alloc: Global, sheet: &Sheet<'_>, expr: &Expr) -> Option
     }
 }
 
-/// The values of several expressions, if each has one. The error is want of memory.
-pub(crate) fn values(
+/// Adds the values of several expressions. The error is Nowhere, where one has none, or want of memory.
+pub(crate) fn add_values(
     alloc: Global,
     sheet: &Sheet<'_>,
     exprs: &[Expr],
-) -> Result<Option<SmallVec<i128, 4>>, AllocError> {
-    let mut found = SmallVec::new(alloc);
+    found: &mut SmallVec<i128, 4>,
+) -> Result<(), Stop> {
     for expr in exprs {
-        match number_of(alloc, sheet, expr) {
-            Some(number) => found.push(number)?,
-            None => return Ok(None),
+        let Some(number) = number_of(alloc, sheet, expr) else {
+            return Err(Stop::Nowhere);
+        };
+        if found.push(number).is_err() {
+            return Err(Stop::OutOfMemory);
         }
     }
-    Ok(Some(found))
+    Ok(())
 }
 
 fn calculated(operator: Operator, left: i128, right: i128) -> Option<i128> {

@@ -1,7 +1,8 @@
 -- Why candidates fail where the filling inside a call of their plan can't have its digit.
-use Rattle.std.proofs.Common.{◌≡◌, refl, sym, ◌∙◌, ap, subst, ℕ, ◌+◌, ◌*◌, ◌^◌, ◌<◌, ◌≤◌, Bool, true, List, [], ◌∷◌, ◌++◌, length, drop, arith}
-use Rattle.std.specs.Prelude.{ℤ, Option, Some, None, IfNone, slice_get, option_map, option_and_then}
+use Rattle.std.proofs.Common.{◌≡◌, refl, sym, ◌∙◌, ap, subst, ℕ, ◌+◌, ◌*◌, ◌^◌, ◌<◌, ◌≤◌, Bool, true, List, [], ◌∷◌, ◌++◌, length, drop, inl, inr, arith}
+use Rattle.std.specs.Prelude.{ℤ, Option, Some, None, IfNone, IfSome, slice_get, option_map, option_and_then}
 use Rattle.std.specs.Option.{unwrap_or}
+use Rattle.std.proofs.lemmas.Bool.{cases_lt}
 use Rattle.std.proofs.lemmas.Option.{same_Some}
 use Rattle.std.proofs.Math.Nat.{mul-le-mul_right}
 use Rattle.fn_bits.specs.Number.{num}
@@ -43,7 +44,7 @@ use Rattle.fn_accepted.specs.declared.place.Place.{Place}
 use Rattle.fn_candidates.specs.Writing.{Begins as StandsIn, asked_before}
 use Rattle.fn_candidates.proofs.WritingSteps.{asked_at}
 use Rattle.fn_writer.specs.declared.told.Chosen.{Chosen}
-use Rattle.fn_writer.specs.Foresight.{IsAsked, IsAskedFor, HasSeen, StandsBefore, SeesOn, IsRefutedInside, by_values, by_start, AreRefutedInside}
+use Rattle.fn_writer.specs.Foresight.{IsAsked, IsAskedFor, HasSeen, StandsBefore, SeesOn, IsCounted, IsRefutedInside, by_values, by_start, AreRefutedInside}
 use Rattle.fn_writer.specs.Going.{Begins}
 use Rattle.fn_writer.specs.Refutation.{HasFalse, HaveBefore, Differs, operand}
 use Rattle.fn_writer.specs.Told.{HasChosen, told_numbers}
@@ -65,6 +66,14 @@ more_chosen f (y ∷ ys) x h e = (h.0, more_chosen f ys x h.1 e)
 pub if_none : {A P : Type 0} (o : Option A) → P → IfNone o P
 if_none None h = h
 if_none (Some x) h = tt
+
+pub if_some : {A : Type 0} {P Q : A → Type 0} (o : Option A) → IfSome o P → ((x : A) → P x → Q x) → IfSome o Q
+if_some None h f = tt
+if_some (Some x) h f = f x h
+
+-- those that fail are numbered by 64 bits
+pub fails_fit : (place : Place) (bits : List Bool) (asked : List AskedValue) (c many : ℕ) → IsCounted place → Fails place bits asked c many → c + many < 2 ^ 64
+fails_fit place bits asked c many counted h = let room = h.within counted.count counted.count_is in let fits = counted.fits in omega (arith, room, fits)
 
 -- ---- steps before a call
 
@@ -161,6 +170,18 @@ module _ (place : Place) (n : ℕ) (format : Format) (asked : List AskedValue) (
         room = λ m at. room_next radix c m digit old new split (h.room m at);
       }
 
+-- what is seen of a number is seen of one further on that shares the digits
+pub seen_on : (place : Place) (n : ℕ) (format : Format) (asked : List AskedValue) (steps : List Step) (c : ℕ) (old new : Digits) (choices : List Chosen) → HasSeen place n format asked steps c old choices →
+    (many : ℕ) → new.rest ≡ old.rest + many → new.span ≡ old.span → new.rest < new.span → HasSeen place n format asked steps (c + many) new choices
+seen_on place n format asked steps c old new choices h many rest_is span_is below = record {
+  sound = h.sound;
+  checked = h.checked;
+  format_is = h.format_is;
+  reading = record { base = h.reading.base; all = h.reading.all; span_is = span_is ∙ h.reading.span_is; below = below; number_is = let e = h.reading.number_is in omega (arith, e, rest_is) };
+  told = h.told;
+  room = λ m at. let room = h.room m at in omega (arith, room, rest_is, span_is);
+}
+
 -- where a plan begins
 pub sees : (place : Place) (c : ℕ) (start : Start) → Begins place c start → (plans : Plans) → write_plan place.accepted.now.certificate.methods place.method start.format ≡ Some plans →
     (format : Format) → format_at place.accepted.now.profile.methods place.method start.format ≡ Some format → (asked : List AskedValue) → HasSeen place start.format format asked plans.write c start.digits []
@@ -246,10 +267,42 @@ module _ (place : Place) (c : ℕ) (start : Start) (inner : Place) (same : inner
   all_refuted n format i d args bits refuted = record {
     some = let below = b.reading.below in omega (arith, below, count);
     within = λ m at. let room = b.room m (subst (λ (a : Accepting). slice_get a.counts inner.method ≡ Some m) (sym same) at) in omega (arith, room, count);
-    their = start.format;
-    of_format = subst OfFormat same of_format;
-    refuted = refuted;
+    refuted = λ g tried least most. subst (λ z. IsRefutedInside place n format i d inner.method args z bits) (sym (subst OfFormat same of_format g tried least most)) refuted;
   }
+
+-- so many from c on, and so many more after them
+module _ (place : Place) (n : ℕ) (format : Format) (i : ℕ) (d : Field) (j : ℕ) (args : List ℤ) (bits : List Bool) where
+  pub record Inside_past (c next : ℕ) : Type 0 where
+    pub many : ℕ
+    pub next_is : c + many ≡ next
+    pub are : 0 < many → AreRefutedInside place n format i d j args c many bits
+
+  pub none_inside : (c : ℕ) → Inside_past c c
+  none_inside c = record { many = 0; next_is = omega arith; are = λ l. absurd (omega (arith, l)) }
+
+  pub more_inside : (c next more : ℕ) → Inside_past c next → AreRefutedInside place n format i d j args next more bits → Inside_past c (next + more)
+  more_inside c next more p h = record {
+    many = p.many + more;
+    next_is = let e = p.next_is in omega (arith, e);
+    are = λ l. record {
+      some = l;
+      within = λ m at. let e = p.next_is in let room = h.within m at in omega (arith, e, room);
+      refuted = λ g tried least most.
+          let e = p.next_is in
+          let its = number place.accepted.now.profile.methods place.accepted.now.certificate.methods place.accepted.now.counts g j in
+          elim (cases_lt its next) [
+            | inl below ↦ (p.are (omega (arith, least, below, e))).refuted g tried least (omega (arith, below, e))
+            | inr over ↦ h.refuted g tried over (omega (arith, most, e))
+          ];
+    };
+  }
+
+  -- all from the first number up to the next
+  pub all_inside : (c next many : ℕ) → Inside_past c next → 0 < many → c + many ≡ next → AreRefutedInside place n format i d j args c many bits
+  all_inside c next many p some is =
+      let e = p.next_is in
+      let same : p.many ≡ many = omega (arith, e, is) in
+      subst (λ z. AreRefutedInside place n format i d j args c z bits) same (p.are (subst (λ z. 0 < z) (sym same) some))
 
 -- ---- a call
 
@@ -320,8 +373,8 @@ module _ (place : Place) (n : ℕ) (format : Format) (asked : List AskedValue) (
               let x = inside all (bits_at place.context.now) place.method place.arguments.now place.path.now format choices f p one (w.seen.told f (record { fits = begins.fits; of_format = f_format; asked_are = begins.asked_are }) tried s.0.within) i d j es field_is encoding_is vs values in
               let numbered = digits.call all kept told format f i j x.inner called_is x.inner_is in
               let tried_inside = is_candidate all place.accepted.now.profile.sizes place.accepted.now.profile.top base.version kept base.are_sizes base.valid told (bits_at place.context.now) x.fits in
-              let x_format = are.of_format x.inner tried_inside (subst (λ z. digit ≤ z) numbered s.1) (subst (λ z. z < digit + many) numbered s.2) in
-              not_inside place n format i d j vs are.their bits w.seen.sound w.seen.format_is field_is asked f begins f_format x x_format are.refuted
+              let refuted = are.refuted x.inner tried_inside (subst (λ z. digit ≤ z) numbered s.1) (subst (λ z. z < digit + many) numbered s.2) in
+              not_inside place n format i d j vs (out-Filling x.inner).format bits w.seen.sound w.seen.format_is field_is asked f begins f_format x refl refuted
 
 -- ---- a choice
 

@@ -1,5 +1,5 @@
 -- What the choices, the asked values and the calls of a plan tell, before the plan is followed.
-use Rattle.std.specs.Prelude.{◌≡◌, ℕ, ◌+◌, ◌<◌, ◌≤◌, ℤ, Bool, true, List, ◌∷◌, drop, slice_get, Some}
+use Rattle.std.specs.Prelude.{◌≡◌, ℕ, ◌+◌, ◌^◌, ◌<◌, ◌≤◌, ℤ, Bool, true, List, ◌∷◌, drop, slice_get, Some}
 use Rattle.fn_bits.specs.Number.{num}
 use Rattle.fn_cert.specs.declared.certificate.Step.{Step}
 use Rattle.fn_normal.specs.declared.profile.Field.{Field}
@@ -61,6 +61,17 @@ abbrev pub SeesOn : Place → ℕ → Format → List AskedValue → Step → �
 SeesOn place n format asked one c digits choices next more =
     (later : List Step) → HasSeen place n format asked (one ∷ later) c digits choices → HasSeen place n format asked later c next more
 
+-- The same where some candidates were passed by first, from the number c to a further one.
+abbrev pub SeesFrom : Place → ℕ → Format → List AskedValue → Step → ℕ → Digits → List Chosen → ℕ → Digits → List Chosen → Type 0
+SeesFrom place n format asked one c digits choices further next more =
+    (later : List Step) → HasSeen place n format asked (one ∷ later) c digits choices → HasSeen place n format asked later further next more
+
+-- 64 bits number all candidates of the method
+pub record IsCounted (place : Place) : Type 0 where
+  pub count : ℕ
+  pub count_is : slice_get place.accepted.now.counts place.method ≡ Some count
+  pub fits : count < 2 ^ 64
+
 -- the sizes of the fields of the format n
 pub record HasSizes (place : Place) (n : ℕ) (sizes : List Sizes) : Type 0 where
   pub whole : FormatSizes
@@ -83,12 +94,10 @@ pub data IsRefutedInside (place : Place) (n : ℕ) (format : Format) (i : ℕ) (
   by_start : (sizes : FormatSizes) (offset : ℕ) (there : Place) → is_header d.declared.part ≡ true → sizes_at place.accepted.now.profile.sizes place.method n ≡ Some sizes →
       HaveBefore format.fields sizes.fields i offset → IsPlaceInside place d j args there → IsRefuted there m (drop offset bits) → IsRefutedInside place n format i d j args m bits
 
--- Each candidate of the method j with one of so many numbers from c on, all of them numbers of candidates, is of one format, which is refuted inside the field.
+-- Each candidate of the method j with one of so many numbers from c on, all of them numbers of candidates, is of a format that is refuted inside the field.
 pub record AreRefutedInside (place : Place) (n : ℕ) (format : Format) (i : ℕ) (d : Field) (j : ℕ) (args : List ℤ) (c many : ℕ) (bits : List Bool) : Type 0 where
   pub some : 0 < many
   pub within : (m : ℕ) → slice_get place.accepted.now.counts j ≡ Some m → c + many ≤ m
-  pub their : ℕ
-  pub of_format : (g : Filling) → IsCandidate place.accepted.now.profile.methods place.accepted.now.certificate.methods place.accepted.now.counts j g →
+  pub refuted : (g : Filling) → IsCandidate place.accepted.now.profile.methods place.accepted.now.certificate.methods place.accepted.now.counts j g →
       c ≤ number place.accepted.now.profile.methods place.accepted.now.certificate.methods place.accepted.now.counts g j →
-      number place.accepted.now.profile.methods place.accepted.now.certificate.methods place.accepted.now.counts g j < c + many → (out-Filling g).format ≡ their
-  pub refuted : IsRefutedInside place n format i d j args their bits
+      number place.accepted.now.profile.methods place.accepted.now.certificate.methods place.accepted.now.counts g j < c + many → IsRefutedInside place n format i d j args (out-Filling g).format bits

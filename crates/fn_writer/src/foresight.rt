@@ -1,7 +1,7 @@
 //! What the choices, the asked values and the calls of a plan tell, before the plan is followed: often the header has other bits than the chosen values give
 //! it, or a filling inside can't have its digit.
 
-ghost use Rattle.std.specs.Prelude.{◌≡◌, ◌<◌, ◌≤◌, [], Some, ℕ, length, IsTrue, IfOk, IfSome, IfNone, OnOk, slice_get};
+ghost use Rattle.std.specs.Prelude.{◌≡◌, ◌+◌, ◌<◌, ◌≤◌, [], Some, ℕ, false, length, IsTrue, IfOk, IfSome, OnOk, slice_get};
 ghost use Rattle.fn_cert.specs.declared.certificate.Step.TheVariants as steps;
 ghost use Rattle.fn_rules.specs.Counts.{ways};
 ghost use Rattle.fn_writer.specs.Foresight as spec;
@@ -13,10 +13,10 @@ ghost use Rattle.fn_writer.specs.Walking as walking;
 use crate::beginning::start_at;
 use crate::calling::radix_of;
 use crate::ending::plans_of;
-use crate::refutation::{differs, has_false, is_header, is_refuted, only_length};
+use crate::refutation::{differs, has_false, is_header, is_refuted_else, only_length};
 use crate::source::Source;
 use crate::taking::asked_before;
-use crate::told::{Chosen, Told, values_of};
+use crate::told::{Chosen, Told, Values, tells_values};
 use fn_accepted::place::{format_of, sizes_of};
 use fn_accepted::{Accepted, Place};
 use fn_candidates::{Digits, Start};
@@ -31,30 +31,32 @@ use std::alloc::{AllocError, Global};
 /// What is chosen and asked for before a step of a plan. Most are few: these take no memory of their own.
 type Choices = SmallVec<Chosen, 8>;
 
-/// How many candidates fail with this one, where the choices, the asked values or the calls of its plan tell that it fails. They don't tell it always. The
-/// error is want of memory.
+/// Goes past the candidates from this one on of which the choices, the asked values or the calls of their plan tell that they fail. They don't tell it always.
+/// Whether the next candidate is worth another look: none that share its first digits are left. The error is want of memory.
 pub(crate) fn foreseen(
     alloc: Global,
     place: &Place<'_>,
     start: Start,
     source: &Source<'_>,
-    number: u64,
-) -> Result<Option<u64>, AllocError>
+    number: &mut u64,
+) -> Result<bool, AllocError>
     requires within { IsWithin source.now }
-    requires begins { going.Begins place.now number start }
-    ensures { IfOk result (λ o. IfSome o (walking.Fails place.now (front source.now) source.now.asked.now number)) }
+    requires counted { spec.IsCounted place.now }
+    requires begins { going.Begins place.now number.old start }
+    ensures past { OnOk result (walking.Passes place.now (front source.now) source.now.asked.now number.old number.new) }
+    ensures further { IfOk result (λ again. IsTrue again → number.old < number.new) }
 {
     let Some(plans) = plans_of(place.accepted, place.method, start.format) else {
-        return Ok(None);
+        return Ok(false);
     };
-    if !branches(plans.write.as_slice()) {
-        return Ok(None);
+    if start.digits.alike() == 1 && !branches(plans.write.as_slice()) {
+        return Ok(false);
     }
     let Some(format) = format_of(place.accepted, place.method, start.format) else {
-        return Ok(None);
+        return Ok(false);
     };
     let Some(sizes) = sizes_of(place.accepted, place.method, start.format) else {
-        return Ok(None);
+        return Ok(false);
     };
     foreseen_in(
         alloc,
@@ -86,17 +88,19 @@ fn foreseen_in(
     plan: &[Step],
     start: Digits,
     source: &Source<'_>,
-    number: u64,
-) -> Result<Option<u64>, AllocError>
+    number: &mut u64,
+) -> Result<bool, AllocError>
     requires within { IsWithin source.now }
+    requires counted { spec.IsCounted place.now }
     requires sized { spec.HasSizes place.now index sizes.now }
-    requires seen { spec.HasSeen place.now index format.now source.now.asked.now plan.now number start [] }
-    ensures { IfOk result (λ o. IfSome o (walking.Fails place.now (front source.now) source.now.asked.now number)) }
+    requires seen { spec.HasSeen place.now index format.now source.now.asked.now plan.now number.old start [] }
+    ensures past { OnOk result (walking.Passes place.now (front source.now) source.now.asked.now number.old number.new) }
+    ensures further { IfOk result (λ again. IsTrue again → number.old < number.new) }
 {
     let mut digits = start;
     let mut choices = SmallVec::new(alloc);
     for step in plan {
-        match foreseen_step(
+        let is_over = foreseen_step(
             alloc,
             place,
             index,
@@ -107,15 +111,16 @@ fn foreseen_in(
             &mut choices,
             source,
             number,
-        )? {
-            Some(many) => return Ok(Some(many)),
-            None => {}
+        )?;
+        if is_over {
+            return Ok(true);
         }
     }
-    Ok(None)
+    Ok(false)
 }
 
-/// Reads the digit of a step, if it has one, and looks at what is told then: how many candidates fail with this one, where that is told.
+/// Reads the digit of a step, if it has one, goes past the candidates that share the digits and fail by what is told then, and reads that of the next one.
+/// Whether none of those that share the digits are left.
 fn foreseen_step(
     alloc: Global,
     place: &Place<'_>,
@@ -126,63 +131,31 @@ fn foreseen_step(
     digits: &mut Digits,
     choices: &mut Choices,
     source: &Source<'_>,
-    number: u64,
-) -> Result<Option<u64>, AllocError>
+    number: &mut u64,
+) -> Result<bool, AllocError>
     requires within { IsWithin source.now }
+    requires counted { spec.IsCounted place.now }
     requires sized { spec.HasSizes place.now index sizes.now }
-    requires stands { spec.StandsBefore place.now index format.now source.now.asked.now step number digits.old choices.old.items }
-    ensures found { IfOk result (λ o. IfSome o (walking.Fails place.now (front source.now) source.now.asked.now number)) }
-    ensures on { IfOk result (λ o. IfNone o (spec.SeesOn place.now index format.now source.now.asked.now step number digits.old choices.old.items digits.new choices.new.items)) }
+    requires stands { spec.StandsBefore place.now index format.now source.now.asked.now step number.old digits.old choices.old.items }
+    ensures past { OnOk result (walking.Passes place.now (front source.now) source.now.asked.now number.old number.new) }
+    ensures over { IfOk result (λ is. IsTrue is → number.old < number.new) }
+    ensures on { IfOk result (λ is. is ≡ false → spec.SeesFrom place.now index format.now source.now.asked.now step number.old digits.old choices.old.items number.new digits.new choices.new.items) }
 {
     match step {
-        Step::Call(field) => {
-            let told = foreseen_call(
-                alloc,
-                place,
-                index,
-                format,
-                field,
-                *digits,
-                choices.as_slice(),
-                source,
-                number,
-            )?;
-            read_call(
-                place,
-                index,
-                format,
-                field,
-                digits,
-                choices.as_slice(),
-                source.asked,
-                number,
-            );
-            Ok(told)
-        }
-        Step::Choose(field) => {
-            read_choice(
-                alloc,
-                place,
-                index,
-                format,
-                field,
-                digits,
-                choices,
-                source.asked,
-                number,
-            )?;
-            let told = Told {
-                format,
-                arguments: place.arguments,
-                choices: choices.as_slice(),
-            };
-            let has_other = differs(alloc, place, &told, sizes, source.cursor, source.from)?;
-            if has_other {
-                Ok(Some(digits.alike()))
-            } else {
-                Ok(None)
-            }
-        }
+        Step::Call(field) => foreseen_call(
+            alloc,
+            place,
+            index,
+            format,
+            field,
+            digits,
+            choices.as_slice(),
+            source,
+            number,
+        ),
+        Step::Choose(field) => foreseen_choice(
+            alloc, place, index, format, sizes, field, digits, choices, source, number,
+        ),
         Step::Ask(field) => {
             note_asked(
                 place,
@@ -192,12 +165,136 @@ fn foreseen_step(
                 *digits,
                 choices,
                 source.asked,
-                number,
+                *number,
             )?;
-            Ok(None)
+            Ok(false)
         }
-        _ => Ok(None),
+        _ => Ok(false),
     }
+}
+
+/// The same for a choice.
+fn foreseen_choice(
+    alloc: Global,
+    place: &Place<'_>,
+    index: usize,
+    format: &Format,
+    sizes: &[Sizes],
+    field: usize,
+    digits: &mut Digits,
+    choices: &mut Choices,
+    source: &Source<'_>,
+    number: &mut u64,
+) -> Result<bool, AllocError>
+    requires within { IsWithin source.now }
+    requires counted { spec.IsCounted place.now }
+    requires sized { spec.HasSizes place.now index sizes.now }
+    requires stands { spec.StandsBefore place.now index format.now source.now.asked.now (steps.Choose field) number.old digits.old choices.old.items }
+    ensures past { OnOk result (walking.Passes place.now (front source.now) source.now.asked.now number.old number.new) }
+    ensures over { IfOk result (λ is. IsTrue is → number.old < number.new) }
+    ensures on { IfOk result (λ is. is ≡ false → spec.SeesFrom place.now index format.now source.now.asked.now (steps.Choose field) number.old digits.old choices.old.items number.new digits.new choices.new.items) }
+{
+    read_choice(
+        alloc,
+        place,
+        index,
+        format,
+        field,
+        digits,
+        choices,
+        source.asked,
+        *number,
+    )?;
+    let told = Told {
+        format,
+        arguments: place.arguments,
+        choices: choices.as_slice(),
+    };
+    let has_other = differs(alloc, place, &told, sizes, source.cursor, source.from)?;
+    if has_other {
+        *number += digits.alike();
+    }
+    Ok(has_other)
+}
+
+/// The same for a call.
+fn foreseen_call(
+    alloc: Global,
+    place: &Place<'_>,
+    index: usize,
+    format: &Format,
+    field: usize,
+    digits: &mut Digits,
+    choices: &[Chosen],
+    source: &Source<'_>,
+    number: &mut u64,
+) -> Result<bool, AllocError>
+    requires within { IsWithin source.now }
+    requires counted { spec.IsCounted place.now }
+    requires stands { spec.StandsBefore place.now index format.now source.now.asked.now (steps.Call field) number.old digits.old choices.now }
+    ensures past { OnOk result (walking.Passes place.now (front source.now) source.now.asked.now number.old number.new) }
+    ensures over { IfOk result (λ is. IsTrue is → number.old < number.new) }
+    ensures on { IfOk result (λ is. is ≡ false → spec.SeesFrom place.now index format.now source.now.asked.now (steps.Call field) number.old digits.old choices.now number.new digits.new choices.now) }
+{
+    let told = refuted_by_call(
+        alloc, place, index, format, field, *digits, choices, source, *number,
+    )?;
+    match told {
+        Some(many) => Ok(goes_past(
+            place, index, format, field, digits, choices, source, number, many,
+        )),
+        None => {
+            read_call(
+                place,
+                index,
+                format,
+                field,
+                digits,
+                choices,
+                source.asked,
+                *number,
+            );
+            Ok(false)
+        }
+    }
+}
+
+/// The same where so many candidates fail.
+fn goes_past(
+    place: &Place<'_>,
+    index: usize,
+    format: &Format,
+    field: usize,
+    digits: &mut Digits,
+    choices: &[Chosen],
+    source: &Source<'_>,
+    number: &mut u64,
+    many: u64,
+) -> bool
+    requires within { IsWithin source.now }
+    requires counted { spec.IsCounted place.now }
+    requires stands { spec.StandsBefore place.now index format.now source.now.asked.now (steps.Call field) number.old digits.old choices.now }
+    requires fail { walking.Fails place.now (front source.now) source.now.asked.now number.old many }
+    ensures past { walking.Passes place.now (front source.now) source.now.asked.now number.old number.new }
+    ensures over { IsTrue result → number.old < number.new }
+    ensures on { result ≡ false → spec.SeesFrom place.now index format.now source.now.asked.now (steps.Call field) number.old digits.old choices.now number.new digits.new choices.now }
+{
+    *number += many;
+    if many >= digits.alike() {
+        return true;
+    }
+    digits.skip(many);
+    read_call(
+        place,
+        index,
+        format,
+        field,
+        digits,
+        choices,
+        source.asked,
+        *number,
+    );
+    false
 }
 
 /// Notes the number of an asked field's value, where that is told.
@@ -289,8 +386,8 @@ fn ways_of(accepted: &Accepted, format: &Format, field: usize) -> u64
     }
 }
 
-/// How many candidates fail with this one, where the call that comes next tells it.
-fn foreseen_call(
+/// How many candidates from this one on fail, where the call that comes next tells it.
+fn refuted_by_call(
     alloc: Global,
     place: &Place<'_>,
     index: usize,
@@ -316,12 +413,15 @@ fn foreseen_call(
         arguments: place.arguments,
         choices,
     };
-    let Some(values) = values_of(alloc, &told, arguments.as_slice())? else {
+    let mut values = Values::new(alloc);
+    let are_told = tells_values(&told, arguments.as_slice(), &mut values)?;
+    if !are_told {
         return Ok(None);
-    };
+    }
+    let radix = radix_of(place.accepted, *method);
     let mut digits = before;
-    let digit = digits.next(radix_of(place.accepted, *method));
-    let Some(many) = alike_inside(
+    let digit = digits.next(radix);
+    let Some(many) = refuted_inside(
         alloc,
         place,
         index,
@@ -331,12 +431,58 @@ fn foreseen_call(
         *method,
         values.as_slice(),
         digit,
+        radix,
         source,
     )?
     else {
         return Ok(None);
     };
     Ok(Some(digits.alike_up_to(many)))
+}
+
+/// How many candidates of the called method from this one on are of formats of which no filling is inside the field.
+fn refuted_inside(
+    alloc: Global,
+    place: &Place<'_>,
+    index: usize,
+    format: &Format,
+    field: usize,
+    called: &Field,
+    method: usize,
+    arguments: &[i128],
+    number: u64,
+    count: u64,
+    source: &Source<'_>,
+) -> Result<Option<u64>, AllocError>
+    requires within { IsWithin source.now }
+    requires there { method < length place.now.accepted.now.profile.methods }
+    requires below { number < count }
+    requires counted { slice_get place.now.accepted.now.counts method ≡ Some count }
+    ensures { IfOk result (λ o. IfSome o (λ many. spec.AreRefutedInside place.now index format.now field called.now method arguments.now number many (front source.now))) }
+{
+    let mut next = number;
+    while next < count {
+        let Some(many) = alike_inside(
+            alloc, place, index, format, field, called, method, arguments, next, source,
+        )?
+        else {
+            return Ok(between(number, next));
+        };
+        next += many;
+    }
+    Ok(between(number, next))
+}
+
+/// How many numbers are from the first up to the next one, if there are any.
+pub(crate) fn between(first: u64, next: u64) -> Option<u64>
+    requires { first ≤ next }
+    ensures { IfSome result (λ many. (0 < many) × (first + many ≡ next)) }
+{
+    if first < next {
+        Some(next - first)
+    } else {
+        None
+    }
 }
 
 /// How many candidates of the called method from this one on are of its format, where no filling of that is inside the field.
@@ -431,7 +577,14 @@ fn is_refuted_inside(
         arguments,
         path: path.as_str(),
     };
-    is_refuted(alloc, &there, inside, source.cursor, source.from + offset)
+    is_refuted_else(
+        alloc,
+        &there,
+        found,
+        inside,
+        source.cursor,
+        source.from + offset,
+    )
 }
 
 /// How many bits the header fields before this one have, where each has one length by its bounds, and they are no more than so many.

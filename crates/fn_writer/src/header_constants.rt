@@ -8,7 +8,7 @@ ghost use Rattle.fn_writer.specs.Refutation as spec;
 ghost use Rattle.fn_writer.specs.Told.{numbers};
 
 use crate::refutation::{has_false, is_header, only_length};
-use crate::told::{Told, values_of};
+use crate::told::{Told, Values, tells_values};
 use fn_accepted::Accepted;
 use fn_accepted::place::{format_of, sizes_of};
 use fn_bits::Cursor;
@@ -69,9 +69,11 @@ fn lacks_inside(
     if depth == 0 || arguments.is_empty() || has_more(accepted, method) {
         return Ok(false);
     }
-    let Some(values) = values_of(alloc, told, arguments)? else {
+    let mut values = Values::new(alloc);
+    let are_told = tells_values(told, arguments, &mut values)?;
+    if !are_told {
         return Ok(false);
-    };
+    }
     let Some(format) = format_of(accepted, method, 0) else {
         return Ok(false);
     };

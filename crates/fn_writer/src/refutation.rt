@@ -3,6 +3,7 @@
 ghost use Rattle.std.specs.Prelude.{◌≡◌, ◌≤◌, false, Some, Bool, List, Option, IsTrue, IfOk, IfSome, drop, length, slice_get};
 ghost use Rattle.fn_expr.specs.Values.{Assignment};
 ghost use Rattle.fn_filling.specs.Fillings as fillings;
+ghost use Rattle.fn_fits.specs.Fits.{format_at};
 ghost use Rattle.fn_lib.specs.Methods as lib;
 ghost use Rattle.fn_rules.specs.Trees.{is_static, referred};
 ghost use Rattle.fn_writer.specs.Refutation as spec;
@@ -10,8 +11,8 @@ ghost use Rattle.fn_writer.specs.Told.{numbers};
 
 use crate::header_constants::{has_more, lacks};
 use crate::told::Told;
-use fn_accepted::Place;
 use fn_accepted::place::{format_of, sizes_of};
+use fn_accepted::{Accepted, Place};
 use fn_bits::{Bits, Cursor};
 use fn_expr::{Attribute, Cond, Expr, Measure, Side, Subject, compares};
 use fn_fits::whole_sides::reference_below;
@@ -35,8 +36,28 @@ pub(crate) fn is_refuted(
     let Some(found) = format_of(place.accepted, place.method, format) else {
         return Ok(false);
     };
-    let has_false = contradicts(alloc, place, found)?;
-    if has_false {
+    if has_false(found.constraints.as_slice(), place.arguments) {
+        return Ok(true);
+    }
+    is_refuted_else(alloc, place, found, format, source, from)
+}
+
+/// The same of a format, where the arguments alone don't tell it.
+#[inline(never)]
+pub(crate) fn is_refuted_else(
+    alloc: Global,
+    place: &Place<'_>,
+    found: &Format,
+    format: usize,
+    source: &Cursor<'_>,
+    from: usize,
+) -> Result<bool, AllocError>
+    requires within { from ≤ length source.now.left }
+    requires found { format_at place.now.accepted.now.profile.methods place.now.method format ≡ Some found.now }
+    ensures { IfOk result (λ is. IsTrue is → spec.IsRefuted place.now format (drop from source.now.left)) }
+{
+    let is_contrary = contradicts(alloc, place, found)?;
+    if is_contrary {
         return Ok(true);
     }
     let Some(sizes) = sizes_of(place.accepted, place.method, format) else {
@@ -50,8 +71,8 @@ pub(crate) fn is_refuted(
     differs(alloc, place, &told, sizes.fields.as_slice(), source, from)
 }
 
-/// Whether one of the format's constraints is false by the arguments and by the references of `static` fields, whatever the fields hold. The error is want of
-/// memory.
+/// Whether one of the format's constraints is false by the arguments and by the references of `static` fields, whatever the fields hold. Those that have
+/// arguments alone aren't looked at. The error is want of memory.
 fn contradicts(alloc: Global, place: &Place<'_>, format: &Format) -> Result<bool, AllocError>
     ensures { IfOk result (λ is. IsTrue is → spec.HasFalse (spec.known_operand place.now format.now.fields) format.now.constraints) }
 {
@@ -77,6 +98,9 @@ fn is_contradicted(
     let Cond::Compare(_, comparison, left, right) = condition else {
         return Ok(false);
     };
+    if is_by_arguments(left, right) {
+        return Ok(false);
+    }
     let Some(other) = known_operand(alloc, place, fields, right)? else {
         return Ok(false);
     };
@@ -84,6 +108,16 @@ fn is_contradicted(
         return Ok(false);
     };
     Ok(!compares(*comparison, one, other))
+}
+
+/// Whether one of them is a parameter, and the other one is, too, or is a number.
+#[inline(always)]
+fn is_by_arguments(left: &Expr, right: &Expr) -> bool {
+    match left {
+        Expr::Parameter(_, _) => matches!(right, Expr::Parameter(_, _) | Expr::Number(_, _)),
+        Expr::Number(_, _) => matches!(right, Expr::Parameter(_, _)),
+        Expr::Attribute(_, _) | Expr::Binary(_, _, _, _) => false,
+    }
 }
 
 /// The value of a number, a parameter or a `static` field. The error is want of memory.
@@ -169,12 +203,22 @@ fn number_of(bits: &Bits) -> Option<i128>
 }
 
 /// Whether one of the constraints is false by the arguments, whatever the fields hold. Without parameters none is looked at.
+#[inline(always)]
 pub(crate) fn has_false(constraints: &[Shared<Constraint>], arguments: &[i128]) -> bool
     ensures { IsTrue result → spec.HasFalse (spec.operand arguments.now) constraints.now }
 {
     if arguments.is_empty() {
-        return false;
+        false
+    } else {
+        has_false_by(constraints, arguments)
     }
+}
+
+/// The same with parameters.
+#[inline(never)]
+fn has_false_by(constraints: &[Shared<Constraint>], arguments: &[i128]) -> bool
+    ensures { IsTrue result → spec.HasFalse (spec.operand arguments.now) constraints.now }
+{
     for constraint in constraints {
         if let Constraint::Enforce { condition, .. } = constraint.get() {
             if is_false(condition, arguments) {
@@ -272,7 +316,43 @@ pub(crate) fn only_length(bounds: Bounds, most: usize) -> Option<usize>
 
 /// Whether the field can hold no bits that come next there: a constant that is told, a `static` one or one of `lsb` with numbers. It isn't always told. The
 /// error is want of memory.
+#[inline(always)]
 fn is_other(
+    alloc: Global,
+    place: &Place<'_>,
+    told: &Told<'_>,
+    field: &Field,
+    source: &Cursor<'_>,
+    begin: usize,
+) -> Result<bool, AllocError>
+    requires within { begin ≤ length source.now.left }
+    ensures { IfOk result (λ is. IsTrue is → spec.IsOther place.now.accepted.now.profile (numbers told.now) field.now.encoding (spec.reference_at place.now field.now) (drop begin source.now.left)) }
+{
+    // Of most fields nothing is told, for which nothing has to be called.
+    if is_telling(place.accepted, told, field.encoding.get()) {
+        is_other_at(alloc, place, told, field, source, begin)
+    } else {
+        Ok(false)
+    }
+}
+
+/// Whether a field of this encoding may tell something. What stays the same whatever is chosen was looked at before any choice.
+#[inline(always)]
+fn is_telling(accepted: &Accepted, told: &Told<'_>, encoding: &Encoding) -> bool {
+    match encoding {
+        Encoding::Library(library) => match library {
+            Library::UncompressedValue { .. } => true,
+            Library::Static | Library::Lsb { .. } => told.choices.is_empty(),
+            _ => false,
+        },
+        Encoding::Call { method, .. } => !has_more(accepted, *method),
+        Encoding::Bare => false,
+    }
+}
+
+/// The same of a field that may tell something.
+#[inline(never)]
+fn is_other_at(
     alloc: Global,
     place: &Place<'_>,
     told: &Told<'_>,

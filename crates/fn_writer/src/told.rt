@@ -1,6 +1,6 @@
 //! The values that the arguments and the choices tell, before a plan is followed.
 
-ghost use Rattle.std.specs.Prelude.{◌≡◌, Some, IfOk, IfSome, slice_get};
+ghost use Rattle.std.specs.Prelude.{◌≡◌, Some, [], IfOk, IfSome, IsTrue, slice_get};
 ghost use Rattle.fn_expr.specs.Values.{apply, val};
 ghost use Rattle.fn_fits.specs.Fits.{vals};
 ghost use Rattle.fn_writer.specs.Told as spec;
@@ -9,7 +9,7 @@ use fn_expr::{Attribute, Expr, Measure, Operator, Side, Subject};
 use fn_normal::{Encoding, Format, Library};
 use smallvec::SmallVec;
 use sqlite_items::at;
-use std::alloc::{AllocError, Global};
+use std::alloc::AllocError;
 
 /// A field with the digit that chooses its bits.
 #[derive(Clone, Copy, Default)]
@@ -79,22 +79,25 @@ impl<'a> Told<'a> {
     }
 }
 
-/// The values of the expressions, where each is told.
-pub(crate) fn values_of(
-    alloc: Global,
+/// The values of a call's arguments. Most are few: these take no memory of their own.
+pub(crate) type Values = SmallVec<i128, 4>;
+
+/// Whether the value of each expression is told: then these are put into the list, which is empty before.
+pub(crate) fn tells_values(
     told: &Told<'_>,
     exprs: &[Expr],
-) -> Result<Option<SmallVec<i128, 4>>, AllocError>
-    ensures { IfOk result (λ o. IfSome o (λ values. vals (spec.numbers told.now) exprs.now ≡ Some values.items)) }
+    values: &mut Values,
+) -> Result<bool, AllocError>
+    requires empty { values.old.items ≡ [] }
+    ensures { IfOk result (λ is. IsTrue is → vals (spec.numbers told.now) exprs.now ≡ Some values.new.items) }
 {
-    let mut values = SmallVec::new(alloc);
     for expr in exprs {
         let Some(number) = told.value(expr) else {
-            return Ok(None);
+            return Ok(false);
         };
         values.push(number)?;
     }
-    Ok(Some(values))
+    Ok(true)
 }
 
 /// A sum, difference or product, where it has 128 bits; other operators aren't tried.

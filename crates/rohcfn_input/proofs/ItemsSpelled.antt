@@ -1,9 +1,11 @@
 -- The text of an item.
-use Rattle.std.proofs.Common.{◌≡◌, ◌∙◌, ℕ, List, [], ◌∷◌, ◌++◌, drop, get_or, length, ◌<◌, ◌≤◌, ◌+◌, codes, refl, ap, sym, subst, append_assoc}
+use Rattle.std.proofs.Common.{◌≡◌, ◌∙◌, ℕ, List, [], ◌∷◌, ◌++◌, map, drop, get_or, length, ◌<◌, ◌≤◌, ◌+◌, codes, refl, ap, sym, subst, append_assoc}
 use Rattle.std.proofs.lemmas.List.{append-nil, drop_more, drop_all}
 use Rattle.fn_bits.specs.Text.{IsText}
 use Rattle.fn_filling.specs.declared.filling.Item.{Item}
 use Rattle.fn_filling.specs.declared.filling.AskedValue.{AskedValue}
+use Rattle.fn_filling.specs.declared.filling.FilledField.{FilledField}
+use Rattle.fn_filling.specs.Fillings.{asked_values, sides_of}
 use Rattle.rohcfn_input.specs.ItemTexts.{AreValuesText, HasMore, IsItemText, IsValueText}
 
 pub item_grown : (it : Item) (values : List AskedValue) (before mid after : List ℕ) → HasMore (λ text. IsText text it.header) before mid → values ≡ it.asked → HasMore (AreValuesText values) mid after → HasMore (IsItemText it) before after
@@ -28,6 +30,19 @@ values_more values i d v before text new inside at so_far is =
       is.2 ∙ ap (λ t. t ++ is.0) so_far.2 ∙ append_assoc before so_far.0 is.0,
     )
 
+-- one value more, and none
+pub one_more : (all left next : List AskedValue) (v : AskedValue) (before text new : List ℕ) → left ≡ v ∷ next → ValuesSoFar all left before text → HasMore (IsValueText v) text new → ValuesSoFar all next before new
+one_more all left next v before text new here so_far is = (
+  so_far.0 ++ is.0,
+  λ rest more.
+      let word : AreValuesText left (is.0 ++ rest) = subst (λ vs. AreValuesText vs (is.0 ++ rest)) (sym here) (is.0, rest, is.1, more, refl) in
+      subst (AreValuesText all) (sym (append_assoc so_far.0 is.0 rest)) (so_far.1 (is.0 ++ rest) word),
+  is.2 ∙ ap (λ t. t ++ is.0) so_far.2 ∙ append_assoc before so_far.0 is.0,
+)
+
+pub none_more : (all left next : List AskedValue) (before text : List ℕ) → left ≡ next → ValuesSoFar all left before text → ValuesSoFar all next before text
+none_more all left next before text same so_far = subst (λ vs. ValuesSoFar all vs before text) same so_far
+
 pub values_end : (values : List AskedValue) (i : ℕ) (before text : List ℕ) → length values ≤ i → ValuesSoFar values (drop i values) before text → HasMore (AreValuesText values) before text
 values_end values i before text whole so_far =
     let last : AreValuesText (drop i values) [] = subst (λ vs. AreValuesText vs []) (sym (drop_all i values whole)) refl in
@@ -36,3 +51,12 @@ values_end values i before text whole so_far =
 pub value_grown : (v : AskedValue) (name before mid after : List ℕ) → name ≡ v.name → mid ≡ before ++ codes " " ++ name ++ codes "=" → HasMore (λ spelled. IsText spelled v.bits) mid after → HasMore (IsValueText v) before after
 value_grown v name before mid after same e h =
     (codes " " ++ v.name ++ codes "=" ++ h.0, (h.0, h.1, refl), h.2 ∙ ap (λ m. m ++ h.0) (e ∙ ap (λ n. before ++ codes " " ++ n ++ codes "=") same) ∙ (simp append_assoc))
+
+-- after the last field
+pub fields_end : (fields : List FilledField) (i : ℕ) (before text : List ℕ) → length fields ≤ i → ValuesSoFar (asked_values (map sides_of fields)) (asked_values (map sides_of (drop i fields))) before text
+    → HasMore (AreValuesText (asked_values (map sides_of fields))) before text
+fields_end fields i before text whole so_far =
+    let all = asked_values (map sides_of fields) in
+    let none : asked_values (map sides_of (drop i fields)) ≡ [] = ap (λ z. asked_values (map sides_of z)) (drop_all i fields whole) in
+    let last : AreValuesText (asked_values (map sides_of (drop i fields))) [] = subst (λ vs. AreValuesText vs []) (sym none) refl in
+    (so_far.0, subst (AreValuesText all) (append-nil so_far.0) (so_far.1 [] last), so_far.2)

@@ -1,13 +1,14 @@
 //! The texts of bits and of items, at the end of what is printed.
 
-ghost use Rattle.std.specs.Prelude.{◌≡◌, ◌≤◌, ◌<◌, ◌*◌, ◌/◌, ◌+◌, ◌-◌, ◌^◌, [], ◌∷◌, ◌++◌, take, length, OnOk, codes, decimal, string_bytes};
+ghost use Rattle.std.specs.Prelude.{◌≡◌, ◌≤◌, ◌<◌, ◌*◌, ◌/◌, ◌+◌, ◌-◌, ◌^◌, [], ◌∷◌, ◌++◌, take, length, map, OnOk, codes, decimal, string_bytes};
 ghost use Rattle.hex.specs.Hex.{encode_lower};
 ghost use Rattle.fn_bits.specs.Number.{enc};
 ghost use Rattle.fn_bits.specs.Text.{IsText};
+ghost use Rattle.fn_filling.specs.Fillings as sides;
 ghost use Rattle.rohcfn_input.specs.ItemTexts.{AreValuesText, HasMore, IsItemText, IsValueText};
 
 use fn_bits::{Bits, octets_of};
-use fn_filling::{AskedValue, Item};
+use fn_filling::{AskedValue, FilledField, Filling, Item};
 use itoa::Buffer;
 use std::alloc::{AllocError, Global};
 
@@ -58,7 +59,9 @@ fn push_octets(
     ensures { OnOk result (string_bytes text.new ≡ string_bytes text.old ++ decimal count ++ 58 ∷ encode_lower octets.now) }
 {
     hex::encode_to_slice(octets, room).unwrap();
-    push_digits(text, count, str::from_utf8(room).unwrap())
+    // Digits are a text, which the proof knows.
+    let digits = unsafe { str::from_utf8_unchecked(room) };
+    push_digits(text, count, digits)
 }
 
 /// Adds a count, a colon and digits.
@@ -70,6 +73,45 @@ fn push_digits(text: &mut String, count: usize, digits: &str) -> Result<(), Allo
     text.push_str(buffer.format(count))?;
     text.push(':')?;
     text.push_str(digits)
+}
+
+/// Adds the text of the item of a filling that has this header: the header, then each value of an asked field after a blank.
+#[inline(always)]
+pub fn push_item_of(
+    alloc: Global,
+    text: &mut String,
+    header: &Bits,
+    filling: &Filling,
+) -> Result<(), AllocError>
+    requires { header.now ≡ sides.header filling.now }
+    ensures { OnOk result (HasMore (IsItemText (sides.item filling.now)) (string_bytes text.old) (string_bytes text.new)) }
+{
+    push_bits(alloc, text, header)?;
+    push_asked(alloc, text, filling.fields.as_slice())?;
+    Ok(())
+}
+
+/// Adds the values of the asked fields, each after a blank.
+fn push_asked(alloc: Global, text: &mut String, fields: &[FilledField]) -> Result<(), AllocError>
+    ensures { OnOk result (HasMore (AreValuesText (sides.asked_values (map sides.sides_of fields.now))) (string_bytes text.old) (string_bytes text.new)) }
+{
+    for field in fields {
+        if !field.declared.asked {
+            continue;
+        }
+        push_field(alloc, text, field)?;
+    }
+    Ok(())
+}
+
+/// Adds the value of an asked field, after a blank.
+#[inline(never)]
+fn push_field(alloc: Global, text: &mut String, field: &FilledField) -> Result<(), AllocError>
+    ensures { OnOk result (HasMore (IsValueText (sides.value_of field.now)) (string_bytes text.old) (string_bytes text.new)) }
+{
+    push_named(text, field.declared.name.as_str())?;
+    push_bits(alloc, text, &field.uncompressed)?;
+    Ok(())
 }
 
 /// Adds the text of an item: its header, then each value after a blank.

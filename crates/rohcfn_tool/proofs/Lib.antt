@@ -1,6 +1,7 @@
 pub mod ProgramEndings
 pub mod EventWords
 pub mod LineFlowing
+pub mod LinePieces
 pub mod PrintedOtherLines
 pub mod PacketLines
 pub mod ProgramBytes

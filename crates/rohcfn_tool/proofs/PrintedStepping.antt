@@ -57,21 +57,20 @@ item_explained profile a ctx n it e blames plain text is single lines told all =
 -- ---- packets
 
 -- what is printed of the filling that was read is said of the packet
-found_says : (shape : Shape) (a : Accepting) (ctx : Entries) (before after : List ℕ) (n : ℕ) (packet : List Bool) (r : Unpacked) → reading.Fronts a ctx packet r.filling → r.item ≡ item r.filling → r.bits ≡ length (packed r.filling)
-    → IsFoundText shape a (codes "packet") n r.bits r.item r.filling before after → HasLine (SaysPacket shape a ctx n packet r.filling) before after
-found_says Line a ctx before after n packet r fits item_is bits_is text =
-    let item_here = subst (λ it. IsTaken it r.bits text.0) item_is text.1 in
-    (text.0, record { fits = fits; taken = subst (λ k. IsTaken (item r.filling) k text.0) bits_is item_here }, text.2)
-found_says Tree a ctx before after n packet r fits item_is bits_is text =
+found_says : (shape : Shape) (a : Accepting) (ctx : Entries) (before after : List ℕ) (n : ℕ) (packet : List Bool) (r : Unpacked) → reading.Fronts a ctx packet r.filling → r.bits ≡ length (packed r.filling)
+    → IsFoundText shape a (codes "packet") n r.bits r.filling before after → HasLine (SaysPacket shape a ctx n packet r.filling) before after
+found_says Line a ctx before after n packet r fits bits_is text =
+    (text.0, record { fits = fits; taken = subst (λ k. IsTaken (item r.filling) k text.0) bits_is text.1 }, text.2)
+found_says Tree a ctx before after n packet r fits bits_is text =
     (text.0, record { fits = fits; listed = text.1 ∙ ap (λ k. tree_text a (codes "packet") n k r.filling) bits_is }, text.2)
-found_says (Why profile) a ctx before after n packet r fits item_is bits_is text =
+found_says (Why profile) a ctx before after n packet r fits bits_is text =
     (text.0, record { fits = fits; said = text.1 ∙ ap (λ k. head_of a (codes "packet") n k r.filling) bits_is }, text.2)
 
 pub read_step : (shape : Shape) (a : Accepting) (old new : Entries) (before after : List ℕ) (n : ℕ) (packet : List Bool) (from to : Place) (r : Unpacked) → from ≡ record { used = []; left = packet } → reading.IsUnpacked a old from to r
-    → IsFoundText shape a (codes "packet") n r.bits r.item r.filling before after → new ≡ next old r.filling → IsPacketStep shape a old new before after n packet false
+    → IsFoundText shape a (codes "packet") n r.bits r.filling before after → new ≡ next old r.filling → IsPacketStep shape a old new before after n packet false
 read_step shape a old new before after n packet from to r start is text reached =
     let fits : reading.Fronts a old packet r.filling = record { fits = is.fits; rest = to.left; front = sym (ap (λ (p : Place). p.left) start) ∙ is.advances.left } in
-    (r.filling, found_says shape a old before after n packet r fits is.item_is is.bits_is text, reached)
+    (r.filling, found_says shape a old before after n packet r fits is.bits_is text, reached)
 
 pub packet_refused : (a : Accepting) (ctx : Entries) (before after : List ℕ) (n : ℕ) (packet : List Bool) (e : UnpackFault) → reading.Blames e a ctx packet → IsRefusedPacket a e n before after → HasLine (RefusesPacket a ctx n packet) before after
 packet_refused a ctx before after n packet e blames is = (is.0, (e, blames, is.1.0, is.1.1), is.2)

@@ -9,6 +9,7 @@ use Rattle.fn_engine.specs.declared.writer.PackFault.TheVariants.{HeaderLength, 
 use Rattle.fn_engine.specs.declared.writer.PackFault.TheVariants as writer
 use Rattle.fn_line.specs.Lines.{no_entries}
 use Rattle.fn_line.specs.Hearing.{Found}
+use Rattle.fn_line.specs.States as states
 use Rattle.fn_line.specs.Runs.{IsReceived, IsRun, IsStopped, event_of}
 use Rattle.fn_line.specs.declared.fault.LineFault.{LineFault}
 use Rattle.fn_line.specs.declared.flow.LineVersion.{LineVersion}
@@ -147,6 +148,17 @@ pub record IsPushed (found : Found) (before after : List ℕ) : Type 0 where
   pub lines : List ℕ
   pub spelled : AreItemLines found lines
   pub after_is : after ≡ before ++ lines
+
+-- what was received of octets on a new line, and a line more for each of its items
+pub record IsHeardOut (version : LineVersion) (a : Accepting) (octets before after : List ℕ) (fault : Option LineFault) : Type 0 where
+  pub found : Found
+  pub received : IsReceived a version octets found fault
+  pub pushed : IsPushed found before after
+
+-- a piece was heard, and a line more for each of its items; or so up to a fault, which is no want of memory
+abbrev pub HearsPiece : states.Receiving → states.Receiving → List ℕ → List ℕ → List ℕ → Option LineFault → Type 0
+HearsPiece old new piece before after None = (found : Found) × IsPushed found before after × states.Hears old new piece found
+HearsPiece old new piece before after (Some e) = (found : Found) × IsPushed found before after × states.Fails old new piece found e × (e ≡ fault.OutOfMemory → ⊥)
 
 -- octets in hex, and a line for each item
 pub record IsSentPrinted (octets : List ℕ) (found : Found) (answer : Answer) : Type 0 where

@@ -415,10 +415,10 @@ IsWrittenText Line a n bits f = IsBitsLine bits
 IsWrittenText Tree a n bits f = IsTreeText a (codes "item") n (length bits) f
 IsWrittenText (Why profile) a n bits f = IsHeadText a (codes "item") n (length bits) f
 
-abbrev pub IsFoundText : Shape → Accepting → List ℕ → ℕ → ℕ → Item → Filling → List ℕ → List ℕ → Type 0
-IsFoundText Line a what n bits it f = IsReadLine it bits
-IsFoundText Tree a what n bits it f = IsTreeText a what n bits f
-IsFoundText (Why profile) a what n bits it f = IsHeadText a what n bits f
+abbrev pub IsFoundText : Shape → Accepting → List ℕ → ℕ → ℕ → Filling → List ℕ → List ℕ → Type 0
+IsFoundText Line a what n bits f = IsReadLine (item f) bits
+IsFoundText Tree a what n bits f = IsTreeText a what n bits f
+IsFoundText (Why profile) a what n bits f = IsHeadText a what n bits f
 
 -- The output goes on by what is said of an input, after which the context is the next; or, where it was refused, by what is said of that.
 abbrev pub IsStep : {X : Type 0} → (Entries → ℕ → X → Filling → List ℕ → Type 0) → (Entries → ℕ → X → List ℕ → Type 0) → Entries → Entries → List ℕ → List ℕ → ℕ → X → Bool → Type 0

@@ -12,7 +12,7 @@ use crate::packets::{asked_line, plain_line};
 use fn_accepted::Accepted;
 use fn_engine::PackFault;
 use fn_filling::Item;
-use fn_line::{Event, Flow, LineFault, LineVersion, Received, RunFault, receive, run};
+use fn_line::{Event, Flow, LineFault, LineVersion, Receiver, RunFault, run};
 use itoa::Buffer;
 use rohcfn_input::bundle::Parts;
 use rohcfn_input::inputs::BadLine;
@@ -23,6 +23,9 @@ use rohcfn_input::status::{Answer, Status};
 use rohcfn_report::profile_and_certificate::{Judged, Origin, accept};
 use rohcfn_words::words::{End, Order};
 use std::alloc::{AllocError, Global};
+
+/// How many octets of a line are heard at once, at most.
+const PIECE: usize = 4_096;
 
 /// The answer to `line`: at the sending end the octets of the events and the items that a receiver gives of them, at the receiving end the items of
 /// the octets; or the line of the first fault.
@@ -210,15 +213,62 @@ fn receive_all(
 ) -> Result<Answer, AllocError>
     ensures { IfOk result (spec.AnswersReceived version accepted.now octets.now) }
 {
-    let Received { items, fault } = receive(alloc, accepted, version, octets)?;
     let mut output = String::new(alloc);
-    push_items(alloc, &mut output, items.as_slice())?;
+    let fault = push_heard(alloc, version, accepted, octets, &mut output)?;
     match fault {
         Some(fault) => refused_by(output, fault),
         None => Ok(Answer {
             status: Status::Done,
             output,
         }),
+    }
+}
+
+/// Adds a line for each item of the octets of a new line. They are heard piece by piece, so that no more items are kept than one piece gives. The fault, if one
+/// comes.
+fn push_heard(
+    alloc: Global,
+    version: LineVersion,
+    accepted: &Accepted,
+    octets: &[u8],
+    output: &mut String,
+) -> Result<Option<LineFault>, AllocError>
+    ensures { IfOk result (spec.IsHeardOut version accepted.now octets.now (string_bytes output.old) (string_bytes output.new)) }
+{
+    let mut receiver = Receiver::new(alloc, accepted, version)?;
+    let mut place = 0;
+    while place < octets.len() {
+        let count = (octets.len() - place).min(PIECE);
+        let piece = &octets[place..place + count];
+        match push_piece(alloc, &mut receiver, piece, output)? {
+            Some(fault) => return Ok(Some(fault)),
+            None => place += count,
+        }
+    }
+    match receiver.finish() {
+        Ok(()) => Ok(None),
+        Err(fault) => Ok(Some(fault)),
+    }
+}
+
+/// Adds a line for each item that the next octets give. The fault, if one comes.
+fn push_piece(
+    alloc: Global,
+    receiver: &mut Receiver<'_>,
+    piece: &[u8],
+    output: &mut String,
+) -> Result<Option<LineFault>, AllocError>
+    ensures { IfOk result (spec.HearsPiece receiver.old receiver.new piece.now (string_bytes output.old) (string_bytes output.new)) }
+{
+    let mut items = Vec::new(alloc);
+    let heard = receiver.feed(piece, &mut items);
+    push_items(alloc, output, items.as_slice())?;
+    match heard {
+        Ok(()) => Ok(None),
+        Err(fault) => match fault {
+            LineFault::OutOfMemory => Err(AllocError),
+            _ => Ok(Some(fault)),
+        },
     }
 }
 

@@ -2,6 +2,7 @@
 
 ghost use Rattle.std.specs.Prelude.{◌≡◌, ◌≢◌, ◌∷◌, ◌++◌, [], true, IfOk, OnOk, codes, decimal, string_bytes};
 ghost use Rattle.rohcfn_input.specs.OneLine.{IsLine};
+ghost use Rattle.fn_filling.specs.Fillings as sides;
 ghost use Rattle.fn_engine.specs.Reading as reading;
 ghost use Rattle.fn_engine.specs.Writing as writing;
 ghost use Rattle.rohcfn_tool.specs.Printed as spec;
@@ -15,7 +16,7 @@ use fn_filling::{Filling, Item, advance};
 use fn_normal::Method;
 use fn_reader::Blamed;
 use itoa::Buffer;
-use rohcfn_input::spelling::{push_bits, push_item_text, push_line};
+use rohcfn_input::spelling::{push_bits, push_item_of, push_line};
 use rohcfn_input::status::{Answer, Status};
 use rohcfn_items::fields::{Head, fields_text, head_line};
 use rohcfn_names::names::{format_name, method_name};
@@ -340,14 +341,14 @@ fn unpack_one(
     match unpack_filling(alloc, accepted, context, &mut cursor) {
         Ok(
             Unpacked {
-                item,
+                header,
                 filling,
                 bits,
             },
         ) => {
             let what = "packet";
             let head = Head { what, number, bits };
-            push_found(alloc, shape, accepted, output, head, &item, &filling)?;
+            push_found(alloc, shape, accepted, output, head, &header, &filling)?;
             advance(alloc, context, &filling)?;
             Ok(false)
         }
@@ -401,30 +402,38 @@ fn refuse_packet(
     Ok(())
 }
 
-/// Adds the line of an item that was read, or the fields of its filling.
+/// Adds the line of the item of a filling that was read, which has this header, or the fields of the filling.
 fn push_found(
     alloc: Global,
     shape: Shape<'_>,
     accepted: &Accepted,
     output: &mut String,
     head: Head<'_>,
-    item: &Item,
+    header: &Bits,
     filling: &Filling,
 ) -> Result<(), AllocError>
-    ensures { OnOk result (spec.IsFoundText shape.entry accepted.now head.entry.what.now head.entry.number head.entry.bits item.now filling.now (string_bytes output.old) (string_bytes output.new)) }
+    requires { header.now ≡ sides.header filling.now }
+    ensures { OnOk result (spec.IsFoundText shape.entry accepted.now head.entry.what.now head.entry.number head.entry.bits filling.now (string_bytes output.old) (string_bytes output.new)) }
 {
     match shape {
-        Shape::Line => push_read(alloc, output, item, head.bits),
+        Shape::Line => push_read(alloc, output, header, filling, head.bits),
         Shape::Tree => push_fields(alloc, accepted, output, head, filling),
         Shape::Why(_) => push_head(alloc, accepted, output, head, filling),
     }
 }
 
-/// Adds a line of an item, and how many bits its packet took.
-fn push_read(alloc: Global, output: &mut String, item: &Item, bits: usize) -> Result<(), AllocError>
-    ensures { OnOk result (spec.IsReadLine item.now bits (string_bytes output.old) (string_bytes output.new)) }
+/// Adds a line of the item of a filling that has this header, and how many bits its packet took.
+fn push_read(
+    alloc: Global,
+    output: &mut String,
+    header: &Bits,
+    filling: &Filling,
+    bits: usize,
+) -> Result<(), AllocError>
+    requires { header.now ≡ sides.header filling.now }
+    ensures { OnOk result (spec.IsReadLine (sides.item filling.now) bits (string_bytes output.old) (string_bytes output.new)) }
 {
-    push_item_text(alloc, output, item)?;
+    push_item_of(alloc, output, header, filling)?;
     push_took(output, bits)?;
     Ok(())
 }

@@ -1,4 +1,4 @@
-use Rattle.std.proofs.Common.{subst}
+use Rattle.std.proofs.Common.{subst, ◌∙◌}
 use Rattle.std.specs.Map.{keys_of}
 use Rattle.fn_filling.specs.Entries.{entries, GoesOn}
 use Rattle.fn_filling.proofs.EntriesInOrder.{from_first}
@@ -7,4 +7,4 @@ use Rattle.fn_filling.proofs.entries.values_in_order.Goals as goal
 pub returns : goal.returns
 returns c =
     from_first (keys_of c.args.context.now) c.add_in_order.new.values.items (entries c.args.filling.now)
-    (subst (λ v. GoesOn (keys_of c.args.context.now) v c.add_in_order.new.values.items (entries c.args.filling.now)) c.in_ok-values.ensures.items (c.in_ok-add_in_order.ensures c.if-not-branch.false))
+    (subst (λ v. GoesOn (keys_of c.args.context.now) v c.add_in_order.new.values.items (entries c.args.filling.now)) (c.reserve.ensures.items ∙ c.requires) (c.in_ok-add_in_order.ensures c.if-not-branch.false))

@@ -76,7 +76,7 @@ call_holds-inner_holds-requires t c = (
   (search rules),
   (
     c.requires.1.1.0,
-    λ s at. c.requires.1.1.1.1 c.as_slice.result.now (sym c.in_ok-values.ensures ∙ c.in-Some.is ∙ ap Some (sym c.as_slice.ensures)) s at,
+    λ s at. c.requires.1.1.1.1 c.as_slice.result.now (c.in_ok-add_values.ensures.all c.if-not-branch.false ∙ ap Some (sym c.as_slice.ensures)) s at,
   ),
 )
 

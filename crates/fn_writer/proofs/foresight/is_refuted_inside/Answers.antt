@@ -21,10 +21,10 @@ returns c =
     } in
     let offset = c.in-Some-offset_of.offset in
     let before = c.in-Some-offset_of.ensures.1 in
-    told c.is_refuted.result
+    told c.is_refuted_else.result
     (λ (t : IsRefuted there c.args.inside (drop (c.args.source.now.from + offset) c.args.source.now.cursor.now.left)).
     by_start c.in-Some-sizes_of.sizes.now offset there (sym c.is_header.ensures ∙ c.if-not-is_header.false) (sym c.in-Some-sizes_of.ensures)
     (subst (λ z. HaveBefore z c.in-Some-sizes_of.sizes.now.fields c.args.field offset) c.as_slice-2.ensures (subst (λ z. HaveBefore c.as_slice-2.result.now z c.args.field offset) c.as_slice-3.ensures before))
     (record { accepted_is = refl; context_is = refl; method_is = refl; args_are = refl; path_is = c.as_str-2.ensures ∙ (c.in_ok-path.ensures ∙ ap (below c.args.place.now.path.now) c.as_str.ensures) })
     (subst (λ z. IsRefuted there c.args.inside z) (sym (drop-drop offset c.args.source.now.from c.args.source.now.cursor.now.left)) t))
-    c.is_refuted.ensures
+    c.is_refuted_else.ensures

@@ -4,7 +4,7 @@ use Rattle.fn_normal.specs.declared.profile.Library.TheVariants as library
 use Rattle.fn_writer.specs.Refutation.{IsOther, Lacks, by_constant, reference_at}
 use Rattle.fn_writer.specs.Told.{numbers}
 use Rattle.fn_writer.proofs.RefutationFronts.{told}
-use Rattle.fn_writer.proofs.refutation.is_other.Goals as goal
+use Rattle.fn_writer.proofs.refutation.is_other_at.Goals as goal
 
 pub returns-then-is_lacking : goal.returns-then-is_lacking
 returns-then-is_lacking c = λ t. by_constant (subst (λ z. Lacks c.args.place.now.accepted.now.profile (numbers c.args.told.now) z (drop c.args.begin c.args.source.now.left)) c.get-encoding.ensures (c.in_ok-is_lacking.ensures c.if-is_lacking.true))

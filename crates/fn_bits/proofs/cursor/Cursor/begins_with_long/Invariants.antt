@@ -1,5 +1,5 @@
 use Rattle.std.proofs.Common.{◌≡◌, ◌-◌, ◌≤◌, length, take}
-use Rattle.fn_bits.proofs.cursor.Cursor.begins_with.Given as goal
+use Rattle.fn_bits.proofs.cursor.Cursor.begins_with_long.Given as goal
 
 abbrev pub invariant-loop-done : goal.invariant-loop-done
 invariant-loop-done l = (l.done ≤ length l.bits) × (take l.done l.fn.self.left ≡ take l.done l.bits) × (l.other.left ≡ l.bits)
