@@ -11,8 +11,8 @@ returns-then-not-is_zero-clause-err c =
 pub returns-in_ok-advance-in-Ok-clause-ok : goal.returns-in_ok-advance-in-Ok-clause-ok
 returns-in_ok-advance-in-Ok-clause-ok c =
     taken c.args.accepted.now c.args.context.now c.advance.new.context (drop 1 c.args.begun.now) c.bits.result.now c.in-Ok.read.filling c.new-cursor.result c.unpack_filling.new.cursor
-    (entries c.in-Ok.read.filling) c.in-Ok.read.item c.bits.ensures.fit c.bits.ensures.value c.requires c.in-Ok.ensures.read.fits
-    c.new-cursor.ensures c.in-Ok.ensures.read.advances (c.if-not-is_zero.ensures.0 refl) refl c.in_ok-advance-in-Ok.ensures.ok c.in-Ok.ensures.read.item_is
+    (entries c.in-Ok.read.filling) c.in_ok-item-in-Ok.item c.bits.ensures.fit c.bits.ensures.value c.requires c.in-Ok.ensures.read.fits
+    c.new-cursor.ensures c.in-Ok.ensures.read.advances (c.if-not-is_zero.ensures.0 refl) refl c.in_ok-advance-in-Ok.ensures.ok c.in_ok-item-in-Ok.ensures
 
 pub returns-in-Truncated-clause-ok : goal.returns-in-Truncated-clause-ok
 returns-in-Truncated-clause-ok c =

@@ -13,5 +13,5 @@ returns-clause-some c =
     let over = c.in-Some-checked_add.ensures.1 in (
       subst (λ n. n / 8 ≤ length octets) (sym over) within,
       told_at_once c.args.accepted.now c.args.context.now c.advance.new.context octets (c.in-Some-checked_add.over / 8) c.in-Some.bits c.in-Some-3._own c.in-Some-2.read.filling c.new-cursor.result c.unpack_drawn.new.cursor
-          (entries c.in-Some-2.read.filling) c.in-Some-2.read.item held.1 read.fits c.new-cursor.ensures read.advances own.1 (own.0 ∙ read.bits_is) refl c.in_ok-advance.ensures.ok read.item_is,
+          (entries c.in-Some-2.read.filling) c.in_ok-item.item held.1 read.fits c.new-cursor.ensures read.advances own.1 (own.0 ∙ read.bits_is) refl c.in_ok-advance.ensures.ok c.in_ok-item.ensures,
     )
