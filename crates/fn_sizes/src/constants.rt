@@ -13,14 +13,25 @@ use std::alloc::Global;
 pub(crate) fn constant_of(alloc: Global, expr: &Expr) -> Option<i128>
     ensures { result ≡ spec.constant expr.now }
 {
-    match small_sum(expr) {
+    match small_value(expr) {
         Some(value) => Some(value as i128),
         None => constants::constant_of(alloc, expr),
     }
 }
 
-/// The one value of a sum, a difference or a product of literals, where 64 bits hold it and all parts of it. In a long sum the operands on the right are
-/// literals, and one after the other is added up.
+/// The one value of a sum, a difference or a product of literals, where 64 bits hold it and all parts of it.
+fn small_value(expr: &Expr) -> Option<i64>
+    ensures { IfSome result (spec.IsExact expr.now) }
+{
+    match expr {
+        Expr::Number(_, number) => within(i64::try_from(*number).ok()?),
+        Expr::Parameter(_, _) | Expr::Attribute(_, _) => None,
+        Expr::Binary(_, _, _, _) => small_sum(expr),
+    }
+}
+
+/// The same of what has operands. In a long sum those on the right are literals, and one after the other is added up.
+#[inline(never)]
 fn small_sum(expr: &Expr) -> Option<i64>
     ensures { IfSome result (spec.IsExact expr.now) }
 {

@@ -158,7 +158,19 @@ fn small_reach(expr: &Expr) -> Option<u64>
     }
 }
 
-/// The same, where in a long sum the operands on the right are literals, and one after the other is added up.
+/// The same, where most expressions are a literal.
+fn value_reach(expr: &Expr) -> Option<u64>
+    ensures { (sizes : FormatSizes) (parameters : List Interval) → IfSome result (spec.Reaches sizes parameters expr.now) }
+{
+    match expr {
+        Expr::Number(_, number) => u64::try_from(number.unsigned_abs()).ok(),
+        Expr::Parameter(_, _) | Expr::Attribute(_, _) => None,
+        Expr::Binary(_, _, _, _) => sum_reach(expr),
+    }
+}
+
+/// The same of what has operands. In a long sum those on the right are literals, and one after the other is added up.
+#[inline(never)]
 fn sum_reach(expr: &Expr) -> Option<u64>
     ensures { (sizes : FormatSizes) (parameters : List Interval) → IfSome result (spec.Reaches sizes parameters expr.now) }
 {
@@ -217,7 +229,7 @@ pub(crate) fn reach(sizes: &FormatSizes, parameters: &[Interval], expr: &Expr) -
 pub(crate) fn reached(sizes: &FormatSizes, parameters: &[Interval], expr: &Expr) -> Option<u128>
     ensures { IfSome result (spec.Reaches sizes.now parameters.now expr.now) }
 {
-    match sum_reach(expr) {
+    match value_reach(expr) {
         Some(size) => Some(size as u128),
         None => reach(sizes, parameters, expr),
     }

@@ -19,6 +19,7 @@ use Rattle.fn_cert_text.specs.declared.reading.CertificateError.{CertificateErro
 use Rattle.fn_rules.specs.declared.fault.CheckFault.{CheckFault}
 use Rattle.fn_rules.specs.Valid.{Valid}
 use Rattle.fn_checker.specs.Blaming as check
+use Rattle.fn_checker.specs.Judged.{AreEntriesRight}
 use Rattle.fn_accepted.specs.Accepted.{Accepting, IsAccepted}
 use Rattle.fn_checker.specs.declared.refusal.CheckError.{CheckError}
 use Rattle.fn_checker.specs.declared.refusal.CheckError.TheVariants.{Fault}
@@ -96,6 +97,13 @@ verdict_of p origin cert (judged.Refused text) is h = (invalid cert h.0 is h.1 h
 pub certificate_judged : (p : Resolved) (origin : Origin) (f : Found) (cert : Certified) (r : Result Judged AllocError) → IsFound p origin f → f ≡ found.Certificate cert → IfOk r (IsVerdict p cert) → IfOk r (IsJudged p origin)
 certificate_judged p origin f cert (Err e) has is h = tt
 certificate_judged p origin f cert (Ok j) has is h = verdict_of p origin cert j (subst (λ (x : Found). IsFound p origin x) is has) h
+
+pub proved_right : (p : Resolved) (origin : Origin) (f : Found) (cert : Certified) → IsFound p origin f → f ≡ found.Proved cert → AreEntriesRight p.methods p.sizes cert
+proved_right p origin f cert has is = (subst (λ (x : Found). IsFound p origin x) is has).1
+
+pub proved_judged : (p : Resolved) (origin : Origin) (f : Found) (cert : Certified) (r : Result Judged AllocError) → IsFound p origin f → f ≡ found.Proved cert → IfOk r (IsVerdict p cert) → IfOk r (IsJudged p origin)
+proved_judged p origin f cert (Err e) has is h = tt
+proved_judged p origin f cert (Ok j) has is h = verdict_of p origin cert j (subst (λ (x : Found). IsFound p origin x) is has).0 h
 
 pub line_judged : (p : Resolved) (origin : Origin) (f : Found) (text : String Global) → IsFound p origin f → f ≡ found.Line text → RefusesCertificate p origin (string_bytes text) × IsLine (string_bytes text)
 line_judged p origin f text has is = let h = subst (λ (x : Found). IsFound p origin x) is has in (lacking h.0, h.1)

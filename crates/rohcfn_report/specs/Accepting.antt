@@ -12,6 +12,7 @@ use Rattle.fn_cert_text.specs.Faults.{IsReading, Blames, text_limit}
 use Rattle.fn_rules.specs.declared.fault.CheckFault.{CheckFault}
 use Rattle.fn_rules.specs.Refusals.{IsRefused}
 use Rattle.fn_rules.specs.Valid.{Valid}
+use Rattle.fn_checker.specs.Judged.{AreEntriesRight}
 use Rattle.fn_accepted.specs.Accepted.{Accepting}
 use Rattle.fn_prover.specs.Proved.{IsProved, IsUnproved}
 use Rattle.fn_prover.specs.declared.unproved.Unproved.{Unproved}
@@ -80,6 +81,7 @@ pub record AcceptsProfile (top profile : List ℕ) (origin : Origin) (a : Accept
 
 abbrev pub IsFound : Resolved → Origin → Found → Type 0
 IsFound p origin (found.Certificate cert) = IsCertificate p origin cert
+IsFound p origin (found.Proved cert) = IsCertificate p origin cert × AreEntriesRight p.methods p.sizes cert
 IsFound p origin (found.Line text) = LacksCertificate p origin (string_bytes text) × IsLine (string_bytes text)
 
 -- what is found of octets that are given, and where one is to be made

@@ -1,8 +1,10 @@
 //! A profile with its certificate, or the line of what is wrong with them.
 
-ghost use Rattle.std.specs.Prelude.{◌≡◌, IfOk, string_bytes};
+ghost use Rattle.std.specs.Prelude.{◌≡◌, IfOk, IfErr, IsTrue, string_bytes};
 ghost use Rattle.std.specs.Str.{IsUtf8};
 ghost use Rattle.fn_cert_text.specs.Faults.{Blames};
+ghost use Rattle.fn_checker.specs.Blaming as checker;
+ghost use Rattle.fn_checker.specs.Judged.{AreEntriesRight};
 ghost use Rattle.fn_profile.specs.Resolved.{Resolved};
 ghost use Rattle.rohcfn_report.specs.Accepting as spec;
 ghost use Rattle.rohcfn_names.specs.CheckFaults as verdicts;
@@ -14,9 +16,10 @@ use fn_bits::LinesError;
 use fn_bits::lines::lines;
 use fn_cert::{Certificate, Version};
 use fn_cert_text::CertificateError;
-use fn_checker::{CheckError, check};
+use fn_checker::{CheckError, Refusal, check, check_right};
 use fn_names::read;
 use fn_profile::Profile;
+use fn_prover::laws::ordered_is_right;
 use fn_prover::prove;
 use rohcfn_input::bundle::Parts;
 use rohcfn_names::check_faults::{error_text, unread_line, verdict_line};
@@ -52,6 +55,8 @@ pub enum Judged {
 #[derive(Drop)]
 pub(crate) enum Found {
     Certificate(Certificate),
+    /// One that is proved, so its entries are right.
+    Proved(Certificate),
     Line(String),
 }
 
@@ -76,7 +81,8 @@ fn judge(alloc: Global, profile: Profile, origin: Origin<'_>) -> Result<Judged, 
     ensures { IfOk result (spec.IsJudged profile origin.entry) }
 {
     match find(alloc, &profile, origin)? {
-        Found::Certificate(certificate) => verdict(alloc, profile, certificate),
+        Found::Certificate(certificate) => verdict(alloc, profile, certificate, false),
+        Found::Proved(certificate) => verdict(alloc, profile, certificate, true),
         Found::Line(line) => Ok(Judged::Refused(line)),
     }
 }
@@ -108,7 +114,8 @@ fn make(alloc: Global, profile: &Profile, version: Version) -> Result<Found, All
     match prove(alloc, profile, version) {
         Ok(certificate) => {
             certificate.keeps();
-            Ok(Found::Certificate(certificate))
+            ordered_is_right();
+            Ok(Found::Proved(certificate))
         }
         Err(unproved) => {
             profile.keeps();
@@ -142,11 +149,17 @@ fn read_text(alloc: Global, profile: &Profile, text: &str) -> Result<Found, Allo
     }
 }
 
-/// The verdict on a profile with this certificate.
-fn verdict(alloc: Global, profile: Profile, certificate: Certificate) -> Result<Judged, AllocError>
+/// The verdict on a profile with this certificate, whose entries are known to be right or not.
+fn verdict(
+    alloc: Global,
+    profile: Profile,
+    certificate: Certificate,
+    is_right: bool,
+) -> Result<Judged, AllocError>
+    requires { IsTrue is_right → AreEntriesRight profile.methods profile.sizes certificate }
     ensures { IfOk result (spec.IsVerdict profile certificate) }
 {
-    match check(alloc, profile, certificate) {
+    match checked(alloc, profile, certificate, is_right) {
         Ok(accepted) => {
             accepted.keeps();
             Ok(Judged::Accepted(accepted))
@@ -159,5 +172,26 @@ fn verdict(alloc: Global, profile: Profile, certificate: Certificate) -> Result<
             }
             CheckError::OutOfMemory => Err(AllocError),
         },
+    }
+}
+
+/// The profile with this certificate, where it is valid. Entries that are known to be right are not judged.
+fn checked(
+    alloc: Global,
+    profile: Profile,
+    certificate: Certificate,
+    is_right: bool,
+) -> Result<Accepted, Refusal>
+    requires { IsTrue is_right → AreEntriesRight profile.methods profile.sizes certificate }
+    ensures profile { IfOk result (λ a. a.profile ≡ profile) }
+    ensures certificate { IfOk result (λ a. a.certificate ≡ certificate) }
+    ensures same_profile { IfErr result (λ r. r.profile ≡ profile) }
+    ensures same_certificate { IfErr result (λ r. r.certificate ≡ certificate) }
+    ensures fault { IfErr result (λ r. checker.Blames profile certificate r.error) }
+{
+    if is_right {
+        check_right(alloc, profile, certificate)
+    } else {
+        check(alloc, profile, certificate)
     }
 }
