@@ -1,5 +1,5 @@
 -- What is heard of a line piece by piece.
-use Rattle.std.proofs.Common.{◌≡◌, ℕ, zero, suc, ◌+◌, ◌<◌, ◌≤◌, List, [], ◌∷◌, ◌++◌, length, take, drop, refl, ap, sym, ◌∙◌, subst, append_assoc, arith}
+use Rattle.std.proofs.Common.{◌≡◌, ℕ, zero, suc, ◌+◌, ◌-◌, ◌<◌, ◌≤◌, List, [], ◌∷◌, ◌++◌, length, take, drop, refl, ap, sym, ◌∙◌, subst, append_assoc, arith}
 use Rattle.std.specs.Prelude.{Option, Some, None, codes, decimal}
 use Rattle.std.proofs.lemmas.List.{append-nil, length-drop, take-append-drop, take_all}
 use Rattle.fn_accepted.specs.Accepted.{Accepting}
@@ -63,6 +63,10 @@ heard_next version a octets piece place count now next before here after some wi
       hears = hears_further (start_of version a) now next octets (drop place octets) place count so_far.found heard.0 refl so_far.hears first;
       pushed = pushed_further so_far.found heard.0 before here after so_far.pushed heard.1;
     }
+
+-- the octets from a place up to so many after it
+pub piece_is : (octets : List ℕ) (place count : ℕ) → take ((place + count) - place) (drop place octets) ≡ take count (drop place octets)
+piece_is octets place count = ap (λ n. take n (drop place octets)) (omega arith)
 
 -- ---- the end
 
