@@ -199,8 +199,22 @@ fn library_fault(
         Library::Static => None,
         Library::Lsb { bits, offset } => pair_fault(extent, format, sizes, ranges, bits, offset),
         Library::Crc(crc) => earlier(
-            pair_fault(extent, format, sizes, ranges, &crc.get().bits, &crc.get().polynomial),
-            pair_fault(extent, format, sizes, ranges, &crc.get().initial, &crc.get().length),
+            pair_fault(
+                extent,
+                format,
+                sizes,
+                ranges,
+                &crc.get().bits,
+                &crc.get().polynomial,
+            ),
+            pair_fault(
+                extent,
+                format,
+                sizes,
+                ranges,
+                &crc.get().initial,
+                &crc.get().length,
+            ),
         ),
     }
 }
