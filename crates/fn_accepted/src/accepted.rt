@@ -116,6 +116,7 @@ impl Accepted {
     }
 
     /// The same for the bits so many places after the cursor's.
+    #[inline(always)]
     pub fn pick_ahead(
         &self,
         alloc: Global,

@@ -1,4 +1,4 @@
-use Rattle.std.proofs.Common.{◌≡◌, ℕ, zero, suc, ◌+◌, ◌*◌, ◌-◌, ◌/◌, ◌%◌, ◌^◌, ◌<◌, ◌≤◌, ◌==◌, Bool, false, List, [], ◌∷◌, ◌++◌, length, take, drop, replicate, get_or, refl, ap, sym, ◌∙◌, subst, arith, append_assoc, length-append}
+use Rattle.std.proofs.Common.{◌≡◌, ℕ, zero, suc, ◌+◌, ◌*◌, ◌-◌, ◌/◌, ◌%◌, ◌^◌, ◌<◌, ◌≤◌, ◌==◌, Bool, false, List, [], ◌∷◌, ◌++◌, length, take, drop, replicate, get_or, refl, ap, sym, ◌∙◌, subst, arith, pow-add, append_assoc, length-append}
 use Rattle.std.proofs.lemmas.List.{take_at, drop_at, append-nil, length-take, length-take-le, drop-take, take-append-drop, drop-drop, take-append-le, drop-append-le, length-drop, take-take, length-replicate, take-replicate, replicate-append-replicate, length_push}
 use Rattle.std.proofs.Math.Seq.{take-add, take-append-add}
 use Rattle.std.proofs.lemmas.Nat.{shr_high, shr-shr, shr_split, mod_below, and_mask, shl_whole, pow_pos, shl_below, shr_below}
@@ -323,6 +323,24 @@ low_masked w n l =
     let one : 1 * 2 ^ n % 2 ^ 64 ≡ 1 * 2 ^ n = shl_whole 1 1 n 64 (omega arith) (omega arith) in
     let mask : 1 * 2 ^ n % 2 ^ 64 - 1 ≡ 2 ^ n - 1 = omega (arith, one) in
     ap (bit_and w) mask ∙ and_mask w n
+
+one_less : (p q : ℕ) → 0 < q → p * q + (q - 1) ≡ (p + 1) * q - 1
+one_less p q s =
+    let more : (p + 1) * q ≡ p * q + q = grind arith in
+    omega (arith, more, s)
+
+all_ones : (n k : ℕ) → n + k ≡ 64 → 18446744073709551615 / 2 ^ k ≡ 2 ^ n - 1
+all_ones n k e =
+    let some : 0 < 2 ^ k = pow_pos k in
+    let first : 0 < 2 ^ n = pow_pos n in
+    let both : 2 ^ n * 2 ^ k ≡ 18446744073709551616 = sym (pow-add 2 n k) ∙ ap (λ m. 2 ^ m) e in
+    let back : (2 ^ n - 1) + 1 ≡ 2 ^ n = omega (arith, first) in
+    let whole : (2 ^ n - 1) * 2 ^ k + (2 ^ k - 1) ≡ 18446744073709551615 = one_less (2 ^ n - 1) (2 ^ k) some ∙ ap (λ m. m * 2 ^ k - 1) back ∙ ap (λ m. m - 1) both in
+    ap (λ m. m / 2 ^ k) (sym whole) ∙ shr_high (2 ^ n - 1) k (2 ^ k - 1) (omega (arith, some))
+
+-- the same by a mask of one shift, where there are some
+pub low_shifted : (w n : ℕ) → 0 < n → n ≤ 64 → bit_and w (18446744073709551615 / 2 ^ (64 - n)) ≡ w % 2 ^ n
+low_shifted w n some most = ap (bit_and w) (all_ones n (64 - n) (omega arith)) ∙ and_mask w n
 
 pub low_whole : (w n : ℕ) → w < 2 ^ 64 → n ≡ 64 → w ≡ w % 2 ^ n
 low_whole w n l e = rw e (omega arith)

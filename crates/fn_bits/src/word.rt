@@ -24,7 +24,7 @@ pub(crate) fn part(word: u64, count: usize, after: usize) -> u64
     if count == 0 {
         return 0;
     }
-    low_bits(word >> after, count)
+    (word >> after) & (u64::MAX >> (64 - count))
 }
 
 /// The octet of the eight bits from eight times a place on, filled with zero bits.

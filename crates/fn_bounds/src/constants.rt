@@ -54,6 +54,7 @@ fn exact(expr: &Expr) -> Option<i128>
 }
 
 /// The value of a constant: an expression without attributes and parameters, which has a range and a value. It takes no memory.
+#[inline(always)]
 pub fn constant_of(alloc: Global, expr: &Expr) -> Option<i128>
     ensures { result ≡ spec.constant expr.now }
 {
@@ -62,6 +63,14 @@ pub fn constant_of(alloc: Global, expr: &Expr) -> Option<i128>
             return Some(*number);
         }
     }
+    other_constant(alloc, expr)
+}
+
+/// The same of any expression. A function of its own, so that a small number takes no room for it.
+#[inline(never)]
+fn other_constant(alloc: Global, expr: &Expr) -> Option<i128>
+    ensures { result ≡ spec.constant expr.now }
+{
     if let Some(number) = exact(expr) {
         return Some(number);
     }

@@ -10,6 +10,7 @@ use std::alloc::{AllocError, Global};
 /// reference less the offset, and wraps at the reference's length, the one number that ends in the compressed side. It is
 /// `None` where there is no reference, it has more than 64 bits or fewer than `bits`, or the compressed side has another
 /// length than `bits`.
+#[inline(always)]
 pub fn lsb_up(
     alloc: Global,
     bits: i128,
@@ -42,6 +43,7 @@ pub fn lsb_up(
 /// is no reference, it has more than 64 bits or fewer than `bits`, or the uncompressed side has another length than the
 /// reference or a number outside the interval of two to the power of `bits` numbers that begins at the reference less the
 /// offset, and wraps at the reference's length.
+#[inline(always)]
 pub fn lsb_down(
     alloc: Global,
     bits: i128,

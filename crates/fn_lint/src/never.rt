@@ -37,7 +37,7 @@ fn constraint_is_untrue(constraint: &Constraint, ranges: &Ranges) -> bool
         Constraint::Enforce {
             condition,
             place: _,
-        } => never_true(condition, ranges),
+        } => never_true(condition.get(), ranges),
     }
 }
 

@@ -49,7 +49,7 @@ fn constraint_holds(constraint: &Constraint, filling: &Filling, known: &Seen<'_>
         Constraint::Enforce {
             condition,
             place: _,
-        } => decide(condition, known) == Some(true),
+        } => decide(condition.get(), known) == Some(true),
     }
 }
 

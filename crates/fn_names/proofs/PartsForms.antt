@@ -1,5 +1,6 @@
 -- The methods of a file, one after the other.
-use Rattle.std.proofs.Common.{◌≡◌, ◌∙◌, ap, ℕ, ◌+◌, inl, inr, Bool, List, [], ◌∷◌, ◌++◌, ◌≤◌, length, refl, sym, subst, drop, suc, zero, arith, append_assoc, append-nil}
+use Rattle.std.proofs.Common.{◌≡◌, ◌∙◌, ap, ℕ, ◌+◌, inl, inr, Bool, List, [], ◌∷◌, ◌++◌, ◌≤◌, length, refl, sym, subst, drop, suc, zero, arith, append_assoc, append-nil, reverse}
+use Rattle.std.proofs.lemmas.List.{reverse-append}
 use Rattle.std.specs.Prelude.{slice_get, Some, None, Option}
 use Rattle.fn_tree.specs.declared.tree.Method.{Method as TreeMethod}
 use Rattle.fn_tree.specs.declared.tree.Constant.{Constant}
@@ -9,7 +10,6 @@ use Rattle.fn_normal.specs.declared.fault.ProfileFault.{ProfileFault}
 use Rattle.fn_normal.specs.declared.profile.Method.{Method}
 use Rattle.fn_normal.specs.Judging.{earlier, Judged}
 use Rattle.fn_normal.proofs.JudgingLemmas.{neither, which}
-use Rattle.fn_normal.proofs.Loops.{dropped}
 use Rattle.fn_methods.specs.declared.methods.FileSetting.{FileSetting}
 use Rattle.fn_methods.specs.Methods.{IsMethod, MethodCause}
 use Rattle.fn_names.specs.declared.methods.Drafts.{Drafts}
@@ -50,30 +50,25 @@ start file parts top all found fault = record {
   causes = λ f e. let wrong : None ≡ Some f = sym fault ∙ e in absurd cc;
 }
 
-rest_of : (parts : List Part) (i : ℕ) (p : Part) → slice_get parts i ≡ Some p → methods_of (drop i parts) ≡ methods_of (p ∷ drop (i + 1) parts)
-rest_of parts i p here = let e : suc i ≡ i + 1 = omega arith in ap methods_of (dropped parts i p here ∙ ap (λ n. p ∷ drop n parts) e)
+-- what is taken from the end of a list comes first in it backwards
+pub turned : (xs ys : List Part) (x : Part) → xs ≡ ys ++ x ∷ [] → reverse xs ≡ x ∷ reverse ys
+turned xs ys x e = ap reverse e ∙ reverse-append ys (x ∷ [])
 
--- a method of the file comes next
-pub at_method : (file : FileSetting) (parts : List Part) (top : Option ℕ) (k i : ℕ) (p : Part) (m : TreeMethod) (all : Drafts) → slice_get parts i ≡ Some p → p ≡ part.Method m
-    → Leads file parts top k (methods_of (drop i parts)) all → Leads file parts top k (m ∷ methods_of (drop (i + 1) parts)) all
-at_method file parts top k i p m all here is so = subst (λ ms. Leads file parts top k ms all) (rest_of parts i p here ∙ ap (λ q. methods_of (q ∷ drop (i + 1) parts)) is) so
+-- a part of the file comes next that is a method
+pub at_method : (file : FileSetting) (parts : List Part) (top : Option ℕ) (k : ℕ) (p : Part) (m : TreeMethod) (rest : List Part) (all : Drafts) → p ≡ part.Method m
+    → Leads file parts top k (methods_of (p ∷ rest)) all → Leads file parts top k (m ∷ methods_of rest) all
+at_method file parts top k p m rest all is so = subst (λ q. Leads file parts top k (methods_of (q ∷ rest)) all) is so
 
--- a constant does
-pub at_constant : (file : FileSetting) (parts : List Part) (top : Option ℕ) (k i : ℕ) (p : Part) (c : Constant) (all : Drafts) → slice_get parts i ≡ Some p → p ≡ part.Constant c
-    → Leads file parts top k (methods_of (drop i parts)) all → Leads file parts top k (methods_of (drop (i + 1) parts)) all
-at_constant file parts top k i p c all here is so = subst (λ ms. Leads file parts top k ms all) (rest_of parts i p here ∙ ap (λ q. methods_of (q ∷ drop (i + 1) parts)) is) so
-
-none_left : (xs : List Part) (i : ℕ) → length xs ≤ i → drop i xs ≡ []
-none_left [] zero h = refl
-none_left [] (suc i) h = refl
-none_left (x ∷ xs) zero h = absurd (omega arith)
-none_left (x ∷ xs) (suc i) h = none_left xs i (omega arith)
+-- one that is a constant
+pub at_constant : (file : FileSetting) (parts : List Part) (top : Option ℕ) (k : ℕ) (p : Part) (c : Constant) (rest : List Part) (all : Drafts) → p ≡ part.Constant c
+    → Leads file parts top k (methods_of (p ∷ rest)) all → Leads file parts top k (methods_of rest) all
+at_constant file parts top k p c rest all is so = subst (λ q. Leads file parts top k (methods_of (q ∷ rest)) all) is so
 
 -- none is to come
-pub ended : (file : FileSetting) (parts : List Part) (top : Option ℕ) (k i : ℕ) (all : Drafts) → length parts ≤ i → Leads file parts top k (methods_of (drop i parts)) all
+pub ended : (file : FileSetting) (parts : List Part) (top : Option ℕ) (k : ℕ) (rest : List Part) (all : Drafts) → rest ≡ [] → Leads file parts top k (methods_of rest) all
     → Judged (AreMethods file (constant_mentions parts) top 0 (methods_of parts) all.found) (InMethod file parts) all.fault
-ended file parts top k i all past left =
-    let so = subst (λ ps. Leads file parts top k (methods_of ps) all) (none_left parts i past) left in
+ended file parts top k rest all none left =
+    let so = subst (λ ps. Leads file parts top k (methods_of ps) all) none left in
     record {
       fine = λ e. subst (AreMethods file (constant_mentions parts) top 0 (methods_of parts)) (append-nil all.found) (so.finds e [] no_methods);
       cause = so.causes;

@@ -2,6 +2,7 @@
 use Rattle.std.proofs.Common.{◌≡◌, ◌∙◌, ap, ℕ, ◌<◌, List, refl, sym, subst, length}
 use Rattle.std.proofs.lemmas.List.{length-map}
 use Rattle.std.specs.Prelude.{Some, Option}
+use Rattle.fn_source.specs.declared.span.Span.{Span}
 use Rattle.fn_tree.specs.declared.tree.Part.{Part}
 use Rattle.fn_normal.specs.declared.fault.ProfileFault.{ProfileFault}
 use Rattle.fn_normal.specs.declared.fault.ResolveError.{ResolveError}
@@ -41,10 +42,10 @@ blames_as to (errors.Fault f) blames = to f blames
 blames_as to errors.OutOfMemory blames = tt
 
 -- what the bounds' error says of the profile
-pub bounds_refused : (parts : List Part) (all kept : List Method) (top : ℕ) (order : List ℕ) → AreReached all top kept → bounds.IsOrder kept order
-    → (e : ResolveError) → sizes.Blames kept order e → Blames (ProfileCause parts all top) e
-bounds_refused parts all kept top order reached ordered (errors.Fault f) blames = no_bounds kept order reached ordered blames
-bounds_refused parts all kept top order reached ordered errors.OutOfMemory blames = tt
+pub bounds_refused : (names : List Span) (all kept : List Method) (top : ℕ) (order : List ℕ) → AreReached all top kept → bounds.IsOrder kept order
+    → (e : ResolveError) → sizes.Blames kept order e → Blames (ProfileCause names all top) e
+bounds_refused names all kept top order reached ordered (errors.Fault f) blames = no_bounds kept order reached ordered blames
+bounds_refused names all kept top order reached ordered errors.OutOfMemory blames = tt
 
 -- there are as many normal forms as methods
 pub form_for_each : (text : List ℕ) (parts : List Part) (top : Option ℕ) (all : List Method) → HaveForm text parts top all → length all ≡ length (methods_of parts)

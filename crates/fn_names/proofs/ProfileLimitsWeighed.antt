@@ -3,7 +3,7 @@ use Rattle.std.proofs.Common.{rules, ◌≡◌, ◌∙◌, ap, ℕ, suc, zero, �
 use Rattle.std.specs.Prelude.{slice_get, Option, Some, None}
 use Rattle.std.specs.List.{list_any}
 use Rattle.std.proofs.lemmas.List.{length-map}
-use Rattle.fn_tree.specs.declared.tree.Part.{Part}
+use Rattle.fn_source.specs.declared.span.Span.{Span}
 use Rattle.fn_calls.specs.Measures.{number_at, FieldCalls, AreWeights}
 use Rattle.fn_calls.specs.Order.{IsOrder}
 use Rattle.fn_calls.proofs.Measuring.{weight_is_local}
@@ -107,17 +107,17 @@ judged_long methods =
     }
 
 -- the three limits at once
-pub judged_limits : (parts : List Part) (methods : List Method) (top : ℕ) (deep long heavy : Option ProfileFault) → Judged (IsShallow (used_graph methods) top) (IsTooDeep (used_graph methods) top parts) deep
-    → long ≡ earliest long_format methods → Judged (IsLight methods top) (IsHeavy methods top) heavy → Judged (IsWithinLimits methods top) (IsTooLarge parts methods top) (earlier (earlier deep long) heavy)
-judged_limits parts methods top deep long heavy d is h =
+pub judged_limits : (names : List Span) (methods : List Method) (top : ℕ) (deep long heavy : Option ProfileFault) → Judged (IsShallow (used_graph methods) top) (IsTooDeep (used_graph methods) top names) deep
+    → long ≡ earliest long_format methods → Judged (IsLight methods top) (IsHeavy methods top) heavy → Judged (IsWithinLimits methods top) (IsTooLarge names methods top) (earlier (earlier deep long) heavy)
+judged_limits names methods top deep long heavy d is h =
     let l = subst (Judged (AreShort methods) (IsLong methods)) (sym is) (judged_long methods) in
     record {
       fine = λ e.
           let last = neither (earlier deep long) heavy e in
           let first = neither deep long last.0 in
           record { shallow = d.fine first.0; short = l.fine first.1; light = h.fine last.1 };
-      cause = λ f e. elim (which (earlier deep long) heavy f e) as (λ _. IsTooLarge parts methods top f) [
-        | inl one_of ↦ elim (which deep long f one_of) as (λ _. IsTooLarge parts methods top f) [
+      cause = λ f e. elim (which (earlier deep long) heavy f e) as (λ _. IsTooLarge names methods top f) [
+        | inl one_of ↦ elim (which deep long f one_of) as (λ _. IsTooLarge names methods top f) [
           | inl x ↦ calls_too_deep (d.cause f x)
           | inr y ↦ format_too_long (l.cause f y)
         ]

@@ -1,7 +1,7 @@
 -- The limits on the methods of a profile.
 use Rattle.std.specs.Prelude.{◌≡◌, ℕ, ◌<◌, nat_lt, Bool, List, Option, Some, None, length, slice_get, if◌then◌else◌}
 use Rattle.std.specs.List.{list_any}
-use Rattle.fn_tree.specs.declared.tree.Part.{Part}
+use Rattle.fn_source.specs.declared.span.Span.{Span}
 use Rattle.fn_calls.specs.Measures.{number_at, AreWeights}
 use Rattle.fn_normal.specs.declared.profile.Format.{Format}
 use Rattle.fn_normal.specs.declared.profile.Method.{Method}
@@ -32,11 +32,11 @@ pub data IsHeavy (methods : List Method) (top : ℕ) : ProfileFault → Type 0 w
   weighs_more : (m : Method) (weights : List ℕ) → slice_get methods top ≡ Some m → AreWeights (uses_of methods) weights → weight_limit < number_at weights top
       → IsHeavy methods top (too_large_at m)
 
--- which limit is passed
-pub data IsTooLarge (parts : List Part) (methods : List Method) (top : ℕ) : ProfileFault → Type 0 where
+-- which limit is passed by methods whose names stand at these places
+pub data IsTooLarge (names : List Span) (methods : List Method) (top : ℕ) : ProfileFault → Type 0 where
   -- a method stands deeper than 16 methods from the top
-  calls_too_deep : {fault : ProfileFault} → IsTooDeep (used_graph methods) top parts fault → IsTooLarge parts methods top fault
+  calls_too_deep : {fault : ProfileFault} → IsTooDeep (used_graph methods) top names fault → IsTooLarge names methods top fault
   -- a format has more than 128 fields
-  format_too_long : {fault : ProfileFault} → IsLong methods fault → IsTooLarge parts methods top fault
+  format_too_long : {fault : ProfileFault} → IsLong methods fault → IsTooLarge names methods top fault
   -- the formats on the paths from the top have more than 4,096 fields
-  fields_too_many : {fault : ProfileFault} → IsHeavy methods top fault → IsTooLarge parts methods top fault
+  fields_too_many : {fault : ProfileFault} → IsHeavy methods top fault → IsTooLarge names methods top fault

@@ -5,31 +5,30 @@ ghost use Rattle.fn_calls.specs.Calls.{Within};
 ghost use Rattle.fn_normal.specs.Judging.{Judged};
 ghost use Rattle.fn_profile.specs.Limits as limits;
 ghost use Rattle.fn_names.specs.CallDepth as spec;
-ghost use Rattle.fn_names.specs.Parts.{methods_of};
 
 use crate::reached::is_marked_at;
 use fn_calls::marks::{mark, no_marks};
 use fn_normal::{ProfileFault, ProfileFaultKind};
 use fn_profile::DEPTH_LIMIT;
-use fn_tree::Part;
+use fn_source::Span;
 use sqlite_items::Items;
 use std::alloc::{AllocError, Global};
 
-/// The fault of the first method in the text to which some chain of one method more than the limit leads. Where there is none, no
-/// chain of calls is longer than the limit.
+/// The fault of the first method in the text to which some chain of one method more than the limit leads, where these are the
+/// places of the methods' names. Where there is none, no chain of calls is longer than the limit.
 pub(crate) fn deep_call(
     alloc: Global,
-    parts: &[Part],
+    names: &[Span],
     calls: &[Items<usize>],
     top: usize,
 ) -> Result<Option<ProfileFault>, AllocError>
     requires within { Within calls.now }
     requires top { top < length calls.now }
-    requires methods { length calls.now ≡ length (methods_of parts.now) }
-    ensures { IfOk result (Judged (limits.IsShallow calls.now top) (spec.IsTooDeep calls.now top parts.now)) }
+    requires methods { length calls.now ≡ length names.now }
+    ensures { IfOk result (Judged (limits.IsShallow calls.now top) (spec.IsTooDeep calls.now top names.now)) }
 {
     let ends = ends_of_chains(alloc, calls, top)?;
-    Ok(first_deep(parts, ends.as_slice()))
+    Ok(first_deep(names, ends.as_slice()))
 }
 
 /// A mark for each method to which some chain of one method more than the limit leads from the top.
@@ -68,16 +67,12 @@ fn called_by(
     Ok(called)
 }
 
-fn first_deep(parts: &[Part], ends: &[bool]) -> Option<ProfileFault>
-    ensures { result ≡ spec.first_deep ends.now 0 (methods_of parts.now) }
+fn first_deep(names: &[Span], ends: &[bool]) -> Option<ProfileFault>
+    ensures { result ≡ spec.first_deep ends.now 0 names.now }
 {
-    let mut place = 0;
-    for part in parts {
-        if let Part::Method(method) = part {
-            if is_marked_at(ends, place) {
-                return Some(ProfileFault::about(ProfileFaultKind::TooLarge, method.name));
-            }
-            place += 1;
+    for (place, name) in names.iter().enumerate() {
+        if is_marked_at(ends, place) {
+            return Some(ProfileFault::about(ProfileFaultKind::TooLarge, *name));
         }
     }
     None

@@ -4,11 +4,12 @@ ghost use Rattle.std.specs.Prelude.{◌≡◌, IfOk, IfErr};
 ghost use Rattle.fn_normal.specs.Judging.{Blames};
 ghost use Rattle.fn_terms.specs.Constants.{AreValues};
 ghost use Rattle.fn_names.specs.FileNames as spec;
-ghost use Rattle.fn_names.specs.Parts.{constants_of, constant_names};
+ghost use Rattle.fn_names.specs.Parts.{constants_of, constant_names, method_places};
 ghost use Rattle.fn_names.specs.Twice.{AreTables};
 
 use crate::parts::{FileNames, tables};
 use fn_normal::ResolveError;
+use fn_source::Span;
 use fn_terms::Constants;
 use fn_tree::Part;
 use sqlite_items::Items;
@@ -21,6 +22,8 @@ pub struct Head<'a> {
     pub constants: Constants<'a>,
     /// For each method how many parameters it has.
     pub arities: Items<usize>,
+    /// For each method the place of its name.
+    pub places: Items<Span>,
 }
 
 /// The head of a file, or the fault of the first name that is defined twice; where none is, that of the first constant without
@@ -34,15 +37,18 @@ pub(crate) fn head_of<'a>(
     ensures names { IfOk result (λ h. h.constants.names ≡ constant_names text.now parts.now) }
     ensures values { IfOk result (λ h. AreValues text.now (constant_names text.now parts.now) (constants_of parts.now) h.constants.values) }
     ensures arities { IfOk result (λ h. h.arities ≡ spec.arities_of parts.now) }
+    ensures places { IfOk result (λ h. h.places ≡ method_places parts.now) }
     ensures refused { IfErr result (Blames (spec.HeadCause text.now parts.now)) }
 {
     let names = tables(alloc, text, parts)?;
     let constants = Constants::of_parts(alloc, text, parts)?;
     let arities = arities(alloc, parts)?;
+    let places = places(alloc, parts)?;
     Ok(Head {
         names,
         constants,
         arities,
+        places,
     })
 }
 
@@ -56,4 +62,16 @@ fn arities(alloc: Global, parts: &[Part]) -> Result<Items<usize>, AllocError>
         }
     }
     Ok(arities)
+}
+
+fn places(alloc: Global, parts: &[Part]) -> Result<Items<Span>, AllocError>
+    ensures { IfOk result (λ places. places ≡ method_places parts.now) }
+{
+    let mut places = Items::new(alloc);
+    for part in parts {
+        if let Part::Method(method) = part {
+            places.push(method.name)?;
+        }
+    }
+    Ok(places)
 }

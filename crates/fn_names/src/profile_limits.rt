@@ -6,7 +6,6 @@ ghost use Rattle.fn_calls.specs.Order.{IsOrder};
 ghost use Rattle.fn_normal.specs.Judging.{Judged, earliest};
 ghost use Rattle.fn_profile.specs.Limits as limits;
 ghost use Rattle.fn_names.specs.ProfileLimits as spec;
-ghost use Rattle.fn_names.specs.Parts.{methods_of};
 ghost use Rattle.fn_profile.specs.Uses.{Uses, used_graph};
 
 use crate::call_depth::deep_call;
@@ -15,15 +14,15 @@ use fn_calls::depth::number_at;
 use fn_calls::weights;
 use fn_normal::{Format, Method, ProfileFault, ProfileFaultKind, earlier};
 use fn_profile::{FIELD_LIMIT, WEIGHT_LIMIT};
-use fn_tree::Part;
+use fn_source::Span;
 use sqlite_items::Items;
 use std::alloc::{AllocError, Global};
 
 /// The earliest fault of sizes: calls deeper than 16 methods from the top, a format of more than 128 fields (of any method),
-/// more than 4,096 fields on all paths from the top. The graph is that of the calls in use.
+/// more than 4,096 fields on all paths from the top. The graph is that of the calls in use, and the names go by their places.
 pub(crate) fn too_large(
     alloc: Global,
-    parts: &[Part],
+    names: &[Span],
     methods: &[Method],
     graph: &[Items<usize>],
     order: &[usize],
@@ -31,11 +30,11 @@ pub(crate) fn too_large(
 ) -> Result<Option<ProfileFault>, AllocError>
     requires order { IsOrder (Uses methods.now) (length methods.now) order.now }
     requires top { top < length methods.now }
-    requires named { length methods.now ≡ length (methods_of parts.now) }
+    requires named { length methods.now ≡ length names.now }
     requires graph { graph.now ≡ used_graph methods.now }
-    ensures { IfOk result (Judged (limits.IsWithinLimits methods.now top) (spec.IsTooLarge parts.now methods.now top)) }
+    ensures { IfOk result (Judged (limits.IsWithinLimits methods.now top) (spec.IsTooLarge names.now methods.now top)) }
 {
-    let deep = deep_call(alloc, parts, graph, top)?;
+    let deep = deep_call(alloc, names, graph, top)?;
     let heavy = heavy_top(alloc, methods, order, top)?;
     Ok(earlier(earlier(deep, first_long(methods)), heavy))
 }

@@ -83,7 +83,7 @@ pub enum Constraint {
     },
     /// A conjunct of an ENFORCE, with the place of its first token.
     Enforce {
-        condition: Cond,
+        condition: Boxed<Cond>,
         place: Span,
     },
 }

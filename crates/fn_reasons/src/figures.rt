@@ -44,7 +44,7 @@ fn figures_of(
         Constraint::Enforce {
             condition,
             place: _,
-        } => figures(alloc, condition, ranges),
+        } => figures(alloc, condition.get(), ranges),
     }
 }
 

@@ -84,7 +84,7 @@ fn undefined_constraint(constraint: &Constraint, ranges: &Ranges) -> Option<Span
         Constraint::Enforce {
             condition,
             place: _,
-        } => undefined_truth(condition, ranges),
+        } => undefined_truth(condition.get(), ranges),
     }
 }
 

@@ -73,7 +73,7 @@ fn equated(attribute: Attribute, constraint: &Constraint) -> Option<&Expr>
     ensures { option_copied result ≡ spec.equated attribute constraint.now }
 {
     match constraint {
-        Constraint::Enforce { condition, .. } => equated_by(attribute, condition),
+        Constraint::Enforce { condition, .. } => equated_by(attribute, condition.get()),
         Constraint::Bracket { .. } => None,
     }
 }
@@ -200,7 +200,7 @@ fn congruent(alloc: Global, attribute: Attribute, constraint: &Constraint) -> Op
     ensures { option_map shown result ≡ spec.congruent attribute constraint.now }
 {
     match constraint {
-        Constraint::Enforce { condition, .. } => congruent_by(alloc, attribute, condition),
+        Constraint::Enforce { condition, .. } => congruent_by(alloc, attribute, condition.get()),
         Constraint::Bracket { .. } => None,
     }
 }

@@ -49,12 +49,13 @@ stands_at octets from place so =
       short_column = omega (arith, so.column, columns, line_part, short);
     }
 
--- sixteen octets further on the line
-pub further : (octets : List ℕ) (from : ℕ) (place next : Position) → from + 16 ≤ length octets → IsPlace octets from place → ArePlain (take (from + 16 - from) (drop from octets))
-    → next.line ≡ place.line → next.column ≡ place.column + 16 → IsPlace octets (from + 16) next
-further octets from place next le so plain line column =
-    let part = take (from + 16 - from) (drop from octets) in
-    let long : length part ≡ 16 = omega (arith, le, length-take (from + 16 - from) (drop from octets), length-drop from octets) in
-    let each : (j : ℕ) → j < 16 → is_plain (get_or octets (from + j) 0) ≡ true = λ j h. ap is_plain (sym (read_in_part octets from (from + 16) j (omega (arith, h)))) ∙ plain j (omega (arith, h, long)) in
-    let there = walked octets from place.line place.column 16 le each (stands_at octets from place so) in
-    record { line = line ∙ there.line_is; column = column ∙ there.column_is }
+-- further on the line, inside a part that ends no line
+pub within : (octets : List ℕ) (from to n : ℕ) (place next : Position) → from + n ≤ length octets → from ≤ to → to ≤ from + n → IsPlace octets from place → ArePlain (take (from + n - from) (drop from octets))
+    → next.line ≡ place.line → next.column ≡ place.column + (to - from) → IsPlace octets to next
+within octets from to n place next le order most so plain line column =
+    let part = take (from + n - from) (drop from octets) in
+    let long : length part ≡ n = omega (arith, le, length-take (from + n - from) (drop from octets), length-drop from octets) in
+    let each : (j : ℕ) → j < to - from → is_plain (get_or octets (from + j) 0) ≡ true = λ j h. ap is_plain (sym (read_in_part octets from (from + n) j (omega (arith, h, most)))) ∙ plain j (omega (arith, h, most, long)) in
+    let there = walked octets from place.line place.column (to - from) (omega (arith, le, most, order)) each (stands_at octets from place so) in
+    let same : from + (to - from) ≡ to = omega (arith, order) in
+    subst (λ k. IsPlace octets k next) same (record { line = line ∙ there.line_is; column = column ∙ there.column_is })

@@ -56,7 +56,7 @@ impl<'a> Places<'a> {
         match self.table.get(offset / 16) {
             Some(start) => {
                 let start = place_of(*start);
-                place_after(self.octets, offset / 16 * 16, offset, start)
+                place_near(self.octets, offset / 16 * 16, offset, start)
             }
             None => line_column(self.octets, offset),
         }
@@ -109,7 +109,42 @@ fn place_further(octets: &[u8], from: usize, place: Position) -> Position
             column: place.column + 16,
         }
     } else {
-        place_after(octets, from, from + 16, place)
+        let middle = place_half(octets, from, place);
+        place_half(octets, from + 8, middle)
+    }
+}
+
+/// The place of the eighth octet after one, found likewise.
+fn place_half(octets: &[u8], from: usize, place: Position) -> Position
+    requires within { from + 8 ≤ length octets.now }
+    requires here { IsPlace octets.now from place }
+    ensures { IsPlace octets.now (from + 8) result }
+{
+    if are_plain(&octets[from..from + 8]) {
+        Position {
+            line: place.line,
+            column: place.column + 8,
+        }
+    } else {
+        place_after(octets, from, from + 8, place)
+    }
+}
+
+/// The place of an octet, found from that of an octet at most sixteen before it. Most often both are on one line.
+fn place_near(octets: &[u8], from: usize, to: usize, place: Position) -> Position
+    requires order { from ≤ to }
+    requires near { to ≤ from + 16 }
+    requires within { to ≤ length octets.now }
+    requires here { IsPlace octets.now from place }
+    ensures { IsPlace octets.now to result }
+{
+    if octets.len() - from >= 16 && are_plain(&octets[from..from + 16]) {
+        Position {
+            line: place.line,
+            column: place.column + (to - from),
+        }
+    } else {
+        place_after(octets, from, to, place)
     }
 }
 

@@ -88,7 +88,11 @@ fn constraint_quiet(sizes: &FormatSizes, parameters: &[Interval], constraint: &C
 {
     match constraint {
         Constraint::Bracket { lengths, .. } => all_quiet(sizes, parameters, lengths.as_slice()),
-        Constraint::Enforce { condition, .. } => condition_quiet(sizes, parameters, condition),
+        Constraint::Enforce { condition, .. } => condition_quiet(
+            sizes,
+            parameters,
+            condition.get(),
+        ),
     }
 }
 

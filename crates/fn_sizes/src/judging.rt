@@ -251,7 +251,7 @@ fn constraint_fault(
             exprs_fault(extent, format, sizes, ranges, lengths.as_slice())
         }
         Constraint::Enforce { condition, .. } => {
-            condition_fault(extent, format, sizes, ranges, condition)
+            condition_fault(extent, format, sizes, ranges, condition.get())
         }
     }
 }

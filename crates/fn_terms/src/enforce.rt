@@ -9,7 +9,7 @@ use crate::term::Kind;
 use crate::typing::condition;
 use fn_normal::{Constraint, ResolveError, Shared};
 use fn_tree::tree;
-use sqlite_items::Items;
+use sqlite_items::{Boxed, Items};
 use std::alloc::Global;
 
 /// The conjuncts of a condition: the operands of the `&&` at its top, in their order. What is in round brackets is one.
@@ -47,7 +47,7 @@ fn one(
     ensures refused { IfErr result (Refuses (fault_of Kind.Truth scope.now part.now)) }
 {
     let conjunct = Constraint::Enforce {
-        condition: condition(alloc, scope, part)?,
+        condition: Boxed::new(alloc, condition(alloc, scope, part)?)?,
         place: part.span(),
     };
     let mut found = Items::new(alloc);

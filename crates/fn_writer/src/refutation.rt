@@ -78,7 +78,12 @@ fn contradicts(alloc: Global, place: &Place<'_>, format: &Format) -> Result<bool
 {
     for constraint in format.constraints.as_slice() {
         if let Constraint::Enforce { condition, .. } = constraint.get() {
-            let is_false = is_contradicted(alloc, place, format.fields.as_slice(), condition)?;
+            let is_false = is_contradicted(
+                alloc,
+                place,
+                format.fields.as_slice(),
+                condition.get(),
+            )?;
             if is_false {
                 return Ok(true);
             }
@@ -221,7 +226,7 @@ fn has_false_by(constraints: &[Shared<Constraint>], arguments: &[i128]) -> bool
 {
     for constraint in constraints {
         if let Constraint::Enforce { condition, .. } = constraint.get() {
-            if is_false(condition, arguments) {
+            if is_false(condition.get(), arguments) {
                 return true;
             }
         }

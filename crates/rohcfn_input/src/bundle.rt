@@ -250,8 +250,18 @@ fn first_line(input: &[u8]) -> &[u8]
     ensures front { result.now ≡ take (length result.now) input.now }
     ensures line { full_lines input.now ≡ result.now ∷ full_lines (drop (length result.now) input.now) }
 {
-    for (at, octet) in input.iter().enumerate() {
-        if *octet == b'\n' {
+    // Eight octets a turn, since each is then looked at in a place that is known.
+    let mut from = 0;
+    while input.len() - from >= 8 {
+        for k in 0..8 {
+            if input[from + k] == b'\n' {
+                return &input[..from + k + 1];
+            }
+        }
+        from += 8;
+    }
+    for at in from..input.len() {
+        if input[at] == b'\n' {
             return &input[..at + 1];
         }
     }

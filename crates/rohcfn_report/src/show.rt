@@ -6,7 +6,7 @@ ghost use Rattle.fn_show.specs.Shown as listing;
 ghost use Rattle.rohcfn_report.specs.Reports.{Shows};
 ghost use Rattle.rohcfn_report.specs.ProfileLines.{IsFaultLine, cause_line, text_line};
 
-use fn_names::{ReadError, read_with_tree};
+use fn_names::{ReadError, read};
 use fn_normal::ProfileFault;
 use fn_profile::Profile;
 use fn_show::{fault_text, kind_text, show};
@@ -19,14 +19,14 @@ use std::mem::forget;
 /// The listing of the profile with the top of this name: its methods, bounds and constraints. For a profile with a fault
 /// its line.
 ///
-/// The profile and its tree are not let go box by box, which would take a sixth of the time: a process that shows ends with its answer.
+/// The profile is not let go box by box, which would take a while: a process that shows ends with its answer.
 pub fn answer_listing(alloc: Global, top: &str, octets: &[u8]) -> Result<Answer, AllocError>
     ensures { IfOk result (Shows top.now octets.now) }
 {
-    match read_with_tree(alloc, octets, top.as_bytes()) {
-        Ok(text) => {
-            let output = listing(alloc, octets, &text.profile)?;
-            forget(text);
+    match read(alloc, octets, top.as_bytes()) {
+        Ok(profile) => {
+            let output = listing(alloc, octets, &profile)?;
+            forget(profile);
             Ok(Answer {
                 status: Status::Done,
                 output,

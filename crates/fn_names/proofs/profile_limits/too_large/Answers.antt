@@ -11,4 +11,4 @@ pub returns : goal.returns
 returns c =
     let deep = rw c.requires.graph at c.in_ok-deep.ensures in
     rw (c.earlier-2.ensures, c.earlier.ensures)
-    (judged_limits c.args.parts.now c.args.methods.now c.args.top c.in_ok-deep.deep c.first_long.result c.in_ok-heavy.heavy deep c.first_long.ensures c.in_ok-heavy.ensures)
+    (judged_limits c.args.names.now c.args.methods.now c.args.top c.in_ok-deep.deep c.first_long.result c.in_ok-heavy.heavy deep c.first_long.ensures c.in_ok-heavy.ensures)
