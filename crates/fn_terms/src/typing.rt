@@ -184,6 +184,24 @@ pub fn number(alloc: Global, scope: &Scope<'_, '_>, part: &tree::Expr) -> Result
         tree::Expr::Negative(at, n) => negative_number(alloc, scope, *at, *n),
         tree::Expr::Name(at) => named_number(alloc, scope, *at),
         tree::Expr::Attribute(at, owner, which) => own_number(scope, *at, *owner, *which),
+        _ => calculated_number(alloc, scope, part),
+    }
+}
+
+/// The same of an operator and its operands. A function of its own, so that no room is made ready for them where there are none.
+#[cycle(terms)]
+#[inline(never)]
+fn calculated_number(
+    alloc: Global,
+    scope: &Scope<'_, '_>,
+    part: &tree::Expr,
+) -> Result<Expr, ResolveError>
+    ensures means { IfOk result (λ e. Means scope.now part.now (Term.Number e)) }
+    ensures judged { IfOk result (λ e. spec.judged scope.now part.now ≡ spec.found (Term.Number e)) }
+    ensures right { IfOk result (λ _. spec.fault_of Kind.Number scope.now part.now ≡ None) }
+    ensures refused { IfErr result (spec.Refuses (spec.fault_of Kind.Number scope.now part.now)) }
+{
+    match part {
         tree::Expr::Binary(at, operator, _, left, right) => match meaning_of(*operator) {
             Meaning::Arithmetic(operator) => {
                 let left = Box::new(alloc, number(alloc, scope, left.get())?)?;

@@ -43,8 +43,8 @@ term-returns-in_ok-right-in-Or-clause-means t c =
     (rw (c.get-in-Or.ensures, sym c.in_ok-left-in-Or.ensures.ok) at c.in_ok-condition-in-Or.ensures.means)
     (rw (c.get-in-Or-2.ensures, sym c.in_ok-right-in-Or.ensures.ok) at c.in_ok-condition-in-Or-2.ensures.means))
 
-pub number-returns-in_ok-within-in-Arithmetic-clause-means : goal.number-returns-in_ok-within-in-Arithmetic-clause-means
-number-returns-in_ok-within-in-Arithmetic-clause-means t c =
+pub calculated_number-returns-in_ok-within-in-Arithmetic-clause-means : goal.calculated_number-returns-in_ok-within-in-Arithmetic-clause-means
+calculated_number-returns-in_ok-within-in-Arithmetic-clause-means t c =
     rw (c.in-Binary.is, c.in_ok-within-in-Arithmetic.ensures.same) (arithmetic (sym c.in-Arithmetic.ensures)
     (rw (c.get.ensures, sym c.in_ok-left-in-Arithmetic.ensures.ok) at c.in_ok-number-in-Arithmetic.ensures.means)
     (rw (c.get-in-Arithmetic.ensures, sym c.in_ok-right-in-Arithmetic.ensures.ok) at c.in_ok-number-in-Arithmetic-2.ensures.means))
