@@ -119,7 +119,7 @@ def paths(program):
 
 
 # seconds and MiB at most: some three times what was measured, or a second
-BOUNDS = {waiting: (1, 36), operands: (1, 45), steps: (1, 45), encodings: (4, 350), brackets: (3, 730), conditions: (30, 60), paths: (1, 60)}
+BOUNDS = {waiting: (1, 36), operands: (1, 45), steps: (1, 45), encodings: (2, 350), brackets: (3, 730), conditions: (30, 60), paths: (1, 60)}
 
 
 def main(words):

@@ -97,6 +97,10 @@ module _ (radix : ℕ) (old : Digits) (digit : ℕ) (new : Digits) (next : IsNex
 pub next_carries : (radix : ℕ) (old : Digits) → Divides radix old.span → old.rest < old.span → CarriesOn radix old (old.rest / (old.span / radix)) (record { rest = old.rest % (old.span / radix); span = old.span / radix })
 next_carries radix old divides l = carries radix old _ _ (next_is radix old divides l)
 
+-- the last digit is what is left of the number
+pub last_carries : (radix : ℕ) (old : Digits) → old.span ≡ radix → old.rest < old.span → CarriesOn radix old old.rest (record { rest = 0; span = 1 })
+last_carries radix old same below = carries radix old _ _ (record { digit_below = omega (arith, same, below); below = omega arith; span_is = omega (arith, same); rest_is = omega arith })
+
 -- ---- what is skipped
 
 pub shares : (place : Digits) (skipped : ℕ) → skipped + place.rest ≡ place.span → ShareDigits place skipped

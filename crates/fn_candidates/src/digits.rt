@@ -49,6 +49,13 @@ impl Digits {
         ensures fits { radix * self.new.span < 2 ^ 64 }
         ensures read { CarriesOn radix self.old result self.new }
     {
+        // Most digits are the last one, which needs no division.
+        if self.span == radix {
+            let digit = self.rest;
+            self.span = 1;
+            self.rest = 0;
+            return digit;
+        }
         self.span /= radix;
         let digit = self.rest / self.span;
         self.rest %= self.span;
