@@ -288,7 +288,53 @@ def longest():
         yield "%d packed bits" % (8128 + rest), bundle(b"check --top top", profile.encode()), status, answer
 
 
+def both_above():
+    """A profile with more candidates than the top may have, and more packed bits: two choices of 9 bits, and 4,160 bits from each of two calls."""
+    inner = "inner { UNCOMPRESSED { } COMPRESSED { %s} }\n" % "".join("c%d =:= compressed_value(64, 0); " % number for number in range(65))
+    choices = "a =:= irregular(9) [9]; b =:= irregular(9) [9]; x =:= uncompressed_value(18, a.UVALUE * 512 + b.UVALUE); "
+    profile = inner + "top { UNCOMPRESSED { x [18]; } COMPRESSED { %sp =:= inner; q =:= inner; } }\n" % choices
+    yield "candidates and packed bits above their limits", bundle(b"check --top top", profile.encode()), 1, b"check: V6 candidates\n"
+
+
+def sent_both_ways(name, profile, header, packet, count, certificate=b""):
+    """A header packed, and its packet of so many bits read and, after a flow's octet, heard."""
+    yield name + " packed", bundle(b"pack --top top", profile, certificate + b"=== items\n%s\n" % header), 0, packet + b"\n"
+    yield name + " read", bundle(b"unpack --top top", profile, certificate + b"=== packets\n%s\n" % packet), 0, b"%s took %d\n" % (header, count)
+    octets = b"00" + packet.split(b":")[1]
+    yield name + " received", bundle(b"line --receive --top top", profile, certificate + b"=== octets\n%s\n" % octets), 0, b"0 %s\n" % header
+
+
+def greatest():
+    """Headers of 4,095 and 4,096 bits that are sent as they are, and packets of 5,056 and 8,192 bits, which have zero bits after such a header."""
+    for last, zeros in [(63, 0), (64, 0), (64, 15), (64, 64)]:
+        fields = [("x%d" % number, 64 if number < 63 else last) for number in range(64)]
+        header = "".join("%s [%d]; " % it for it in fields)
+        listed = "".join("%s =:= irregular(%d) [%d]; " % (name, width, width) for name, width in fields)
+        listed += "".join("d%d =:= '%s' [64]; " % (number, "0" * 64) for number in range(zeros))
+        profile = "top { UNCOMPRESSED { %s} COMPRESSED { %s} }\n" % (header, listed)
+        bits = 4032 + last
+        item, packet = b"%d:%s" % (bits, b"5a" * 512), b"%d:%s%s" % (bits + 64 * zeros, b"5a" * 512, b"00" * 8 * zeros)
+        yield from sent_both_ways("a header of %d bits in %d" % (bits, bits + 64 * zeros), profile.encode(), item, packet, bits + 64 * zeros)
+
+
+def paired(depth, offset=0):
+    """The nodes of a tree of tests seven apart: each two of them take a table of 256 entries, and the next two stand eight bits on, below two of its three ends."""
+    return "bit %d\n%sbit %d\n%sleaf -\n" % (offset, paired(depth - 1, offset + 8), offset + 7, paired(depth - 1, offset + 8)) if depth else "leaf -\n"
+
+
+def crammed():
+    """A tree whose 255 tables have 65,280 entries, all but 256 of those that may be."""
+    profile = b"top { UNCOMPRESSED { x [64]; y [64]; } COMPRESSED { x =:= irregular(64) [64]; y =:= irregular(64) [64]; } }\n"
+    read = "length x C method;length y C method;take x;take y;library x up;library y up;"
+    write = "length x U method;length y U method;take x;take y;library x down;library y down;"
+    certificate = "rohcfn-certificate 1\nmethod top\n%sformat -\nread\n%swrite\n%send\n" % (paired(8), read.replace(";", "\n"), write.replace(";", "\n"))
+    for octets in (b"5a" * 16, b"ff" * 16, b"7f" * 16):
+        item = b"128:" + octets
+        yield from sent_both_ways("tables of 65280 entries and %s" % octets[:2].decode(), profile, item, item, 128, b"=== certificate\n" + certificate.encode())
+
+
 def cases():
     """Name, bundle, status and output of each."""
-    for part in (counts, nestings, in_order, packed, long_inputs, names, fronts, checked, lines, crowded, tabled, widths, choices, candidates, chains, longest):
+    parts = (counts, nestings, in_order, packed, long_inputs, names, fronts, checked, lines, crowded, tabled, widths, choices, candidates, chains, longest, both_above, greatest, crammed)
+    for part in parts:
         yield from part()

@@ -2,8 +2,8 @@
 # Runs each example and each step of the tutorial through the built program and compares what it prints; then what the pages show, what is left out of RFC
 # 4997 and the pieces of profiles, what editors colour, headers of an operating system and back, the cases of cases/ and of built.py, fronts of texts,
 # certificates with a slip and with drawn trees against a second reading, packets by certificates with a slip, round trips, fields, counts, reasons, dead formats and lines of flows against a
-# slow search, runs that are refused memory, what bin/rohcfn and bin/prove do where no program stands, what bin/rohcfn does with files, and
-# the man page and completion.
+# slow search, runs that are refused memory, what the program does with its words and streams, what bin/rohcfn and bin/prove do where no program stands,
+# what bin/rohcfn does with files, and the man page and completion.
 set -u
 cd "$(dirname "$0")"
 program=../crates/rohcfn/out/rohcfn
@@ -43,6 +43,7 @@ for place in "${!beside[@]}"; do
   cat "$printed/${beside[place]}"
 done
 
+./ends.py "$program" || failed=1
 ./first_call.py "$program" || failed=1
 ./front.py "$program" || failed=1
 ./manual.py || failed=1

@@ -1,8 +1,8 @@
 #!/usr/bin/env python3
 """Through the built program: what `lint` prints. Of the profiles of samples.py, profiles/ and tutorial/, by each format of which something can be packed, it
 prints nothing, but for one that needs a context to begin with and one with too many candidates. Of drawn small profiles each format that it names has no
-filling by a slow search over all headers, in contexts that are drawn (searching.py). A format that gets a condition above the range of its field is named, at
-the place of that condition. A format that it says is never used has no filling in the empty context, nor in contexts that fillings lead to from there."""
+filling by a slow search over all headers, in contexts that are drawn (searching.py). A format that gets a part by which nothing can be packed is named, at the
+place of that part: a condition above the range of its field or without a value, a number too great for its bits, a bracket without the length of its field. A format that it says is never used has no filling in the empty context, nor in contexts that fillings lead to from there."""
 import itertools
 import pathlib
 import random
@@ -19,7 +19,15 @@ HERE = pathlib.Path(__file__).parent
 LINE = re.compile(r"(\d+):(\d+): warning p\.(\w): .*: nothing fits this format")
 USED = re.compile(r"\d+:\d+: warning p\.(\w+) is never used: it needs [\w.]+ in the context, which no format that can come before puts there")
 REACHED = 12  # contexts of a drawn profile that are looked at
-ABOVE = "ENFORCE(x.UVALUE > 3);"  # x has two bits
+# parts by which nothing can be packed, where x has two bits: each with the part of it that is named, and what is said
+PARTS = [
+    ("ENFORCE(x.UVALUE > 3);", "x.UVALUE", "the condition is never true"),
+    ("ENFORCE(1 / 0 == x.UVALUE || x.UVALUE < 4);", "1 / 0", "this has no value: it divides by 0, or its exponent is below 0"),
+    ("another =:= compressed_value(2, 5);", "5", "this argument has to be from 0 to 3, and never is"),
+    ("another =:= compressed_value(65, 5);", "65", "this argument has to be from 0 to 64, and never is"),
+    ("another =:= compressed_value(2, 1) [3];", "[3]", "another has at least 3 and at most 2 bits compressed"),
+    ("another =:= compressed_value(2, 1) [1, 3];", "[1, 3]", "another has at least 2 and at most 2 bits compressed, and this bracket has no such length"),
+]
 # what is due for a profile of samples.py that goes on from a given context alone, and for one that chooses two times 12 bits, which `check` refuses (V6)
 DUE = {
     "both": "4:1: warning both.- is never used: it needs f.m in the context, which no format that can come before puts there\n",
@@ -85,13 +93,14 @@ def formats_met(methods, initial, draw):
     return met
 
 
-def due_of(profile, name, base):
-    """The profile with such a condition in the format, and what is due for it."""
+def due_of(profile, name, base, part):
+    """The profile with such a part in the format, and what is due for it."""
+    text, mark, words = part
     lines = profile.split("\n")
     at = next(place for place, it in enumerate(lines) if it.startswith("  COMPRESSED %s {" % name))
     begin = lines[at].index("{") + 2
-    lines[at] = lines[at][:begin] + ABOVE + " " + lines[at][begin:]
-    own = "%d:%d: warning p.%s: the condition is never true: nothing fits this format" % (at + 1, begin + ABOVE.index("x") + 1, name)
+    lines[at] = lines[at][:begin] + text + " " + lines[at][begin:]
+    own = "%d:%d: warning p.%s: %s: nothing fits this format" % (at + 1, begin + text.index(mark) + 1, name, words)
     due = sorted([*base, own], key=lambda it: int(it.split(":")[0]))
     return "\n".join(lines), "".join(it + "\n" for it in due)
 
@@ -110,9 +119,9 @@ def drawn(draw):
         met = formats_met(methods, initial, draw) if warned else set()
         for name in (USED.fullmatch(it)[1] for it in warned):
             yield (profile, out) if names.index(name) in met else None
-        for name in names:
+        for name, part in itertools.product(names, PARTS):
             if name not in named:
-                changed, due = due_of(profile, name, base)
+                changed, due = due_of(profile, name, base, part)
                 told, status = printed(changed, "p")
                 yield None if ("".join(it + "\n" for it in parted(told)[0]), status) == (due, 0) else (changed, told, due)
 

@@ -15,8 +15,8 @@ LONG = "4097:" + "00" * 513  # a header above the limit
 
 
 def mean(bits, items):
-    """The mean with one decimal, rounded down."""
-    return "%d.%d" % divmod(10 * bits // items, 10) if items else "-"
+    """The mean with one decimal, rounded to the nearest tenth, halves up."""
+    return "%d.%d" % divmod((20 * bits + items) // (2 * items), 10) if items else "-"
 
 
 def counted(profile, top, trees):

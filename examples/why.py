@@ -1,6 +1,6 @@
 #!/usr/bin/env python3
 """Through the built program: what `why` prints of items and packets that are refused. For each format of the top there is a line, in the order of the text. Where it tells a reason, a slow search over
-all headers and all values of asked fields (searching.py) finds no filling of that format with the item's header, or at the front of the packet. The fault line is that of `pack` or `unpack`.
+all headers and all values of asked fields (searching.py) finds no filling of that format with the item's header and asked values, or at the front of the packet. The fault line is that of `pack` or `unpack`.
 The items and packets are drawn, many of them damaged, or those of the cases in cases/ that are refused, whose profiles normal.py reads."""
 import collections
 import itertools
@@ -22,7 +22,7 @@ NOTHING = "nothing simple stands against it"
 SAMPLES = ["tick", "opt", "mode", "turn"]
 REFUSED = re.compile(r"^(?:item|packet) ([1-9]\d*): (?:F3|U1|U2) ", re.MULTILINE)
 MOST = 1 << 16  # headers with values of the asked fields that are searched for a stored case
-Filled = collections.namedtuple("Filled", "index header packed entries")
+Filled = collections.namedtuple("Filled", "index header packed entries asked")
 
 
 class Quick(Search):
@@ -67,7 +67,7 @@ def fillings(subject, context, of_headers=None):
     for header in of_headers or headers(subject):
         for values in itertools.product(*asked.values()):
             for it in search.fillings(top, (), "", header, dict(zip(asked, values))):
-                yield Filled(it.index, it.header, it.packed, it.entries)
+                yield Filled(it.index, it.header, it.packed, it.entries, dict(zip(asked, values)))
 
 
 def headers(subject):
@@ -89,7 +89,7 @@ def calls(subject, context, draw, most):
     asked = [it for it in subject.methods[-1].formats[0].fields if it.asked]
     for header in draw.sample(headers(subject), most) + headers(subject)[-1:]:
         values = {it.name: "".join(draw.choice("01") for _ in range(it.u[1])) for it in asked}
-        yield "pack", " --items", "items", roundtrip.line_of(header, values), {it.index for it in known if it.header == header}
+        yield "pack", " --items", "items", roundtrip.line_of(header, values), {it.index for it in known if it.header == header and it.asked == values}
     packets = ["".join(draw.choice("01") for _ in range(draw.randrange(13))) for _ in range(most)]
     for it in draw.sample(known, min(len(known), most)):
         packets += damaged(it.packed, draw)
@@ -143,6 +143,12 @@ def stored():
                 yield Stored(parts["profile"], words), words, parts.get("context", ""), part, parts[part].split("\n")[:int(number[1])]
 
 
+def item_of(line):
+    """The header and the asked values of a line of items."""
+    bits, *values = line.split(" ")
+    return bits_of(bits), {name: bits_of(value) for name, _, value in (it.partition("=") for it in values)}
+
+
 def reached(subject, words, start, part, lines):
     """The context after the lines, as the program prints it."""
     entries = dict(it.split(" ") for it in start.split("\n") if it)
@@ -156,7 +162,7 @@ def stored_trials():
     """For each of these what is wrong with it, if anything, and how many formats were blamed."""
     known_of = {}
     for subject, words, start, part, lines in stored():
-        form, bits = subject.methods[-1].formats[0], bits_of(lines[-1].split(" ")[0])
+        form, bits, asked = subject.methods[-1].formats[0], *item_of(lines[-1])
         if 1 << (form.most("U") if part == "packets" else 0) + sum(it.u[1] for it in form.fields if it.asked) > MOST:
             continue
         context = reached(subject, words, start, part, lines[:-1])
@@ -164,7 +170,7 @@ def stored_trials():
         if key not in known_of:
             known_of[key] = list(fillings(subject, context, [bits] if part == "items" else None))
         known = known_of[key]
-        there = {it.index for it in known if (bits == it.header if part == "items" else bits.startswith(it.packed))}
+        there = {it.index for it in known if ((bits, asked) == (it.header, it.asked) if part == "items" else bits.startswith(it.packed))}
         yield told_or_wrong(subject, context, words[0], " --items" if part == "items" else "", part, lines[-1], there)
 
 

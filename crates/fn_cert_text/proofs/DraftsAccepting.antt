@@ -128,7 +128,7 @@ pub line_read : (methods : List Method) (d e : Draft) (line : List ℕ) (tail : 
 line_read methods d e line tail h = ap (option_and_then _) h
 
 module _ (v : Version) (methods : List Method) (es : Entries) (ns : List Node) (ow : List ℕ) (fs : List FormatPlans) (format : Format) where
-  accept_reads : open_format methods (st v stage.Read es ns ow fs [] []) ≡ Some format → IsReadable format → (rs steps ws : List Step) (tail : List (List ℕ)) → AllByRecursion (IsStepOf format) steps → AllByRecursion IsStepKept steps → length rs + length steps ≤ step_limit
+  pub accept_reads : open_format methods (st v stage.Read es ns ow fs [] []) ≡ Some format → IsReadable format → (rs steps ws : List Step) (tail : List (List ℕ)) → AllByRecursion (IsStepOf format) steps → AllByRecursion IsStepKept steps → length rs + length steps ≤ step_limit
       → read_lines methods (st v stage.Read es ns ow fs rs ws) (map (step_line (field_names format)) steps ++ tail) ≡ read_lines methods (st v stage.Read es ns ow fs (rs ++ steps) ws) tail
   accept_reads there readable rs [] ws tail of kept few = ap (λ r. read_lines methods (st v stage.Read es ns ow fs r ws) tail) (sym (append-nil rs))
   accept_reads there readable rs (step ∷ steps) ws tail of kept few =
@@ -141,7 +141,7 @@ module _ (v : Version) (methods : List Method) (es : Entries) (ns : List Node) (
       ∙ accept_reads there readable (rs ++ step ∷ []) steps ws tail of.1 kept.1 (omega (arith, length-append rs (step ∷ [])))
       ∙ ap (λ r. read_lines methods (st v stage.Read es ns ow fs r ws) tail) (append_assoc rs (step ∷ []) steps)
 
-  accept_writes : open_format methods (st v stage.Write es ns ow fs [] []) ≡ Some format → IsReadable format → (rs ws steps : List Step) (tail : List (List ℕ)) → AllByRecursion (IsStepOf format) steps → AllByRecursion IsStepKept steps → length ws + length steps ≤ step_limit
+  pub accept_writes : open_format methods (st v stage.Write es ns ow fs [] []) ≡ Some format → IsReadable format → (rs ws steps : List Step) (tail : List (List ℕ)) → AllByRecursion (IsStepOf format) steps → AllByRecursion IsStepKept steps → length ws + length steps ≤ step_limit
       → read_lines methods (st v stage.Write es ns ow fs rs ws) (map (step_line (field_names format)) steps ++ tail) ≡ read_lines methods (st v stage.Write es ns ow fs rs (ws ++ steps)) tail
   accept_writes there readable rs ws [] tail of kept few = ap (λ w. read_lines methods (st v stage.Write es ns ow fs rs w) tail) (sym (append-nil ws))
   accept_writes there readable rs ws (step ∷ steps) tail of kept few =
@@ -173,11 +173,11 @@ format_once m named n j f g at other None p fe ge same = sym (named.alone n j f 
 format_once m named n j f g at other (Some a) None fe ge same = named.alone j n g f other ge at
 format_once m named n j f g at other (Some a) (Some b) fe ge same = named.formats j n g f other at (ge ∙ ap Some same ∙ sym fe)
 
-format_word_lacks : (m : Method) → IsReadableMethod m → (n : ℕ) (f : Format) → slice_get m.formats n ≡ Some f → (o : Option (List ℕ)) → f.name ≡ o → Lacks 32 (name_of o)
+pub format_word_lacks : (m : Method) → IsReadableMethod m → (n : ℕ) (f : Format) → slice_get m.formats n ≡ Some f → (o : Option (List ℕ)) → f.name ≡ o → Lacks 32 (name_of o)
 format_word_lacks m readable n f at None e = lacks_by 32 (codes "-") refl
 format_word_lacks m readable n f at (Some name) e = word_lacks 32 name refl refl (readable.formats n f name at e)
 
-format_found : (m : Method) → IsReadableMethod m → (n : ℕ) (f : Format) → slice_get m.formats n ≡ Some f → format_place (name_of f.name) m ≡ Some n
+pub format_found : (m : Method) → IsReadableMethod m → (n : ℕ) (f : Format) → slice_get m.formats n ≡ Some f → format_place (name_of f.name) m ≡ Some n
 format_found m readable n f at = placed (λ g. name_of g.name) m.formats n f at (λ j g other same. format_once m readable.named n j f g at other f.name g.name refl refl same)
 
 -- a header or control field of the first format
@@ -209,13 +209,13 @@ referring_is One m name i c versed h = absurd versed
 referring_is Two m name i c versed h = h
 
 -- a node's line, at any draft
-record NodeRead (methods : List Method) (d : Draft) (m : Method) (entry : MethodPlans) (node : Node) : Type 0 where
-  word : List ℕ
-  more : List (List ℕ)
-  next_is : next methods d (words (node_line entry node)) ≡ inner_at d.stage methods d word more
-  node_is : node_of d.version m word more ≡ Some node
+pub record NodeRead (methods : List Method) (d : Draft) (m : Method) (entry : MethodPlans) (node : Node) : Type 0 where
+  pub word : List ℕ
+  pub more : List (List ℕ)
+  pub next_is : next methods d (words (node_line entry node)) ≡ inner_at d.stage methods d word more
+  pub node_is : node_of d.version m word more ≡ Some node
 
-node_read : (methods : List Method) (d : Draft) (m : Method) (entry : MethodPlans) (node : Node) → IsReadableMethod m → IsMethodOf m entry → IsNodeOf m node → IsNodeKept node → IsNodeIn d.version node → NodeRead methods d m entry node
+pub node_read : (methods : List Method) (d : Draft) (m : Method) (entry : MethodPlans) (node : Node) → IsReadableMethod m → IsMethodOf m entry → IsNodeOf m node → IsNodeKept node → IsNodeIn d.version node → NodeRead methods d m entry node
 node_read methods d m entry (Bit o) readable is of kept versed = record {
   word = codes "bit";
   more = decimal o ∷ [];
@@ -279,7 +279,7 @@ counted (Leaf n) d owed = refl
 counted Nowhere d owed = refl
 
 module _ (v : Version) (methods : List Method) (m : Method) (entry : MethodPlans) (readable : IsReadableMethod m) (is : IsMethodOf m entry) (es : Entries) (there : slice_get methods (length es) ≡ Some m) where
-  accept_nodes : (done : List Node) (owed : List ℕ) (nodes : List Node) (tail : List (List ℕ)) → are_trees (length owed) nodes ≡ true → AllByRecursion (λ d. d ≤ depth_limit) (depths owed nodes) → length done + length nodes ≤ node_limit
+  pub accept_nodes : (done : List Node) (owed : List ℕ) (nodes : List Node) (tail : List (List ℕ)) → are_trees (length owed) nodes ≡ true → AllByRecursion (λ d. d ≤ depth_limit) (depths owed nodes) → length done + length nodes ≤ node_limit
       → AllByRecursion (IsNodeOf m) nodes → AllByRecursion IsNodeKept nodes → AllByRecursion (IsNodeIn v) nodes
       → read_lines methods (st v (after_node owed) es done owed [] [] []) (map (node_line entry) nodes ++ tail) ≡ read_lines methods (st v stage.Formats es (done ++ nodes) [] [] [] []) tail
   accept_nodes done [] [] tail whole shallow few of kept versed = ap (λ ns. read_lines methods (st v stage.Formats es ns [] [] [] []) tail) (sym (append-nil done))
@@ -326,7 +326,7 @@ record FormatsRead (v : Version) (methods : List Method) (m : Method) (es : Entr
 
 module _ (v : Version) (methods : List Method) (m : Method) (readable : IsReadableMethod m) (es : Entries) (there : slice_get methods (length es) ≡ Some m) (tree : List Node) where
   -- one format with its plans
-  accept_format : (d : Draft) (fs bl : List FormatPlans) (n : ℕ) (f : Format) (e : FormatPlans) (plans : Plans) (tail : List (List ℕ)) → close_format methods d ≡ st v stage.Formats es tree [] fs [] [] → slice_get m.formats n ≡ Some f → length fs ≤ n
+  pub accept_format : (d : Draft) (fs bl : List FormatPlans) (n : ℕ) (f : Format) (e : FormatPlans) (plans : Plans) (tail : List (List ℕ)) → close_format methods d ≡ st v stage.Formats es tree [] fs [] [] → slice_get m.formats n ≡ Some f → length fs ≤ n
       → bl ≡ fs ++ blanks m.formats (length fs) n → length bl ≡ n → IsFormatOf f e → e.plans ≡ Some plans → ArePlansOf f plans → ArePlansKept plans
       → read_lines methods d (format_lines e ++ tail) ≡ read_lines methods (st v stage.Write es tree [] bl plans.read plans.write) tail
   accept_format d fs bl n f e plans tail closed at up bl_is long alike there_are of kept =
@@ -437,12 +437,12 @@ pub record AreReadable (methods : List Method) : Type 0 where
   pub each : (k : ℕ) (m : Method) → slice_get methods k ≡ Some m → IsReadableMethod m
 
 -- one method
-record MethodRead (v : Version) (methods : List Method) (d : Draft) (entry : MethodPlans) (es : Entries) : Type 0 where
-  draft : Draft
-  reads : (tail : List (List ℕ)) → read_lines methods d (method_lines (Some entry) ++ tail) ≡ read_lines methods draft tail
-  closed : close_method methods (close_format methods draft) ≡ st v stage.Between (es ++ Some entry ∷ []) [] [] [] [] []
+pub record MethodRead (v : Version) (methods : List Method) (d : Draft) (entry : MethodPlans) (es : Entries) : Type 0 where
+  pub draft : Draft
+  pub reads : (tail : List (List ℕ)) → read_lines methods d (method_lines (Some entry) ++ tail) ≡ read_lines methods draft tail
+  pub closed : close_method methods (close_format methods draft) ≡ st v stage.Between (es ++ Some entry ∷ []) [] [] [] [] []
 
-accept_method : (v : Version) (methods : List Method) → AreReadable methods → (d : Draft) (es : Entries) (j k : ℕ) (m : Method) (entry : MethodPlans) → close_method methods (close_format methods d) ≡ st v stage.Between es [] [] [] [] [] → slice_get methods k ≡ Some m → k ≡ length es + j
+pub accept_method : (v : Version) (methods : List Method) → AreReadable methods → (d : Draft) (es : Entries) (j k : ℕ) (m : Method) (entry : MethodPlans) → close_method methods (close_format methods d) ≡ st v stage.Between es [] [] [] [] [] → slice_get methods k ≡ Some m → k ≡ length es + j
     → IsMethodOf m entry → IsMethodKept v entry → MethodRead v methods d entry (es ++ nones j)
 accept_method v methods readable d es j k m entry closed at long is kept =
     let mine = readable.each k m at in
@@ -497,7 +497,7 @@ accept_methods v methods readable before (m ∷ rest) es (Some entry ∷ xs) j d
     }
 
 -- the first line
-version_read : (methods : List Method) (v : Version) → next methods start (words (codes "rohcfn-certificate " ++ version_word v)) ≡ Some (st v stage.Between [] [] [] [] [] [])
+pub version_read : (methods : List Method) (v : Version) → next methods start (words (codes "rohcfn-certificate " ++ version_word v)) ≡ Some (st v stage.Between [] [] [] [] [] [])
 version_read methods One = ap (next methods start) (two_words (codes "rohcfn-certificate") (codes "1") (lacks_by 32 (codes "rohcfn-certificate") refl) (lacks_by 32 (codes "1") refl))
 version_read methods Two = ap (next methods start) (two_words (codes "rohcfn-certificate") (codes "2") (lacks_by 32 (codes "rohcfn-certificate") refl) (lacks_by 32 (codes "2") refl))
 

@@ -233,6 +233,16 @@ end_good methods ls c e g h =
       lines = ap (λ l. l ++ codes "end" ∷ []) (g.lines ∙ sym (front_nones g.v g.es j));
     })
 
+drop_zero : {A : Type 0} (xs : List A) → drop 0 xs ≡ xs
+drop_zero [] = refl
+drop_zero (x ∷ xs) = refl
+
+drop_one_more : {A : Type 0} (n : ℕ) (xs : List A) (y : A) (ys : List A) → drop n xs ≡ y ∷ ys → drop (suc n) xs ≡ ys
+drop_one_more zero [] y ys h = absurd cc
+drop_one_more zero (x ∷ xs) y ys h = let same : xs ≡ ys = cc in drop_zero xs ∙ same
+drop_one_more (suc n) [] y ys h = absurd cc
+drop_one_more (suc n) (x ∷ xs) y ys h = drop_one_more n xs y ys h
+
 method_good : (methods : List Method) (ls : List (List ℕ)) (c e : Draft) (name : List ℕ) → Between methods ls c → begin_method methods c name ≡ Some e → Good methods (ls ++ (codes "method " ++ name) ∷ []) e
 method_good methods ls c e name g h =
     let there : begin_method methods (st g.v stage.Between g.es [] [] [] [] []) name ≡ Some e = ap (λ x. begin_method methods x name) (sym g.is) ∙ h in
@@ -257,7 +267,7 @@ method_good methods ls c e name g h =
       is = is;
       some = omega arith;
       opened = record { told = nones_told g.v methods j g.es g.told (omega (arith, up, inside)); there = ap (slice_get methods) long ∙ at_k; used = ltb-true 0 (length m.formats) b.1 };
-      so = record { of = tt; kept = tt; versed = tt; few = omega arith; grown = λ xs. refl; deep = λ xs h. h };
+      so = record { of = tt; kept = tt; versed = tt; few = omega arith; grown = λ xs. refl; deep = λ xs h. h; placed = λ xs. drop_zero (depths (1 ∷ []) xs) };
       lines = (λ i. (g.lines ∙ sym (front_nones g.v g.es j)) i ++ (codes "method " ++ (named ∙ ap (λ x. x.name) same) i) ∷ []);
     })
 
@@ -266,10 +276,6 @@ length_take zero [] h = refl
 length_take zero (x ∷ xs) h = refl
 length_take (suc n) [] h = absurd (omega arith)
 length_take (suc n) (x ∷ xs) h = ap suc (length_take n xs (omega arith))
-
-drop_zero : {A : Type 0} (xs : List A) → drop 0 xs ≡ xs
-drop_zero [] = refl
-drop_zero (x ∷ xs) = refl
 
 take_split : {A : Type 0} (before rest : List A) (n : ℕ) → length before ≤ n → take n (before ++ rest) ≡ before ++ drop (length before) (take n (before ++ rest))
 take_split [] rest n h = sym (drop_zero (take n rest))
@@ -365,6 +371,7 @@ node_good methods ls d e word more g h =
         let w = when_true (nat_lt (length g.tree) node_limit && nat_le depth depth_limit) (st g.v (after_node (owed_after node depth owed)) g.es (g.tree ++ node ∷ []) (owed_after node depth owed) [] [] []) e made in
         let b = both_true (nat_lt (length g.tree) node_limit) (nat_le depth depth_limit) w.0 in
         let so = subst (TreeSo g.v m g.tree) o g.so in
+        let long : length (g.tree ++ node ∷ []) ≡ suc (length g.tree) = omega (arith, length-append g.tree (node ∷ [])) in
         after node (owed_after node depth owed) (record {
           of = all_push (IsNodeOf m) g.tree node so.of fine.0;
           kept = all_push IsNodeKept g.tree node so.kept fine.1;
@@ -372,6 +379,9 @@ node_good methods ls d e word more g h =
           few = omega (arith, ltb-true (length g.tree) node_limit b.0, length-append g.tree (node ∷ []));
           grown = λ xs. ap (are_trees 1) (append_assoc g.tree (node ∷ []) xs) ∙ so.grown (node ∷ xs) ∙ ap (λ k. are_trees k xs) (sym (counted node depth owed));
           deep = λ xs all. subst (λ t. AllByRecursion (λ d. d ≤ depth_limit) (depths (1 ∷ []) t)) (sym (append_assoc g.tree (node ∷ []) xs)) (so.deep (node ∷ xs) (leb-true depth depth_limit b.1, all));
+          placed = λ xs.
+              (λ i. drop (long i) (depths (1 ∷ []) (append_assoc g.tree (node ∷ []) xs i)))
+              ∙ drop_one_more (length g.tree) (depths (1 ∷ []) (g.tree ++ node ∷ xs)) depth (depths (owed_after node depth owed) xs) (so.placed (node ∷ xs));
         }) (tree_more node line) w.1
 
 read_good : (methods : List Method) (ls : List (List ℕ)) (d e : Draft) (word : List ℕ) (more : List (List ℕ)) → InRead methods ls d → inner_at stage.Read methods d word more ≡ Some e → Good methods (ls ++ join_with_byte 32 (word ∷ more) ∷ []) e

@@ -25,9 +25,10 @@ use Rattle.fn_cert_text.specs.declared.draft.Stage.TheVariants as stage
 use Rattle.fn_cert_text.specs.Drafts.{open_method, place_by, method_place, format_place, field_place, parameter_place, reference_place, common_place, is_local, number_below, constant_of, step_on, step_of}
 use Rattle.fn_cert.specs.Kept.{offset_limit}
 use Rattle.fn_cert.specs.Of.{field_names}
-use Rattle.fn_cert_text.specs.Shapes.{stands_at, is_bare, lacks_format, lacks_node, lacks_step, is_unknown}
+use Rattle.fn_cert_text.specs.Shapes.{method_within, stands_at, is_bare, lacks_format, lacks_node, lacks_step, is_unknown}
 use Rattle.fn_cert_text.specs.Table.{exactly, either, an_offset, a_constant, a_constraint, a_method, a_format, a_parameter, a_reference, a_field, Row, first_row, method_row, bit_row, param_row, ref_row, leaf_row, none_row, format_row, read_row, write_row, take_row, call_row, library_row, length_row, length_by_row, solve_row, choose_row, ask_row, end_row, kinds, is_number, LooksLike, IsBelow, IsConstant, IsInRange}
-use Rattle.fn_cert_text.specs.Tells.{method_within, method_at, format_at, IsAmong, IsReached, IsCommon, IsConstraint, IsKnown, IsRanged}
+use Rattle.fn_cert_text.specs.Tells.{IsAmong, IsReached, IsCommon, IsConstraint, IsKnown, IsRanged}
+use Rattle.fn_cert_text.proofs.DraftsDue.{method_at, format_at, due_of}
 use Rattle.fn_cert_text.specs.Text.{name_of}
 use Rattle.fn_cert_text.proofs.DraftsMeaning.{map_some, place_means, some_is}
 use Rattle.fn_cert_text.proofs.DraftsNumerals.{below_some, below_means, constant_some}
@@ -225,7 +226,7 @@ unknown_in place methods [] = false
 unknown_in place methods (word ∷ more) = is_unknown place methods word more
 
 abbrev pub NamesFound : List Method → Draft → Row → List (List ℕ) → Type 0
-NamesFound methods d row ws = Found (unknown_in (stands_at d) methods ws) (AllZip (IsKnown methods d) (kinds row) ws)
+NamesFound methods d row ws = Found (unknown_in (stands_at d) methods ws) (AllZip (IsKnown methods (due_of methods d)) (kinds row) ws)
 
 -- the method that is open has distinct names
 open_named : (methods : List Method) → AreNamed methods → (d : Draft) (m : Method) → method_at methods d ≡ Some m → MethodIsNamed m
@@ -241,7 +242,7 @@ open_named methods named d m h = by d.stage h
     by stage.Read e = named.each (length d.entries) m e
     by stage.Write e = named.each (length d.entries) m e
 
-pub names_found : (methods : List Method) → AreNamed methods → (d : Draft) (row : Row) (ws : List (List ℕ)) → IsRanged d row ws → NamesFound methods d row ws
+pub names_found : (methods : List Method) → AreNamed methods → (d : Draft) (row : Row) (ws : List (List ℕ)) → IsRanged d.version row ws → NamesFound methods d row ws
 names_found methods named d first_row ws h =
     let (a, b, is, p, q) = of_two LooksLike (exactly (codes "rohcfn-certificate")) (either (codes "1") (codes "2")) ws h.shape.alike in
     as_two (NamesFound methods d first_row) (codes "rohcfn-certificate") a b ws is p

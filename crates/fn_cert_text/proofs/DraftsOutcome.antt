@@ -14,8 +14,8 @@ use Rattle.fn_cert_text.specs.declared.draft.Stage.TheVariants as stage
 use Rattle.fn_cert_text.specs.declared.reading.CertificateError.{CertificateError}
 use Rattle.fn_cert_text.specs.declared.reading.CertificateError.TheVariants.{BadWord, UnknownName, AboveLimits, OutOfMemory}
 use Rattle.fn_cert_text.specs.Drafts.{words as words_of, is_stage, next, read_lines, start}
-use Rattle.fn_cert_text.specs.Faults.{texts, text_limit, IsReading, IsFaultAt, IsCutOff, Blames, too_long, at_line, cut_off, no_memory, fault_of, Stops}
-use Rattle.fn_cert_text.specs.Shapes.{stands_at, fault_told}
+use Rattle.fn_cert_text.specs.Faults.{texts, text_limit, IsReading, IsFaultAt, IsCutOff, Blames, too_long, at_line, cut_off, no_memory, fault_of}
+use Rattle.fn_cert_text.specs.Shapes.{stands_at, fault_told, Stops}
 use Rattle.fn_cert_text.specs.Tells.{Tells}
 use Rattle.fn_cert_text.specs.declared.faults.Fault.{Fault}
 use Rattle.fn_cert_text.specs.declared.faults.Fault.TheVariants as fault
@@ -24,6 +24,8 @@ use Rattle.fn_cert.specs.Of.{AreWords}
 use Rattle.fn_cert_text.specs.Laws.{OneReading, FaultsExclude, ReadsBack, ReadsOnly, NoBlame}
 use Rattle.fn_cert_text.specs.Text.{certificate_lines, certificate_text}
 use Rattle.fn_cert_text.proofs.ShapesBlaming.{code_is}
+use Rattle.fn_cert_text.proofs.DraftsDue.{due_of}
+use Rattle.fn_cert_text.proofs.DueShown.{due_shown}
 use Rattle.fn_cert_text.proofs.FaultsCompleting.{can_follow}
 use Rattle.fn_cert_text.proofs.DraftsAccepting.{st, accept, readable_by}
 use Rattle.fn_cert_text.proofs.DraftsMeaning.{and_some, some_is}
@@ -72,13 +74,13 @@ stops_at f methods items i z d fault inside so_far stops told =
 
 fault_here : (methods : List Method) → AreNamed methods → AreWords methods → (numbered : List (ℕ × List ℕ)) (fault : Fault) (n : ℕ) → Stops methods numbered fault n → IsFaultAt methods numbered fault n
 fault_here methods named spelled numbered fault n s = record {
-  tells = subst (Tells methods s.draft (words_of s.line)) (sym s.told) (code_is methods named (texts s.before) s.draft (words_of s.line) s.so_far s.stops);
+  due = due_of methods s.draft;
+  is_due = due_shown methods (texts s.before) s.draft s.so_far;
+  tells = subst (Tells methods (due_of methods s.draft) (words_of s.line)) (sym s.told) (code_is methods named (texts s.before) s.draft (words_of s.line) s.so_far s.stops);
   before = s.before;
   line = s.line;
   after = s.after;
   cut = s.cut;
-  draft = s.draft;
-  so_far = s.so_far;
   follows = can_follow methods (texts s.before) s.draft s.so_far;
   unfit = λ c more certificate same.
       let accepted = accept methods (readable_by methods named spelled) c certificate.of certificate.kept in
@@ -96,8 +98,6 @@ pub is_cut_off : {A : Type 0} (f : A → ℕ × List ℕ) (methods : List Method
     → is_stage d.stage stage.End ≡ false → n ≡ suc (length (lines text)) → IsCutOff methods text n
 is_cut_off f methods named spelled text items d n all drafted open_still last = record {
   after_last = last;
-  draft = d;
-  so_far = ap (read_lines methods start) (ap texts (sym all) ∙ texts_of f items) ∙ drafted;
   follows = can_follow methods (texts (numbered_lines text)) d (ap (read_lines methods start) (ap texts (sym all) ∙ texts_of f items) ∙ drafted);
   unfit = λ c certificate same.
       let accepted = accept methods (readable_by methods named (worded methods spelled)) c certificate.of certificate.kept in

@@ -1,21 +1,23 @@
 -- The code of a line that can't come next.
-use Rattle.std.proofs.Common.{◌≡◌, ◌∙◌, sym, ap, subst, refl, cond, ℕ, ◌<◌, ◌≤◌, ◌&&◌, Bool, true, false, ◌⊎◌, inl, inr, List, [], ◌∷◌, length, nat_lt, nat_le, arith}
+use Rattle.std.proofs.Common.{◌≡◌, ◌∙◌, sym, ap, subst, refl, cond, ℕ, zero, suc, ◌<◌, ◌≤◌, ◌&&◌, Bool, true, false, ◌⊎◌, inl, inr, List, [], ◌∷◌, ◌++◌, length, drop, nat_lt, nat_le, arith}
 use Rattle.std.specs.Prelude.{Option, Some, None, is_none, slice_get, option_and_then, unwrap_or, codes}
 use Rattle.std.specs.List.{AllZip}
 use Rattle.std.proofs.lemmas.Bool.{ltb-false, leb-false}
 use Rattle.fn_normal.specs.declared.profile.Method.{Method}
 use Rattle.fn_profile.specs.Named.{AreNamed}
 use Rattle.fn_cert.specs.declared.certificate.Node.{Node}
+use Rattle.fn_cert.specs.declared.certificate.Node.TheVariants.{Nowhere}
 use Rattle.fn_cert_text.specs.declared.draft.Draft.{Draft}
 use Rattle.fn_cert_text.specs.declared.draft.Stage.{Stage}
 use Rattle.fn_cert_text.specs.declared.draft.Stage.TheVariants as stage
 use Rattle.fn_cert_text.specs.declared.faults.Fault.TheVariants.{BadWord, UnknownName, AboveLimits}
 use Rattle.fn_cert_text.specs.Drafts.{when, open_method, open_format, node_of, step_of, with_node, with_node_at, with_read, with_write, inner_at, next, read_lines, start}
-use Rattle.fn_cert.specs.Kept.{node_limit, depth_limit, step_limit}
-use Rattle.fn_cert_text.specs.Shapes.{stands_at, lacks_node, lacks_step, is_unknown, is_node, is_step, goes_on, line_fault, shaped_fault, words_fault, fault_told}
+use Rattle.fn_cert.specs.Kept.{depths, node_limit, depth_limit, step_limit}
+use Rattle.fn_cert_text.specs.Shapes.{method_within, format_within, stands_at, lacks_node, lacks_step, is_unknown, is_node, is_step, goes_on, line_fault, shaped_fault, words_fault, fault_told}
 use Rattle.fn_cert_text.specs.Table.{Row, first_row, method_row, bit_row, param_row, ref_row, leaf_row, none_row, format_row, read_row, write_row, take_row, call_row, library_row, length_row, length_by_row, solve_row, choose_row, ask_row, end_row, kinds, LooksLike, IsNodeRow, IsStepRow, HasShape}
-use Rattle.fn_cert_text.specs.Tells.{method_within, format_within, method_at, format_at, GoesOn, IsDeep, IsFull, IsRanged, IsNamed, Tells, shapeless, out_of_range, unknown, misplaced, one_too_many}
+use Rattle.fn_cert_text.specs.Tells.{GoesOn, IsDeep, IsFull, IsRanged, IsNamed, Tells, shapeless, out_of_range, unknown, misplaced, one_too_many}
 use Rattle.fn_cert_text.proofs.DraftsFollowing.{good_start}
+use Rattle.fn_cert_text.proofs.DraftsDue.{method_at, format_at, begun_at, due_of}
 use Rattle.fn_cert_text.proofs.DraftsKnown.{NamesFound, names_found}
 use Rattle.fn_cert_text.proofs.Shaped.{Judged, fits, LooksRight, looks_right}
 use Rattle.fn_cert_text.proofs.Telling.{GoodAt, Good, InTree, InRead, InWrite}
@@ -129,15 +131,15 @@ step_held choose_row = inl (refl, tt)
 step_held ask_row = inl (refl, tt)
 step_held end_row = inr (refl, λ x. x)
 
-goes_held : (s : Stage) (row : Row) → Held (goes_on s (first_word row)) (GoesOn s row)
-goes_held stage.Tree row = node_held row
-goes_held stage.Read row = step_held row
-goes_held stage.Write row = step_held row
-goes_held stage.Version row = inr (refl, λ x. x)
-goes_held stage.Between row = inr (refl, λ x. x)
-goes_held stage.Formats row = inr (refl, λ x. x)
-goes_held stage.Head row = inr (refl, λ x. x)
-goes_held stage.End row = inr (refl, λ x. x)
+goes_held : (s : Stage) (d : Draft) (row : Row) → Held (goes_on s (first_word row)) (GoesOn (begun_at s d) row)
+goes_held stage.Tree d row = node_held row
+goes_held stage.Read d row = step_held row
+goes_held stage.Write d row = step_held row
+goes_held stage.Version d row = inr (refl, λ x. x)
+goes_held stage.Between d row = inr (refl, λ x. x)
+goes_held stage.Formats d row = inr (refl, λ x. x)
+goes_held stage.Head d row = inr (refl, λ x. x)
+goes_held stage.End d row = inr (refl, λ x. x)
 
 -- the words of nodes and steps are no heading
 inner_node : (methods : List Method) (d : Draft) (row : Row) (more : List (List ℕ)) → IsNodeRow row → next methods d (first_word row ∷ more) ≡ inner_at d.stage methods d (first_word row) more
@@ -260,26 +262,35 @@ when_not : {A : Type 0} (b : Bool) (x : A) → when b x ≡ None → b ≡ false
 when_not true x h = absurd cc
 when_not false x h = refl
 
+first_left : {A : Type 0} (n : ℕ) (xs : List A) (y : A) (ys : List A) → drop n xs ≡ y ∷ ys → slice_get xs n ≡ Some y
+first_left zero [] y ys h = absurd cc
+first_left zero (x ∷ xs) y ys h = let same : x ≡ y = cc in ap Some same
+first_left (suc n) [] y ys h = absurd cc
+first_left (suc n) (x ∷ xs) y ys h = first_left n xs y ys h
+
 either_false : (a b : Bool) → (a && b) ≡ false → (a ≡ false) ⊎ (b ≡ false)
 either_false true b h = inr h
 either_false false b h = inl refl
 
-owed_full : (d : Draft) (node : Node) (owed : List ℕ) → 0 < length owed → with_node_at d node owed ≡ None → (node_limit ≤ length d.tree) ⊎ IsDeep owed
-owed_full d node [] h none = absurd (omega (arith, h))
-owed_full d node (depth ∷ owed) h none = by (either_false (nat_lt (length d.tree) node_limit) (nat_le depth depth_limit) (when_not _ _ none))
+owed_full : (tree : List Node) (d : Draft) (node : Node) (owed : List ℕ) → d.tree ≡ tree → drop (length tree) (depths (1 ∷ []) (tree ++ Nowhere ∷ [])) ≡ depths owed (Nowhere ∷ []) → 0 < length owed → with_node_at d node owed ≡ None → (node_limit ≤ length tree) ⊎ IsDeep tree
+owed_full tree d node [] is placed h none = absurd (omega (arith, h))
+owed_full tree d node (depth ∷ owed) is placed h none = by (either_false (nat_lt (length d.tree) node_limit) (nat_le depth depth_limit) (when_not _ _ none))
   where
-    by : (nat_lt (length d.tree) node_limit ≡ false) ⊎ (nat_le depth depth_limit ≡ false) → (node_limit ≤ length d.tree) ⊎ IsDeep (depth ∷ owed)
-    by (inl e) = inl (ltb-false (length d.tree) node_limit e)
-    by (inr e) = inr (leb-false depth depth_limit e)
+    by : (nat_lt (length d.tree) node_limit ≡ false) ⊎ (nat_le depth depth_limit ≡ false) → (node_limit ≤ length tree) ⊎ IsDeep tree
+    by (inl e) = inl (ltb-false (length tree) node_limit (ap (λ t. nat_lt (length t) node_limit) (sym is) ∙ e))
+    by (inr e) = inr (record { depth = depth; next_is = first_left (length tree) (depths (1 ∷ []) (tree ++ Nowhere ∷ [])) depth _ placed; deep = leb-false depth depth_limit e })
 
-tree_full : (methods : List Method) (ls : List (List ℕ)) (d : Draft) (word : List ℕ) (more : List (List ℕ)) → d.stage ≡ stage.Tree → InTree methods ls d → inner_at d.stage methods d word more ≡ None → lacks_node d.version (method_at methods d) word more ≡ false → (node_limit ≤ length d.tree) ⊎ IsDeep d.owed
+tree_full : (methods : List Method) (ls : List (List ℕ)) (d : Draft) (word : List ℕ) (more : List (List ℕ)) → d.stage ≡ stage.Tree → InTree methods ls d → inner_at d.stage methods d word more ≡ None → lacks_node d.version (method_at methods d) word more ≡ false → (node_limit ≤ length d.tree) ⊎ IsDeep d.tree
 tree_full methods ls d word more e g stops known =
     let opened : open_method methods d ≡ Some g.m = ap (open_method methods) g.is ∙ g.opened.there in
     let here : method_at methods d ≡ Some g.m = λ i. method_within (e i) (opened i) in
     let (node, is) = some_of (node_of d.version g.m word more) (sym (ap (λ o. lacks_node d.version o word more) here) ∙ known) in
     let none : with_node d node ≡ None =
     sym (ap (λ s. inner_at s methods d word more) e ∙ ap (option_and_then (λ m. option_and_then (with_node d) (node_of d.version m word more))) opened ∙ ap (option_and_then (with_node d)) is) ∙ stops in
-    owed_full d node d.owed (subst (λ o. 0 < length o) (sym (ap (λ x. x.owed) g.is)) g.some) none
+    let tree_is : d.tree ≡ g.tree = ap (λ x. x.tree) g.is in
+    let owed_is : d.owed ≡ g.owed = ap (λ x. x.owed) g.is in
+    let here_none : with_node_at d node g.owed ≡ None = ap (with_node_at d node) (sym owed_is) ∙ none in
+    subst (λ t. (node_limit ≤ length t) ⊎ IsDeep t) (sym tree_is) (owed_full g.tree d node g.owed tree_is (g.so.placed (Nowhere ∷ [])) g.some here_none)
 
 read_full : (methods : List Method) (ls : List (List ℕ)) (d : Draft) (word : List ℕ) (more : List (List ℕ)) → d.stage ≡ stage.Read → InRead methods ls d → inner_at d.stage methods d word more ≡ None → lacks_step (format_at methods d) word more ≡ false → step_limit ≤ length d.read
 read_full methods ls d word more e g stops known =
@@ -299,10 +310,10 @@ write_full methods ls d word more e g stops known =
     sym (ap (λ s. inner_at s methods d word more) e ∙ ap (option_and_then (λ f. option_and_then (with_write d) (step_of f word more))) opened ∙ ap (option_and_then (with_write d)) is) ∙ stops in
     ltb-false (length d.write) step_limit (when_not _ _ none)
 
-full : (methods : List Method) (ls : List (List ℕ)) (d : Draft) (row : Row) (more : List (List ℕ)) → Good methods ls d → next methods d (first_word row ∷ more) ≡ None → is_unknown (stands_at d) methods (first_word row) more ≡ false → GoesOn d.stage row → IsFull d.stage d
+full : (methods : List Method) (ls : List (List ℕ)) (d : Draft) (row : Row) (more : List (List ℕ)) → Good methods ls d → next methods d (first_word row ∷ more) ≡ None → is_unknown (stands_at d) methods (first_word row) more ≡ false → GoesOn (begun_at d.stage d) row → IsFull (begun_at d.stage d)
 full methods ls d row more good stops known goes_on_there = by d.stage refl good goes_on_there
   where
-    by : (s : Stage) → d.stage ≡ s → GoodAt s methods ls d → GoesOn s row → IsFull s d
+    by : (s : Stage) → d.stage ≡ s → GoodAt s methods ls d → GoesOn (begun_at s d) row → IsFull (begun_at s d)
     by stage.Tree e g goes = tree_full methods ls d (first_word row) more e g (sym (inner_node methods d row more goes) ∙ stops) (sym (unknown_node methods d row more goes) ∙ known)
     by stage.Read e g goes = read_full methods ls d (first_word row) more e g (sym (inner_step methods d row more goes) ∙ stops) (sym (unknown_step methods d row more goes) ∙ known)
     by stage.Write e g goes = write_full methods ls d (first_word row) more e g (sym (inner_step methods d row more goes) ∙ stops) (sym (unknown_step methods d row more goes) ∙ known)
@@ -314,20 +325,20 @@ full methods ls d row more good stops known goes_on_there = by d.stage refl good
 
 -- ---- the code
 
-named_line : (methods : List Method) → AreNamed methods → (ls : List (List ℕ)) (d : Draft) (row : Row) (more : List (List ℕ)) → Good methods ls d → next methods d (first_word row ∷ more) ≡ None → IsRanged d row (first_word row ∷ more) → line_fault d.version (first_word row ∷ more) ≡ None
-    → Tells methods d (first_word row ∷ more) (fault_told (stands_at d) methods (first_word row ∷ more))
+named_line : (methods : List Method) → AreNamed methods → (ls : List (List ℕ)) (d : Draft) (row : Row) (more : List (List ℕ)) → Good methods ls d → next methods d (first_word row ∷ more) ≡ None → IsRanged d.version row (first_word row ∷ more) → line_fault d.version (first_word row ∷ more) ≡ None
+    → Tells methods (due_of methods d) (first_word row ∷ more) (fault_told (stands_at d) methods (first_word row ∷ more))
 named_line methods named ls d row more good stops ranged none = by (names_found methods named d row (first_word row ∷ more) ranged)
   where
     shaped : fault_told (stands_at d) methods (first_word row ∷ more) ≡ shaped_fault (stands_at d) methods (first_word row) more
     shaped = ap (λ o. unwrap_or o (shaped_fault (stands_at d) methods (first_word row) more)) none
 
-    placed : is_unknown (stands_at d) methods (first_word row) more ≡ false → IsNamed methods d row (first_word row ∷ more) → Held (goes_on d.stage (first_word row)) (GoesOn d.stage row) → Tells methods d (first_word row ∷ more) (fault_told (stands_at d) methods (first_word row ∷ more))
+    placed : is_unknown (stands_at d) methods (first_word row) more ≡ false → IsNamed methods (due_of methods d) row (first_word row ∷ more) → Held (goes_on d.stage (first_word row)) (GoesOn (begun_at d.stage d) row) → Tells methods (due_of methods d) (first_word row ∷ more) (fault_told (stands_at d) methods (first_word row ∷ more))
     placed known all (inl h) = one_too_many (shaped ∙ (λ i. cond (known i) UnknownName (cond (h.0 i) AboveLimits BadWord))) row all h.1 (full methods ls d row more good stops known h.1)
     placed known all (inr h) = misplaced (shaped ∙ (λ i. cond (known i) UnknownName (cond (h.0 i) AboveLimits BadWord))) row all h.1
 
-    by : NamesFound methods d row (first_word row ∷ more) → Tells methods d (first_word row ∷ more) (fault_told (stands_at d) methods (first_word row ∷ more))
+    by : NamesFound methods d row (first_word row ∷ more) → Tells methods (due_of methods d) (first_word row ∷ more) (fault_told (stands_at d) methods (first_word row ∷ more))
     by (inl h) = unknown (shaped ∙ ap (λ b. cond b UnknownName (cond (goes_on d.stage (first_word row)) AboveLimits BadWord)) h.0) row ranged h.1
-    by (inr h) = placed h.0 (record { ranged = ranged; known = h.1 }) (goes_held d.stage row)
+    by (inr h) = placed h.0 (record { ranged = ranged; known = h.1 }) (goes_held d.stage d row)
 
 no_shape : (d : Draft) (ws : List (List ℕ)) → line_fault d.version ws ≡ Some BadWord → (row : Row) → HasShape d.version row ws → ⊥
 no_shape d ws bad row h = by (fits d.version row ws h)
@@ -336,16 +347,16 @@ no_shape d ws bad row h = by (fits d.version row ws h)
     by (inl e) = let wrong : Some BadWord ≡ None = sym bad ∙ e.0 in absurd cc
     by (inr e) = let wrong : Some BadWord ≡ Some AboveLimits = sym bad ∙ e.0 in absurd cc
 
-pub code_is : (methods : List Method) → AreNamed methods → (ls : List (List ℕ)) (d : Draft) (ws : List (List ℕ)) → read_lines methods start ls ≡ Some d → next methods d ws ≡ None → Tells methods d ws (fault_told (stands_at d) methods ws)
+pub code_is : (methods : List Method) → AreNamed methods → (ls : List (List ℕ)) (d : Draft) (ws : List (List ℕ)) → read_lines methods start ls ≡ Some d → next methods d ws ≡ None → Tells methods (due_of methods d) ws (fault_told (stands_at d) methods ws)
 code_is methods named ls d ws so_far stops = by (looks_right d.version ws)
   where
-    by_range : (row : Row) → HasShape d.version row ws → Judged d.version row ws → Tells methods d ws (fault_told (stands_at d) methods ws)
+    by_range : (row : Row) → HasShape d.version row ws → Judged d.version row ws → Tells methods (due_of methods d) ws (fault_told (stands_at d) methods ws)
     by_range row h (inr e) = out_of_range (ap (λ o. unwrap_or o (words_fault (stands_at d) methods ws)) e.0) row h e.1
     by_range row h (inl e) =
         let (more, is) = words_begin row ws h.alike in
-        subst (λ x. Tells methods d x (fault_told (stands_at d) methods x)) (sym is)
-        (named_line methods named ls d row more (good_start methods ls d so_far) (ap (next methods d) (sym is) ∙ stops) (subst (IsRanged d row) is (record { shape = h; ranged = e.1 })) (ap (line_fault d.version) (sym is) ∙ e.0))
+        subst (λ x. Tells methods (due_of methods d) x (fault_told (stands_at d) methods x)) (sym is)
+        (named_line methods named ls d row more (good_start methods ls d so_far) (ap (next methods d) (sym is) ∙ stops) (subst (IsRanged d.version row) is (record { shape = h; ranged = e.1 })) (ap (line_fault d.version) (sym is) ∙ e.0))
 
-    by : LooksRight d.version ws → Tells methods d ws (fault_told (stands_at d) methods ws)
+    by : LooksRight d.version ws → Tells methods (due_of methods d) ws (fault_told (stands_at d) methods ws)
     by (inl bad) = shapeless (ap (λ o. unwrap_or o (words_fault (stands_at d) methods ws)) bad) (no_shape d ws bad)
     by (inr seen) = by_range seen.0 seen.1 (fits d.version seen.0 ws seen.1)

@@ -4,7 +4,7 @@ use Rattle.std.specs.Prelude.{codes}
 use Rattle.std.specs.List.{AllZip}
 use Rattle.std.specs.Str.{bytes_eq}
 use Rattle.fn_normal.specs.declared.profile.Method.{Method}
-use Rattle.fn_cert_text.specs.declared.draft.Draft.{Draft}
+use Rattle.fn_cert_text.specs.Due.{Due}
 use Rattle.fn_cert_text.specs.Laws.{OneCode}
 use Rattle.fn_cert_text.specs.Table.{exactly, either, a_constraint, a_field, Row, first_row, method_row, bit_row, param_row, ref_row, leaf_row, none_row, format_row, read_row, write_row, take_row, call_row, library_row, length_row, length_by_row, solve_row, choose_row, ask_row, end_row, kinds, LooksLike, IsInRange, HasShape}
 use Rattle.fn_cert_text.specs.Tells.{IsKnown, GoesOn, shapeless, out_of_range, unknown, misplaced, one_too_many}
@@ -46,7 +46,7 @@ row_is length_by_row ws h =
     let (a, b, c, e, is, p, q, r, s) = of_four LooksLike (exactly (codes "length")) a_field (either (codes "U") (codes "C")) a_constraint ws h in
     ap row_of is ∙ ap (λ x. row_of (x ∷ b ∷ c ∷ e ∷ [])) p ∙ ap (λ t. cond t length_row length_by_row) (no_method_word e s)
 
-module _ (methods : List Method) (d : Draft) (ws : List (List ℕ)) where
+module _ (methods : List Method) (d : Due) (ws : List (List ℕ)) where
   same_row : (one other : Row) → HasShape d.version one ws → HasShape d.version other ws → one ≡ other
   same_row one other h k = sym (row_is one ws h.alike) ∙ row_is other ws k.alike
 
@@ -56,8 +56,8 @@ module _ (methods : List Method) (d : Draft) (ws : List (List ℕ)) where
   known_here : (one other : Row) → HasShape d.version one ws → HasShape d.version other ws → AllZip (IsKnown methods d) (kinds other) ws → AllZip (IsKnown methods d) (kinds one) ws
   known_here one other h k all = subst (λ row. AllZip (IsKnown methods d) (kinds row) ws) (same_row other one k h) all
 
-  goes_here : (one other : Row) → HasShape d.version one ws → HasShape d.version other ws → GoesOn d.stage other → GoesOn d.stage one
-  goes_here one other h k goes = subst (GoesOn d.stage) (same_row other one k h) goes
+  goes_here : (one other : Row) → HasShape d.version one ws → HasShape d.version other ws → GoesOn d.begun other → GoesOn d.begun one
+  goes_here one other h k goes = subst (GoesOn d.begun) (same_row other one k h) goes
 
 pub one_code : OneCode
 one_code methods d ws f g (shapeless ea an) (shapeless eb bn) = ea ∙ sym eb

@@ -20,7 +20,8 @@ use Rattle.fn_cert_text.specs.declared.draft.Stage.TheVariants as stage
 use Rattle.fn_cert_text.specs.Drafts.{blank, blanks, at, close_format_at, close_method_at, start}
 use Rattle.fn_cert.specs.Kept.{Entries, IsNodeKept, IsNodeIn, IsStepKept, ArePlansKept, AreFormatsKept, IsMethodKept, are_trees, depths, node_limit, depth_limit, step_limit}
 use Rattle.fn_cert.specs.Of.{field_names, IsStepOf, IsNodeOf, IsFormatOf, ArePlansOf, IsMethodOf, IsEntryOf, IsOf}
-use Rattle.fn_cert_text.specs.Text.{name_of, name_at, first_names, version_word, format_name, step_line, node_line, format_lines, method_lines}
+use Rattle.fn_cert_text.specs.Text.{name_of, name_at, first_names, version_word, format_name, node_line, format_lines, method_lines}
+pub use Rattle.fn_cert_text.specs.Due.{front, shown, step_lines, tree_lines, formats_lines, format_head}
 use Rattle.fn_cert_text.proofs.DraftsAccepting.{st, take_front, drop_front}
 
 -- ---- lists
@@ -53,25 +54,6 @@ rest_from (z ∷ xs) rest x h = rest_from xs rest x h
 
 -- ---- what is said so far
 
-abbrev pub front : Version → Entries → List (List ℕ)
-front v es = (codes "rohcfn-certificate " ++ version_word v) ∷ flat_map method_lines es
-
--- a method as its nodes show it
-abbrev pub shown : Method → MethodPlans
-shown m = record { name = m.name; parameters = m.parameters; tree = []; formats = map blank m.formats }
-
-abbrev pub step_lines : Format → List Step → List (List ℕ)
-step_lines f steps = map (step_line (field_names f)) steps
-
-abbrev pub tree_lines : Version → Entries → Method → List Node → List (List ℕ)
-tree_lines v es m tree = front v es ++ ((codes "method " ++ m.name) ∷ map (node_line (shown m)) tree)
-
-abbrev pub formats_lines : Version → Entries → Method → List Node → List FormatPlans → List (List ℕ)
-formats_lines v es m tree fs = tree_lines v es m tree ++ flat_map format_lines fs
-
-abbrev pub format_head : Format → List ℕ
-format_head f = codes "format " ++ name_of f.name
-
 abbrev pub IsEntryKept : Version → Option MethodPlans → Type 0
 IsEntryKept v None = Unit {0}
 IsEntryKept v (Some entry) = IsMethodKept v entry
@@ -98,6 +80,7 @@ pub record TreeSo (v : Version) (m : Method) (tree : List Node) (owed : List ℕ
   pub few : length tree ≤ node_limit
   pub grown : (more : List Node) → are_trees 1 (tree ++ more) ≡ are_trees (length owed) more
   pub deep : (more : List Node) → AllByRecursion (λ d. d ≤ depth_limit) (depths owed more) → AllByRecursion (λ d. d ≤ depth_limit) (depths (1 ∷ []) (tree ++ more))
+  pub placed : (more : List Node) → drop (length tree) (depths (1 ∷ []) (tree ++ more)) ≡ depths owed more
 
 pub record FormatsSo (m : Method) (fs : List FormatPlans) : Type 0 where
   pub before : List Format

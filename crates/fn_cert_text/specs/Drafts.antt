@@ -1,7 +1,7 @@
--- How a certificate grows as its lines are read one by one, with what may come next (docs/FORMATS.md, The text of a certificate).
-use Rattle.std.specs.Prelude.{ℕ, zero, suc, ◌-◌, ◌^◌, ◌==◌, ◌&&◌, Bool, true, false, if◌then◌else◌, List, [], ◌∷◌, ◌++◌, map, length, take, drop, Option, Some, None, slice_get, option_and_then, option_map, codes, decimal, nat_lt, nat_le, ℤ, pos, negsuc}
+-- How a certificate grows as its lines are read one by one, for inner clauses alone: what is due after lines is `IsDue`.
+use Rattle.std.specs.Prelude.{ℕ, zero, suc, ◌-◌, ◌^◌, ◌&&◌, Bool, true, false, if◌then◌else◌, List, [], ◌∷◌, ◌++◌, map, length, take, drop, Option, Some, None, slice_get, option_and_then, option_map, codes, decimal, nat_lt, nat_le, ℤ, pos, negsuc}
 use Rattle.std.specs.Fmt.{signed_decimal}
-use Rattle.std.specs.List.{position, slice_split}
+use Rattle.std.specs.List.{position}
 use Rattle.std.specs.Str.{bytes_eq}
 use Rattle.std.specs.Str.Parse.{digits_value, signed_digits_value}
 use Rattle.fn_expr.specs.declared.expr.Side.{Side}
@@ -21,14 +21,11 @@ use Rattle.fn_cert_text.specs.declared.draft.Draft.{Draft}
 use Rattle.fn_cert_text.specs.declared.draft.Stage.{Stage}
 use Rattle.fn_cert_text.specs.declared.draft.Stage.TheVariants as stage
 use Rattle.fn_cert.specs.Kept.{Entries, owed_after, node_limit, depth_limit, offset_limit, step_limit}
+pub use Rattle.fn_cert_text.specs.Table.{words}
 use Rattle.fn_cert_text.specs.Text.{name_of}
 use Rattle.fn_cert.specs.Of.{of_format, of_method}
 
 -- ---- words
-
--- the words of a line, parted by one space each
-abbrev pub words : List ℕ → List (List ℕ)
-words line = slice_split (λ octet. octet == 32) line
 
 -- the value, where the test holds
 abbrev pub when : {A : Type 0} → Bool → A → Option A

@@ -3,16 +3,15 @@ use Rattle.std.specs.Prelude.{◌≡◌, ℕ, suc, ◌<◌, ◌≤◌, List, ◌
 use Rattle.std.specs.Str.Lines.{lines}
 use Rattle.fn_normal.specs.declared.profile.Method.{Method}
 use Rattle.fn_bits.specs.Lines.{numbered_lines}
-use Rattle.fn_cert_text.specs.declared.draft.Draft.{Draft}
 use Rattle.fn_cert_text.specs.declared.faults.Fault.{Fault}
 use Rattle.fn_cert_text.specs.declared.faults.Fault.TheVariants as fault
 use Rattle.fn_cert_text.specs.declared.reading.CertificateError.{CertificateError}
 use Rattle.fn_cert_text.specs.declared.reading.CertificateError.TheVariants.{BadWord, UnknownName, AboveLimits, OutOfMemory}
-use Rattle.fn_cert_text.specs.Drafts.{words, next, read_lines, start}
+use Rattle.fn_cert_text.specs.Due.{Due, IsDue}
 use Rattle.fn_cert.specs.declared.certificate.MethodPlans.{MethodPlans}
 use Rattle.fn_cert.specs.Kept.{Certified, AreKept, are_trees}
 use Rattle.fn_cert.specs.Of.{IsOf}
-use Rattle.fn_cert_text.specs.Shapes.{stands_at, fault_told}
+use Rattle.fn_cert_text.specs.Table.{words}
 use Rattle.fn_cert_text.specs.Tells.{Tells}
 use Rattle.fn_cert_text.specs.Text.{certificate_lines}
 
@@ -39,23 +38,21 @@ pub record CanFollow (methods : List Method) (lines : List (List ℕ)) : Type 0 
   pub lines_are : certificate_lines certificate ≡ lines ++ more
 
 -- The line of that number is at fault: the lines before it can be followed, and no certificate of the methods has lines that begin with those and then this one.
--- The fault is that which the line has after those before it.
+-- The fault is that which the line has by what is due after those before it.
 pub record IsFaultAt (methods : List Method) (numbered : List (ℕ × List ℕ)) (fault : Fault) (number : ℕ) : Type 0 where
   pub before : List (ℕ × List ℕ)
   pub line : List ℕ
   pub after : List (ℕ × List ℕ)
   pub cut : numbered ≡ before ++ (number, line) ∷ after
-  pub draft : Draft
-  pub so_far : read_lines methods start (texts before) ≡ Some draft
   pub follows : CanFollow methods (texts before)
   pub unfit : (c : Certified) (more : List (List ℕ)) → IsCertificate methods c → certificate_lines c ≡ texts before ++ line ∷ more → ⊥
-  pub tells : Tells methods draft (words line) fault
+  pub due : Due
+  pub is_due : IsDue methods (texts before) due
+  pub tells : Tells methods due (words line) fault
 
 -- The lines end too early: all of them can be followed, no certificate of the methods has just these, and the number is that after the last line.
 pub record IsCutOff (methods : List Method) (text : List ℕ) (number : ℕ) : Type 0 where
   pub after_last : number ≡ suc (length (lines text))
-  pub draft : Draft
-  pub so_far : read_lines methods start (texts (numbered_lines text)) ≡ Some draft
   pub follows : CanFollow methods (texts (numbered_lines text))
   pub unfit : (c : Certified) → IsCertificate methods c → texts (numbered_lines text) ≡ certificate_lines c → ⊥
 
@@ -79,14 +76,3 @@ pub data Blames (methods : List Method) (e : CertificateError) (text : List ℕ)
   -- lines are missing at the end
   cut_off : (number : ℕ) → length text ≤ text_limit → e ≡ BadWord number → IsCutOff methods text number → Blames methods e text
   no_memory : length text ≤ text_limit → e ≡ OutOfMemory → Blames methods e text
-
--- the lines before that of the number make a draft, of which this line makes none
-pub record Stops (methods : List Method) (numbered : List (ℕ × List ℕ)) (fault : Fault) (number : ℕ) : Type 0 where
-  pub before : List (ℕ × List ℕ)
-  pub line : List ℕ
-  pub after : List (ℕ × List ℕ)
-  pub cut : numbered ≡ before ++ (number, line) ∷ after
-  pub draft : Draft
-  pub so_far : read_lines methods start (texts before) ≡ Some draft
-  pub stops : next methods draft (words line) ≡ None
-  pub told : fault ≡ fault_told (stands_at draft) methods (words line)

@@ -3,13 +3,13 @@ use Rattle.std.specs.Prelude.{◌≡◌, ℕ, ◌≤◌, List, length}
 use Rattle.fn_normal.specs.declared.profile.Method.{Method}
 use Rattle.fn_profile.specs.Named.{AreNamed}
 use Rattle.fn_bits.specs.Lines.{numbered_lines}
-use Rattle.fn_cert_text.specs.declared.draft.Draft.{Draft}
 use Rattle.fn_cert_text.specs.declared.faults.Fault.{Fault}
 use Rattle.fn_cert_text.specs.declared.reading.CertificateError.{CertificateError}
 use Rattle.fn_cert_text.specs.declared.reading.CertificateError.TheVariants.{OutOfMemory}
 use Rattle.fn_cert_text.specs.Faults.{IsCertificate, IsReading, IsFaultAt, Blames, text_limit}
 use Rattle.fn_cert.specs.Kept.{Certified}
 use Rattle.fn_cert.specs.Of.{AreWords}
+use Rattle.fn_cert_text.specs.Due.{Due, IsDue}
 use Rattle.fn_cert_text.specs.Tells.{Tells}
 use Rattle.fn_cert_text.specs.Text.{certificate_text}
 
@@ -22,9 +22,13 @@ OneReading = (methods : List Method) (numbered : List (ℕ × List ℕ)) (es oth
 abbrev pub FaultsExclude : Type 0
 FaultsExclude = (methods : List Method) (numbered : List (ℕ × List ℕ)) (fault : Fault) (n : ℕ) (es : Certified) → IsCertificate methods es → IsReading methods numbered es → IsFaultAt methods numbered fault n → ⊥
 
+-- One thing is due after lines.
+abbrev pub OneDue : Type 0
+OneDue = (methods : List Method) (lines : List (List ℕ)) (one other : Due) → AreNamed methods → AreWords methods → IsDue methods lines one → IsDue methods lines other → one ≡ other
+
 -- A line that can't come next has one code.
 abbrev pub OneCode : Type 0
-OneCode = (methods : List Method) (draft : Draft) (words : List (List ℕ)) (one other : Fault) → Tells methods draft words one → Tells methods draft words other → one ≡ other
+OneCode = (methods : List Method) (due : Due) (words : List (List ℕ)) (one other : Fault) → Tells methods due words one → Tells methods due words other → one ≡ other
 
 -- The text of a certificate is read as that certificate, and as no other one; below the limit nothing is blamed but want of memory.
 abbrev pub ReadsBack : Type 0

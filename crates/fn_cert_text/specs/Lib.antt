@@ -1,5 +1,6 @@
 pub mod Drafts
 pub mod Table
+pub mod Due
 pub mod Tells
 pub mod Shapes
 pub mod Faults

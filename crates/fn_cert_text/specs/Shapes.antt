@@ -1,5 +1,5 @@
 -- How the code finds what is wrong with a line, for its inner clauses alone: what the code means is `Tells`.
-use Rattle.std.specs.Prelude.{ℕ, ◌==◌, ◌&&◌, ◌||◌, not, Bool, true, false, if◌then◌else◌, List, [], ◌∷◌, length, Option, Some, None, is_none, option_and_then, slice_get, unwrap_or, codes}
+use Rattle.std.specs.Prelude.{◌≡◌, ℕ, ◌++◌, map, ◌==◌, ◌&&◌, ◌||◌, not, Bool, true, false, if◌then◌else◌, List, [], ◌∷◌, length, Option, Some, None, is_none, option_and_then, slice_get, unwrap_or, codes}
 use Rattle.std.specs.Str.{bytes_eq}
 use Rattle.fn_cert_text.specs.declared.faults.Fault.{Fault}
 use Rattle.fn_cert_text.specs.declared.faults.Fault.TheVariants.{BadWord, UnknownName, AboveLimits}
@@ -12,9 +12,8 @@ use Rattle.fn_cert_text.specs.declared.draft.Standing.{Standing}
 use Rattle.fn_cert_text.specs.declared.draft.Stage.{Stage}
 use Rattle.fn_cert_text.specs.declared.draft.Stage.TheVariants as stage
 use Rattle.fn_cert.specs.Kept.{offset_limit}
-use Rattle.fn_cert_text.specs.Drafts.{number_below, constant_of, method_place, format_place, node_of, step_of}
+use Rattle.fn_cert_text.specs.Drafts.{words, number_below, constant_of, method_place, format_place, node_of, step_of, next, read_lines, start}
 use Rattle.fn_cert_text.specs.Table.{is_number, is_signed}
-use Rattle.fn_cert_text.specs.Tells.{method_within, format_within}
 
 -- the word is a number in its range
 abbrev pub in_range : {A : Type 0} → Option A → Option Fault
@@ -72,6 +71,19 @@ line_fault version (a ∷ b ∷ c ∷ e ∷ []) = four_fault a b c e
 line_fault version (a ∷ b ∷ c ∷ e ∷ g ∷ more) = Some BadWord
 
 -- ---- names
+
+-- the method and the format whose lines are being read, where there is one
+abbrev pub method_within : Stage → Option Method → Option Method
+method_within stage.Version method = None
+method_within stage.Between method = None
+method_within stage.End method = None
+method_within _ method = method
+
+abbrev pub format_within : Stage → Option Format → Option Format
+format_within stage.Head format = format
+format_within stage.Read format = format
+format_within stage.Write format = format
+format_within _ format = None
 
 -- where a line stands
 abbrev pub stands_at : Draft → Standing
@@ -136,3 +148,14 @@ words_fault place methods (word ∷ more) = shaped_fault place methods word more
 
 abbrev pub fault_told : Standing → List Method → List (List ℕ) → Fault
 fault_told place methods words = unwrap_or (line_fault place.version words) (words_fault place methods words)
+
+-- the lines before that of the number make a draft, of which this line makes none
+pub record Stops (methods : List Method) (numbered : List (ℕ × List ℕ)) (fault : Fault) (number : ℕ) : Type 0 where
+  pub before : List (ℕ × List ℕ)
+  pub line : List ℕ
+  pub after : List (ℕ × List ℕ)
+  pub cut : numbered ≡ before ++ (number, line) ∷ after
+  pub draft : Draft
+  pub so_far : read_lines methods start (map (λ l. l.1) before) ≡ Some draft
+  pub stops : next methods draft (words line) ≡ None
+  pub told : fault ≡ fault_told (stands_at draft) methods (words line)

@@ -2,11 +2,15 @@
 use Rattle.std.specs.Prelude.{◌≡◌, ℕ, ◌^◌, ◌<◌, ◌==◌, ◌&&◌, ◌⊎◌, not, Bool, true, false, if◌then◌else◌, List, [], ◌∷◌, length, codes, decimal, ℤ}
 use Rattle.std.specs.Char.{is_ascii_digit}
 use Rattle.std.specs.Fmt.{signed_decimal}
-use Rattle.std.specs.List.{AllZip, list_all}
+use Rattle.std.specs.List.{AllZip, list_all, slice_split}
 use Rattle.std.specs.Str.{bytes_eq}
 use Rattle.fn_cert.specs.declared.certificate.Version.{Version}
 use Rattle.fn_cert.specs.declared.certificate.Version.TheVariants.{Two}
 use Rattle.fn_cert.specs.Kept.{offset_limit, IsWide}
+
+-- the words of a line, parted by one space each
+abbrev pub words : List ℕ → List (List ℕ)
+words line = slice_split (λ octet. octet == 32) line
 
 -- what a word is
 pub data Kind : Type 0 where

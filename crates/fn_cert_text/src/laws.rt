@@ -15,9 +15,10 @@ pub fn one_reading()
     ensures no_fault { laws.FaultsExclude }
 {}
 
-/// A line that can't come next has one code.
+/// One thing is due after lines, and a line that can't come next has one code.
 pub fn one_code()
-    ensures { laws.OneCode }
+    ensures due { laws.OneDue }
+    ensures code { laws.OneCode }
 {}
 
 /// The printed text of a certificate is read as that certificate and as no other one, and up to its limit it is read but for want of memory.

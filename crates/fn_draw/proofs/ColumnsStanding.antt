@@ -1,6 +1,6 @@
 -- In every filling of a format the bits of its columns stand where they say.
 use Rattle.std.proofs.Common.{◌≡◌, ◌∙◌, refl, sym, ap, subst, ℕ, ◌+◌, ◌-◌, ◌≤◌, ◌^◌, suc, zero, Bool, List, [], ◌∷◌, ◌++◌, length, take, drop, append_assoc, arith}
-use Rattle.std.specs.Prelude.{Option, Some, None, IfSome, slice_get, ℤ, pos}
+use Rattle.std.specs.Prelude.{Option, Some, None, IfSome, slice_get, ℤ, pos, negsuc, true, false, nat_le, nat_lt, ◌&&◌, if◌then◌else◌}
 use Rattle.std.proofs.Math.Nat.{min-le_left, le-min}
 use Rattle.std.proofs.Math.Seq.{drop-append_seam, take-append_seam}
 use Rattle.std.proofs.lemmas.List.{length-append}
@@ -8,16 +8,14 @@ use Rattle.std.proofs.lemmas.Option.{slice_get_within, slice_get-map}
 use Rattle.std.specs.Option.{option_map, option_and_then}
 use Rattle.fn_bits.specs.Number.{num}
 use Rattle.fn_expr.specs.declared.expr.Expr.{Expr}
-use Rattle.fn_expr.specs.declared.expr.Expr.TheVariants as expr
 use Rattle.fn_expr.specs.declared.expr.Side.TheVariants.{Compressed}
-use Rattle.fn_expr.specs.Values.{Assignment, val}
+use Rattle.fn_expr.specs.Values.{val}
 use Rattle.fn_lib.specs.Methods as lib
 use Rattle.fn_lib.specs.Methods.{Lib}
 use Rattle.fn_normal.specs.declared.profile.Bounds.{Bounds}
 use Rattle.fn_normal.specs.declared.profile.Sizes.{Sizes}
 use Rattle.fn_normal.specs.declared.profile.FormatSizes.{FormatSizes}
 use Rattle.fn_normal.specs.declared.profile.MethodSizes.{MethodSizes}
-use Rattle.fn_normal.specs.declared.profile.Library.{Library}
 use Rattle.fn_normal.specs.declared.profile.Library.TheVariants as library
 use Rattle.fn_normal.specs.declared.profile.Encoding.{Encoding}
 use Rattle.fn_normal.specs.declared.profile.Encoding.TheVariants as encoding
@@ -26,18 +24,18 @@ use Rattle.fn_normal.specs.declared.profile.Format.{Format}
 use Rattle.fn_profile.specs.Resolved.{Resolved, IsSound}
 use Rattle.fn_bounds.proofs.FieldsRuling.{there}
 use Rattle.fn_filling.specs.declared.filling.Filling.{Filling, out-Filling}
-use Rattle.fn_filling.specs.declared.filling.FilledField.{FilledField}
-use Rattle.fn_filling.specs.Fillings.{Sides, sides_of, fields_of, listing_of, level, packed_bits, packed}
+use Rattle.fn_filling.specs.Fillings.{Sides, sides_of, fields_of, level, packed_bits, packed}
 use Rattle.fn_filling.specs.Entries.{Path, below}
-use Rattle.fn_fits.specs.Fits.{Context, Fits, IsShaped, field_side, format_at, side_of, assigned, reference_of}
+use Rattle.fn_fits.specs.Fits.{Context, Fits, IsShaped, field_side, format_at, assigned, reference_of}
 use Rattle.fn_fits.specs.Bounded.{LiesBetween, SidesLie, LengthsLie, sizes_at}
-use Rattle.fn_fits.proofs.FitsSized.{one_value, and_then_some, two_parts}
+use Rattle.fn_fits.proofs.FitsSized.{one_value, two_parts}
 use Rattle.fn_fits.proofs.FitsInverted.{FitsParts, parts, coded_parts, length-level, length-fields}
-use Rattle.fn_fits.proofs.Bounding.{Placed, placed, count_sizes, lie-in-bounds}
+use Rattle.fn_bounds.specs.Constants.{constant}
+use Rattle.fn_fits.proofs.Bounding.{Placed, constant_value, placed, count_sizes, lie-in-bounds}
 use Rattle.fn_fits.proofs.Fronts.{short_sides}
 use Rattle.fn_fits.proofs.FitsSides.{piece_is}
 use Rattle.fn_draw.specs.declared.columns.Column.{Column}
-use Rattle.fn_draw.specs.Columns.{width, capped, further, number, constant_of, constant_at, column_of, columns_from, columns_of, columns_by, columns_at}
+use Rattle.fn_draw.specs.Columns.{width, capped, further, fitting, packed_constant, constant_at, column_of, columns_from, columns_of, columns_by, columns_at}
 use Rattle.fn_draw.specs.Laws.{StandsAt, ColumnsAreOffsets, IsFixed, FieldsStandThere, column_bits}
 
 -- ---- widths
@@ -53,18 +51,26 @@ widths_lie (f ∷ fs) (b ∷ bs) (suc i) same lie = widths_lie fs bs i (omega (a
 
 -- ---- constants
 
-number_is : (e : Expr) (v : ℤ) (a : Assignment) → number e ≡ Some v → val a e ≡ Some v
-number_is (expr.Number place w) v a e = e
-number_is _ v a e = absurd (cc)
+fitting_value : (l w : Option ℤ) (v : ℤ) → fitting l w ≡ Some v → w ≡ Some v
+fitting_value (Some (pos n)) (Some (pos u)) v e = by (nat_le n 64 && nat_lt u (2 ^ n)) e
+  where
+    by : (b : Bool) → (if b then Some (pos u) else None) ≡ Some v → Some (pos u) ≡ Some v
+    by true e = e
+    by false e = absurd (cc)
+fitting_value (Some (negsuc n)) w v e = absurd (cc)
+fitting_value (Some (pos n)) (Some (negsuc u)) v e = absurd (cc)
+fitting_value (Some (pos n)) None v e = absurd (cc)
+fitting_value None w v e = absurd (cc)
 
 record IsConstant (e : Encoding) (v : ℤ) : Type 0 where
   len : Expr
   value : Expr
   encoding_is : e ≡ encoding.Library (library.CompressedValue len value)
-  value_is : number value ≡ Some v
+  value_is : constant value ≡ Some v
 
-constant_parts : (e : Encoding) (v : ℤ) → constant_of e ≡ Some v → IsConstant e v
-constant_parts (encoding.Library (library.CompressedValue len value)) v e = record { len = len; value = value; encoding_is = refl; value_is = e }
+constant_parts : (e : Encoding) (v : ℤ) → packed_constant e ≡ Some v → IsConstant e v
+constant_parts (encoding.Library (library.CompressedValue len value)) v e =
+    record { len = len; value = value; encoding_is = refl; value_is = fitting_value (constant len) (constant value) v e }
 constant_parts _ v e = absurd (cc)
 
 -- ---- one after the other
@@ -148,7 +154,7 @@ module _ (p : Resolved) (sound : IsSound p) (k n : ℕ) (ctx : Context) (args : 
   widths : (i : ℕ) → LiesBetween (width sizes.fields i) (length (field_side (slice_get (level f) i) Compressed))
   widths i = widths_lie (level f) sizes.fields i as_many lie.fields
 
-  spelled : (i : ℕ) (d : Field) (v : ℤ) → slice_get format.fields i ≡ Some d → constant_of d.encoding ≡ Some v → pos (num (field_side (slice_get (level f) i) Compressed)) ≡ v
+  spelled : (i : ℕ) (d : Field) (v : ℤ) → slice_get format.fields i ≡ Some d → packed_constant d.encoding ≡ Some v → pos (num (field_side (slice_get (level f) i) Compressed)) ≡ v
   spelled i d v at is =
       let c = constant_parts d.encoding v is in
       let within = slice_get_within format.fields i d at in
@@ -156,7 +162,7 @@ module _ (p : Resolved) (sound : IsSound p) (k n : ℕ) (ctx : Context) (args : 
       let coded = coded_parts p.methods ctx (inverted.each i d g.0 at g.1) (library.CompressedValue c.len c.value) c.encoding_is in
       let a = assigned format.listing (level f) args in
       let t = two_parts lib.compressed_value (val a c.len) (val a c.value) coded.method coded.is_method in
-      let value : t.1 ≡ v = one_value _ t.1 v t.3 (number_is c.value v a c.value_is) in
+      let value : t.1 ≡ v = one_value _ t.1 v t.3 (constant_value a c.value v c.value_is) in
       let holds = subst (λ m. Lib m (reference_of d.declared.part ctx (below path d.declared.name) d.initial) (sides_of g.0).uncompressed (sides_of g.0).compressed) (sym t.4) coded.holds in
       let side : slice_get (level f) i ≡ Some (sides_of g.0) = slice_get-map sides_of (fields_of f) i ∙ ap (option_map sides_of) g.1 in
       ap (λ o. pos (num (field_side o Compressed))) side ∙ holds.1.number_is ∙ value
@@ -164,13 +170,13 @@ module _ (p : Resolved) (sound : IsSound p) (k n : ℕ) (ctx : Context) (args : 
   constants : (i : ℕ) → IfSome (constant_at format.fields i) (λ v. pos (num (field_side (slice_get (level f) i) Compressed)) ≡ v)
   constants i = by (slice_get format.fields i) refl
     where
-      named : (d : Field) (o : Option ℤ) → slice_get format.fields i ≡ Some d → constant_of d.encoding ≡ o → IfSome o (λ v. pos (num (field_side (slice_get (level f) i) Compressed)) ≡ v)
+      named : (d : Field) (o : Option ℤ) → slice_get format.fields i ≡ Some d → packed_constant d.encoding ≡ o → IfSome o (λ v. pos (num (field_side (slice_get (level f) i) Compressed)) ≡ v)
       named d None at is = tt
       named d (Some v) at is = spelled i d v at is
 
-      by : (o : Option Field) → slice_get format.fields i ≡ o → IfSome (option_and_then (λ (d : Field). constant_of d.encoding) o) (λ v. pos (num (field_side (slice_get (level f) i) Compressed)) ≡ v)
+      by : (o : Option Field) → slice_get format.fields i ≡ o → IfSome (option_and_then (λ (d : Field). packed_constant d.encoding) o) (λ v. pos (num (field_side (slice_get (level f) i) Compressed)) ≡ v)
       by None at = tt
-      by (Some d) at = named d (constant_of d.encoding) at refl
+      by (Some d) at = named d (packed_constant d.encoding) at refl
 
   stands_at : (j : ℕ) (c : Column) → slice_get (columns_at p k n) j ≡ Some c → StandsAt c f
   stands_at j c at =

@@ -1,7 +1,5 @@
 -- The packed bits of a format as columns (docs/FORMATS.md).
-use Rattle.std.specs.Prelude.{ℕ, ◌+◌, ◌-◌, ◌^◌, min, List, [], ◌∷◌, ℤ, slice_get, Option, Some, None, option_map, option_and_then, unwrap_or}
-use Rattle.fn_expr.specs.declared.expr.Expr.{Expr}
-use Rattle.fn_expr.specs.declared.expr.Expr.TheVariants as expr
+use Rattle.std.specs.Prelude.{ℕ, ◌+◌, ◌-◌, ◌^◌, ◌&&◌, min, nat_le, nat_lt, List, [], ◌∷◌, ℤ, pos, slice_get, if◌then◌else◌, Option, Some, None, option_map, option_and_then, unwrap_or}
 use Rattle.fn_normal.specs.declared.profile.Bounds.{Bounds}
 use Rattle.fn_normal.specs.declared.profile.Sizes.{Sizes}
 use Rattle.fn_normal.specs.declared.profile.Library.TheVariants as library
@@ -10,6 +8,7 @@ use Rattle.fn_normal.specs.declared.profile.Encoding.TheVariants as encoding
 use Rattle.fn_normal.specs.declared.profile.Field.{Field}
 use Rattle.fn_normal.specs.declared.profile.Format.{Format}
 use Rattle.fn_normal.specs.declared.profile.FormatSizes.{FormatSizes}
+use Rattle.fn_bounds.specs.Constants.{constant}
 use Rattle.fn_profile.specs.Resolved.{Resolved}
 use Rattle.fn_fits.specs.Fits.{format_at}
 use Rattle.fn_fits.specs.Bounded.{sizes_at}
@@ -27,18 +26,18 @@ capped n m = min (n + m) (2 ^ 128 - 1)
 abbrev pub further : Bounds → Bounds → Bounds
 further offset width = record { least = capped offset.least width.least; most = capped offset.most width.most }
 
--- the number that an expression is
-abbrev pub number : Expr → Option ℤ
-number (expr.Number place v) = Some v
-number _ = None
+-- a number, where so many bits, which are 64 at most, can spell it
+abbrev pub fitting : Option ℤ → Option ℤ → Option ℤ
+fitting (Some (pos n)) (Some (pos v)) = if nat_le n 64 && nat_lt v (2 ^ n) then Some (pos v) else None
+fitting _ _ = None
 
 -- the number that all packed bits under an encoding spell
-abbrev pub constant_of : Encoding → Option ℤ
-constant_of (encoding.Library (library.CompressedValue length value)) = number value
-constant_of _ = None
+abbrev pub packed_constant : Encoding → Option ℤ
+packed_constant (encoding.Library (library.CompressedValue length value)) = fitting (constant length) (constant value)
+packed_constant _ = None
 
 abbrev pub constant_at : List Field → ℕ → Option ℤ
-constant_at fields i = option_and_then (λ (d : Field). constant_of d.encoding) (slice_get fields i)
+constant_at fields i = option_and_then (λ (d : Field). packed_constant d.encoding) (slice_get fields i)
 
 abbrev pub column_of : List Field → List Sizes → Bounds → ℕ → Column
 column_of fields sizes offset i = record { field = i; offset = offset; width = width sizes i; constant = constant_at fields i }

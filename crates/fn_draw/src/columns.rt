@@ -1,18 +1,18 @@
 //! The columns of a format.
 
-ghost use Rattle.std.specs.Prelude.{◌≡◌, IfOk};
+ghost use Rattle.std.specs.Prelude.{◌≡◌, Some, IfOk};
 ghost use Rattle.std.specs.Option.{option_copied};
 ghost use Rattle.fn_fits.specs.Bounded as bounded;
 ghost use Rattle.fn_fits.specs.Fits as fits;
 ghost use Rattle.fn_draw.specs.Columns as spec;
 
-use fn_expr::Expr;
+use fn_bounds::constants::constant_of;
 use fn_normal::{Bounds, Encoding, Field, Format, FormatSizes, Library, Sizes};
 use fn_profile::Profile;
 use sqlite_items::{Items, at};
 use std::alloc::{AllocError, Global};
 
-/// A listed field of a format: where its packed bits begin, how many they are, and their number where the format gives a constant.
+/// A listed field of a format: where its packed bits begin, how many they are, and their number where the format gives a constant that so many bits can spell.
 #[derive(Clone, Copy)]
 pub struct Column {
     pub field: usize,
@@ -61,7 +61,7 @@ fn columns_of(alloc: Global, format: &Format, sizes: &[Sizes]) -> Result<Items<C
     let mut found = Items::new(alloc);
     let mut offset = NO_BITS;
     for listed in format.listing.get().as_slice() {
-        let column = column_of(fields, sizes, offset, *listed);
+        let column = column_of(alloc, fields, sizes, offset, *listed);
         offset = further(offset, column.width);
         found.push(column)?;
     }
@@ -69,14 +69,20 @@ fn columns_of(alloc: Global, format: &Format, sizes: &[Sizes]) -> Result<Items<C
 }
 
 /// The column of a field that begins there.
-fn column_of(fields: &[Field], sizes: &[Sizes], offset: Bounds, field: usize) -> Column
+fn column_of(
+    alloc: Global,
+    fields: &[Field],
+    sizes: &[Sizes],
+    offset: Bounds,
+    field: usize,
+) -> Column
     ensures { result ≡ spec.column_of fields.now sizes.now offset field }
 {
     Column {
         field,
         offset,
         width: width(sizes, field),
-        constant: constant(fields, field),
+        constant: constant_at(alloc, fields, field),
     }
 }
 
@@ -101,29 +107,48 @@ fn further(offset: Bounds, width: Bounds) -> Bounds
 }
 
 /// The number of a field whose packed bits are one constant.
-fn constant(fields: &[Field], field: usize) -> Option<i128>
+fn constant_at(alloc: Global, fields: &[Field], field: usize) -> Option<i128>
     ensures { result ≡ spec.constant_at fields.now field }
 {
     match at(fields, field) {
-        Some(field) => constant_of(field.encoding.get()),
+        Some(field) => packed_constant(alloc, field.encoding.get()),
         None => None,
     }
 }
 
-fn constant_of(encoding: &Encoding) -> Option<i128>
-    ensures { result ≡ spec.constant_of encoding.now }
+fn packed_constant(alloc: Global, encoding: &Encoding) -> Option<i128>
+    ensures { result ≡ spec.packed_constant encoding.now }
 {
     match encoding {
-        Encoding::Library(Library::CompressedValue { length: _, value }) => number(value),
+        Encoding::Library(Library::CompressedValue { length, value }) => {
+            fitting(constant_of(alloc, length), constant_of(alloc, value))
+        }
         _ => None,
     }
 }
 
-fn number(expr: &Expr) -> Option<i128>
-    ensures { result ≡ spec.number expr.now }
+/// The number, where so many bits can spell it. None, where either is none.
+fn fitting(length: Option<i128>, number: Option<i128>) -> Option<i128>
+    ensures { result ≡ spec.fitting length number }
 {
-    match expr {
-        Expr::Number(_, number) => Some(*number),
-        _ => None,
+    let Some(length) = length else {
+        return None;
+    };
+    let Some(number) = number else {
+        return None;
+    };
+    fitting_in(length, number)
+}
+
+fn fitting_in(length: i128, number: i128) -> Option<i128>
+    ensures { result ≡ spec.fitting (Some length) (Some number) }
+{
+    if length < 0 || 64 < length || number < 0 {
+        return None;
+    }
+    if number < 1_i128 << length {
+        Some(number)
+    } else {
+        None
     }
 }

@@ -12,10 +12,10 @@ use Rattle.fn_filling.specs.declared.filling.Item.{Item}
 use Rattle.fn_filling.specs.Entries.{entries, next}
 use Rattle.fn_filling.specs.Fillings.{packed, item}
 use Rattle.fn_fits.specs.Fronts.{FitsTop}
-use Rattle.fn_engine.specs.declared.reader.Read.{Read}
 use Rattle.fn_engine.specs.declared.reader.UnpackFault.{UnpackFault}
 use Rattle.fn_engine.specs.declared.reader.UnpackFault.TheVariants.{Truncated, Refused, OutOfMemory}
-use Rattle.fn_engine.specs.declared.writer.Written.{Written}
+use Rattle.fn_engine.specs.declared.reader.Unpacked.{Unpacked}
+use Rattle.fn_engine.specs.declared.search.Packed.{Packed}
 use Rattle.fn_engine.specs.Laws.{AreSame, IsReadBack, ReadBack}
 use Rattle.fn_engine.specs.Reading as reading
 use Rattle.fn_engine.specs.Reading.{Fitting, Fronts}
@@ -27,7 +27,7 @@ next_same ctx other same f g is path =
     overridden-value ctx (entries f) path ∙ ap (option_or (bits_at (reverse (entries f)) path)) (same path) ∙ sym (overridden-value other (entries f) path)
     ∙ ap (λ h. bits_at (next other h) path) (sym is)
 
-module _ (a : Accepting) (det : IsDeterminate a) (ctx other : Entries) (same : AreSame ctx other) (it : Item) (w : Written) (written : writing.IsWritten a ctx it w) (more : List Bool) where
+module _ (a : Accepting) (det : IsDeterminate a) (ctx other : Entries) (same : AreSame ctx other) (it : Item) (w : Packed) (written : writing.IsPacked a ctx it w) (more : List Bool) where
   -- what was written fits in the other context too
   fits_there : Fitting a other w.filling
   fits_there = subst (λ c. FitsTop a.profile.methods a.profile.top c w.filling) (λ i path. same path i) written.best.fits
@@ -39,13 +39,15 @@ module _ (a : Accepting) (det : IsDeterminate a) (ctx other : Entries) (same : A
   front_alone : Fronts a other (w.packed ++ more) w.filling
   front_alone = record { fits = fits_there; rest = more; front = ap (λ p. p ++ more) written.packed_is }
 
-  pub is_read_back : (old new : Place) (r : Read) → old.left ≡ w.packed ++ more → reading.IsRead a other old new r → IsReadBack ctx other it w more new r
+  pub is_read_back : (old new : Place) (r : Unpacked) → old.left ≡ w.packed ++ more → reading.IsUnpacked a other old new r → IsReadBack ctx other it w more new r
   is_read_back old new r at read =
       let there : Fronts a other (w.packed ++ more) r.filling = record { fits = read.fits; rest = new.left; front = sym at ∙ read.advances.left } in
       let one : r.filling ≡ w.filling = det.top (bits_at other) (w.packed ++ more) r.filling w.filling there front_alone in
       let bits : packed r.filling ≡ w.packed = ap packed one ∙ sym written.packed_is in
+      let has : item r.filling ≡ it = ap item one ∙ written.best.has in
       record {
-        item_is = read.item_is ∙ ap item one ∙ written.best.has;
+        item_is = has;
+        header_is = read.header_is ∙ ap (λ (i : Item). i.header) has;
         filling_is = one;
         bits_is = read.bits_is ∙ ap length bits;
         left_is = append_cancel_left w.packed new.left more (ap (λ b. b ++ new.left) (sym bits) ∙ sym read.advances.left ∙ at);

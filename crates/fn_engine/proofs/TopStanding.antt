@@ -1,15 +1,18 @@
 -- What is known of the top of an accepted profile.
-use Rattle.std.proofs.Common.{◌≡◌, ◌∙◌, refl, sym, ap, subst, ℕ, zero, suc, ◌<◌, ◌≤◌, ◌^◌, Bool, List, [], ◌∷◌, length, arith}
-use Rattle.std.specs.Prelude.{ℤ, slice_get, Some}
+use Rattle.std.proofs.Common.{◌≡◌, ◌∙◌, refl, sym, ap, subst, ℕ, zero, suc, ◌+◌, ◌/◌, ◌<◌, ◌≤◌, ◌^◌, Bool, List, [], ◌∷◌, length, arith}
+use Rattle.std.specs.Prelude.{ℤ, slice_get, Some, None}
+use Rattle.std.proofs.lemmas.Option.{same_Some}
 use Rattle.fn_bounds.proofs.ParametersWidening.{lie-in-parameters}
 use Rattle.fn_accepted.specs.Accepted.{Accepting}
 use Rattle.fn_context.specs.Entries.{Entries}
 use Rattle.fn_filling.specs.declared.filling.Filling.{Filling}
 use Rattle.fn_filling.specs.Fillings.{packed}
-use Rattle.fn_fits.proofs.Fronts.{short_sides}
+use Rattle.fn_fits.proofs.Fronts.{short_sides, within_limits}
 use Rattle.fn_fits.specs.Ready.{ArgumentsLieAt}
+use Rattle.fn_normal.specs.declared.profile.MethodSizes.{MethodSizes}
 use Rattle.fn_profile.specs.Resolved.{Resolved, IsSound}
 use Rattle.fn_engine.specs.Reading.{Fitting}
+use Rattle.fn_engine.specs.Top.{IsMostOctets}
 
 element : {A : Type 0} (xs : List A) (k : ℕ) → k < length xs → (x : A) × (slice_get xs k ≡ Some x)
 element [] k h = absurd (omega arith)
@@ -37,3 +40,16 @@ pub few_packed : (p : Resolved) → IsSound p → (a : Accepting) → a.profile 
 few_packed p sound a is ctx f h b same =
     let here : IsSound a.profile = subst IsSound (sym is) sound in
     subst (λ l. length l ≤ 2 ^ 18) (sym same) (short_sides a.profile.methods a.profile.sizes here.sized _ a.profile.top [] [] f h).1
+
+-- the packed bits of the top are few by its bounds
+pub few_by_bounds : (p : Resolved) → IsSound p → (s : MethodSizes) → slice_get p.sizes p.top ≡ Some s → s.whole.compressed.most ≤ 2 ^ 18
+few_by_bounds p sound s at =
+    let m = element p.methods p.top sound.within in
+    (within_limits s.whole (sound.sized.fine.within p.top m.0 s m.1 at)).1
+
+-- the octets by the bounds that are there
+pub octets_are : (a : Accepting) (found : MethodSizes) (n : ℕ) → slice_get a.profile.sizes a.profile.top ≡ Some found → n ≡ found.whole.compressed.most / 8 + 1 → IsMostOctets a n
+octets_are a found n at is s at_s = is ∙ ap (λ (z : MethodSizes). z.whole.compressed.most / 8 + 1) (same_Some found s (sym at ∙ at_s))
+
+pub no_octets : (a : Accepting) (n : ℕ) → slice_get a.profile.sizes a.profile.top ≡ None → IsMostOctets a n
+no_octets a n none s at_s = let wrong : None ≡ Some s = sym none ∙ at_s in absurd cc

@@ -11,7 +11,7 @@ use crate::unfinished::Unfinished;
 use fn_accepted::Accepted;
 use fn_bits::{Bits, Cursor};
 use fn_context::Context;
-use fn_engine::{UnpackFault, Unpacked, item_of, most_octets, unpack_drawn, unpack_filling};
+use fn_engine::{UnpackFault, Unpacked, item_of, most_octets, unpack, unpack_drawn};
 use fn_filling::{Item, advance};
 use std::alloc::{AllocError, Global};
 
@@ -43,7 +43,7 @@ fn try_packet(
     ensures err { IfErr result (λ e. BlamesPacket e accepted.now context.old (drop 1 begun.now)) }
 {
     let mut cursor = Cursor::new(begun.bits());
-    match unpack_filling(alloc, accepted, context, &mut cursor) {
+    match unpack(alloc, accepted, context, &mut cursor) {
         Ok(read) => {
             if !is_zero(&cursor) {
                 return Err(LineFault::Padding);

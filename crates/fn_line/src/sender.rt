@@ -13,7 +13,7 @@ use crate::flow::{Flow, LineVersion, no_contexts};
 use fn_accepted::Accepted;
 use fn_bits::Bits;
 use fn_context::Context;
-use fn_engine::{PackFault, Packed, pack_filling};
+use fn_engine::{PackFault, Packed, pack};
 use fn_filling::{Item, advance};
 use std::alloc::{AllocError, Global};
 use std::marker::Model;
@@ -119,7 +119,7 @@ fn put_packet(
     ensures err { OnErr result ((context.new ≡ context.old) × (out.new.items ≡ out.old.items)) }
     ensures fault { IfErr result (λ e. writing.Blames e accepted.now context.old item.now) }
 {
-    let found = match pack_filling(alloc, accepted, context, item) {
+    let found = match pack(alloc, accepted, context, item) {
         Ok(found) => found,
         Err(fault) => return Err(fault),
     };

@@ -1,4 +1,4 @@
--- A condition never has a truth that its ranges exclude.
+-- A condition never has a truth that its ranges exclude, and a bracket no length.
 use Rattle.std.proofs.Common.{◌≡◌, ◌∙◌, refl, sym, ap, Bool, true, false, not, ◌&&◌, ◌||◌, ◌⊎◌, inl, inr, arith}
 use Rattle.std.specs.Prelude.{Option, Some, None, ℤ, int_le, int_lt, Result, Ok, Err}
 use Rattle.std.specs.Option.{option_map}
@@ -30,10 +30,10 @@ either false b e = inr e
 equal_is : (x y : ℤ) → int_eq x y ≡ true → x ≡ y
 equal_is x y e = (Decides-int_eq x y).0 e
 
-is_equal : (x y : ℤ) → x ≡ y → int_eq x y ≡ true
+pub is_equal : (x y : ℤ) → x ≡ y → int_eq x y ≡ true
 is_equal x y e = (Decides-int_eq x y).1 e
 
-apart : (op : Comparison) (i j : Interval) (x y : ℤ) → IsIn i x → IsIn j y → is_apart op i j ≡ true → compare op x y ≡ true → ⊥
+pub apart : (op : Comparison) (i j : Interval) (x y : ℤ) → IsIn i x → IsIn j y → is_apart op i j ≡ true → compare op x y ≡ true → ⊥
 apart Equal i j x y p q h c =
     let same = equal_is x y c in
     by (either (int_lt i.to j.from) (int_lt j.to i.from) h) same
@@ -90,14 +90,14 @@ compared op (Some x) (Some y) b e = record { left = x; right = y; left_is = refl
 compared op (Some x) None b e = absurd (cc)
 compared op None q b e = absurd (cc)
 
-record Ranged (op : Comparison) (o q : Result Interval RangeFault) : Type 0 where
-  left : Interval
-  right : Interval
-  left_is : o ≡ Ok left
-  right_is : q ≡ Ok right
-  apart : is_apart op left right ≡ true
+pub record Ranged (op : Comparison) (o q : Result Interval RangeFault) : Type 0 where
+  pub left : Interval
+  pub right : Interval
+  pub left_is : o ≡ Ok left
+  pub right_is : q ≡ Ok right
+  pub apart : is_apart op left right ≡ true
 
-ranges_of : (op : Comparison) (o q : Result Interval RangeFault) → are_apart op o q ≡ true → Ranged op o q
+pub ranges_of : (op : Comparison) (o q : Result Interval RangeFault) → are_apart op o q ≡ true → Ranged op o q
 ranges_of op (Ok i) (Ok j) e = record { left = i; right = j; left_is = refl; right_is = refl; apart = e }
 ranges_of op (Ok i) (Err f) e = absurd (cc)
 ranges_of op (Err f) q e = absurd (cc)

@@ -1,4 +1,15 @@
-pub mod Obstacles
-pub mod Laws
+pub mod Attributes
+pub mod Undefined
 pub mod Never
+pub mod Demands
+pub mod Obstacles
+pub mod Marks
+pub mod Laws
 pub mod Listing
+pub mod Paths
+pub mod Needs
+pub mod NeedsSteps
+pub mod NeedsTold
+pub mod Sites
+pub mod SitesSteps
+pub mod Spelled

@@ -1,14 +1,19 @@
--- Conditions that their ranges make false: a truth that a condition never has, whatever the numbers in it are.
-use Rattle.std.specs.Prelude.{◌≡◌, ℕ, List, slice_get, Some, Bool, true, false, not, ◌&&◌, ◌||◌, int_le, int_lt, Result, Ok, Err}
+-- Conditions that their ranges make false: a truth that a condition never has, whatever the numbers in it are. And brackets with none of the lengths that a side may have.
+use Rattle.std.specs.Prelude.{◌≡◌, ℕ, List, [], ◌∷◌, slice_get, Option, Some, None, Bool, true, false, not, ◌&&◌, ◌||◌, int_le, int_lt, Result, Ok, Err}
 use Rattle.fn_expr.specs.declared.expr.Comparison.{Comparison}
 use Rattle.fn_expr.specs.declared.expr.Comparison.TheVariants.{Equal, NotEqual, Less, Greater, AtMost, AtLeast}
 use Rattle.fn_expr.specs.declared.expr.Cond.{Cond}
 use Rattle.fn_expr.specs.declared.expr.Cond.TheVariants.{Constant, Compare, Not', And', Or'}
+use Rattle.fn_expr.specs.declared.expr.Expr.{Expr}
+use Rattle.fn_expr.specs.declared.expr.Subject.TheVariants as subject
 use Rattle.fn_expr.specs.declared.fault.RangeFault.{RangeFault}
 use Rattle.fn_expr.specs.declared.interval.Interval.{Interval}
 use Rattle.fn_expr.specs.Ranged.{Bounding, ranged}
 use Rattle.fn_normal.specs.declared.profile.Constraint.{Constraint}
 use Rattle.fn_normal.specs.declared.profile.Constraint.TheVariants.{Bracket, Enforce}
+use Rattle.fn_source.specs.declared.span.Span.{Span}
+use Rattle.fn_lint.specs.Attributes.{length_range}
+use Rattle.fn_lint.specs.Undefined.{undefined}
 
 -- no number of the one interval compares so with a number of the other
 abbrev pub is_apart : Comparison → Interval → Interval → Bool
@@ -51,9 +56,22 @@ abbrev mutual
   never_false r (And' s p x q y) = never_false r x && never_false r y
   never_false r (Or' s p x q y) = never_false r x || never_false r y
 
--- the constraint is a condition that is never true
+abbrev pub is_there : Option Span → Bool
+is_there (Some s) = true
+is_there None = false
+
+-- the expression has no value, or never one of these numbers
+abbrev pub is_none_of : Bounding → Interval → Expr → Bool
+is_none_of r due e = is_there (undefined r e) || are_apart Equal (ranged r e) (Ok due)
+
+-- so it is with each of these
+abbrev pub are_none_of : Bounding → Interval → List Expr → Bool
+are_none_of r due [] = true
+are_none_of r due (e ∷ es) = is_none_of r due e && are_none_of r due es
+
+-- the constraint is a condition that is never true, or a bracket with none of the lengths that the side may have
 abbrev pub is_untrue : Bounding → Constraint → Bool
-is_untrue r (Bracket i side lengths place) = false
+is_untrue r (Bracket i side lengths place) = are_none_of r (length_range r (subject.Field i) side) lengths
 is_untrue r (Enforce condition place) = never_true r condition
 
 -- so is the constraint j

@@ -1,8 +1,11 @@
 -- What keeps every filling from a format, whatever the context (docs/NOTATION.md).
-use Rattle.std.specs.Prelude.{◌≡◌, ◌≢◌, ℕ, ◌<◌, ◌%◌, Bool, true, false, List, ℤ, slice_get, Option, Some, None}
+use Rattle.std.specs.Prelude.{◌≡◌, ◌≢◌, ℕ, ◌<◌, ◌≤◌, ◌%◌, Bool, true, false, List, ℤ, length, slice_get, Option, Some, None}
+use Rattle.fn_source.specs.declared.span.Span.{Span}
+use Rattle.fn_expr.specs.declared.expr.Expr.{Expr}
 use Rattle.fn_expr.specs.declared.expr.Side.{Side}
 use Rattle.fn_expr.specs.declared.interval.Interval.{Interval}
 use Rattle.fn_expr.specs.Bounds.{bounding_of}
+use Rattle.fn_expr.specs.Ranged.{Bounding}
 use Rattle.fn_normal.specs.declared.profile.Bounds.{Bounds}
 use Rattle.fn_normal.specs.declared.profile.Sizes.{Sizes}
 use Rattle.fn_normal.specs.declared.profile.FormatSizes.{FormatSizes}
@@ -12,15 +15,20 @@ use Rattle.fn_normal.specs.declared.profile.Encoding.{Encoding}
 use Rattle.fn_normal.specs.declared.profile.Encoding.TheVariants as encoding
 use Rattle.fn_normal.specs.declared.profile.CrcArguments.{CrcArguments}
 use Rattle.fn_normal.specs.declared.profile.Field.{Field}
+use Rattle.fn_normal.specs.declared.profile.Constraint.{Constraint}
 use Rattle.fn_normal.specs.declared.profile.Format.{Format}
+use Rattle.fn_normal.specs.declared.profile.Method.{Method}
 use Rattle.fn_profile.specs.Resolved.{Resolved}
 use Rattle.fn_bounds.specs.Ranging.{format_ranges}
 use Rattle.fn_bounds.specs.Faults.{side_bounds, subject_sizes}
+use Rattle.fn_bounds.specs.Laws.{encoding_exprs}
 use Rattle.fn_filling.specs.declared.filling.Filling.{Filling, out-Filling}
 use Rattle.fn_filling.specs.Entries.{Path}
 use Rattle.fn_fits.specs.Fits.{Context, Fits, format_at}
 use Rattle.fn_fits.specs.Bounded.{ArgumentsLie}
+use Rattle.fn_lint.specs.Demands.{HasUnmet}
 use Rattle.fn_lint.specs.Never.{IsUntrue}
+use Rattle.fn_lint.specs.Undefined.{first_undefined, undefined_condition}
 use Rattle.fn_lint.specs.declared.obstacle.Obstacle.{Obstacle}
 use Rattle.fn_lint.specs.declared.obstacle.Obstacle.TheVariants as obstacle
 
@@ -47,10 +55,9 @@ pub record SendsMore (fields : List Field) (sizes : List Sizes) (i : ℕ) : Type
   pub bounds_at : slice_get sizes i ≡ Some bounds
   pub more : bounds.uncompressed.most < bounds.compressed.least
 
--- the bits have one length, which is no number of whole octets
+-- no length that the bits may have is a number of whole octets
 pub record AreSplit (b : Bounds) : Type 0 where
-  pub one_length : b.least ≡ b.most
-  pub split : b.most % 8 ≢ 0
+  pub split : (n : ℕ) → b.least ≤ n → n ≤ b.most → n % 8 ≢ 0
 
 -- the field i is a `crc` over such bits
 pub record SplitsOctets (fields : List Field) (sizes : FormatSizes) (i : ℕ) : Type 0 where
@@ -60,15 +67,37 @@ pub record SplitsOctets (fields : List Field) (sizes : FormatSizes) (i : ℕ) : 
   pub by_crc : crc_in field.encoding ≡ Some crc
   pub split : AreSplit (side_bounds crc.side (subject_sizes sizes crc.subject))
 
--- the obstacle stands in a format with these bounds, under these ranges of parameters
-abbrev pub StandsIn : Format → FormatSizes → List Interval → Obstacle → Type 0
-StandsIn format sizes parameters (obstacle.NoLength i side) = HasNoLength sizes.fields i side
-StandsIn format sizes parameters (obstacle.SendsMore i) = SendsMore format.fields sizes.fields i
-StandsIn format sizes parameters (obstacle.SplitsOctets i) = SplitsOctets format.fields sizes i
-StandsIn format sizes parameters (obstacle.NeverTrue j) = IsUntrue format.constraints (bounding_of (format_ranges sizes parameters)) j
+-- an argument of the field i has no value
+pub record LacksAt (fields : List Field) (r : Bounding) (i : ℕ) (at : Span) : Type 0 where
+  pub field : Field
+  pub field_at : slice_get fields i ≡ Some field
+  pub undefined : first_undefined r (encoding_exprs field.encoding) ≡ Some at
 
--- it stands in the format n of the method k
-pub record Hinders (p : Resolved) (k n : ℕ) (o : Obstacle) : Type 0 where
+-- one of some field has none
+abbrev pub LacksValue : List Field → Bounding → Span → Type 0
+LacksValue fields r at = (i : ℕ) × LacksAt fields r i at
+
+-- an argument or a condition has none
+pub data HasNoValue (fields : List Field) (constraints : List Constraint) (r : Bounding) (at : Span) : Type 0 where
+  of_argument : LacksValue fields r at → HasNoValue fields constraints r at
+  of_condition : undefined_condition r constraints ≡ Some at → HasNoValue fields constraints r at
+
+-- the obstacle stands in a format with these bounds, under these ranges of its numbers; one in a called method isn't of the format alone
+abbrev pub StandsUnder : Format → FormatSizes → Bounding → Obstacle → Type 0
+StandsUnder format sizes r (obstacle.NoLength i side) = HasNoLength sizes.fields i side
+StandsUnder format sizes r (obstacle.SendsMore i) = SendsMore format.fields sizes.fields i
+StandsUnder format sizes r (obstacle.SplitsOctets i) = SplitsOctets format.fields sizes i
+StandsUnder format sizes r (obstacle.NoValue at) = HasNoValue format.fields format.constraints r at
+StandsUnder format sizes r (obstacle.OutOfRange u) = HasUnmet format.fields r u
+StandsUnder format sizes r (obstacle.NeverTrue j) = IsUntrue format.constraints r j
+StandsUnder format sizes r (obstacle.CallsDead i) = ⊥
+
+-- the same under these ranges of parameters
+abbrev pub StandsIn : Format → FormatSizes → List Interval → Obstacle → Type 0
+StandsIn format sizes parameters o = StandsUnder format sizes (bounding_of (format_ranges sizes parameters)) o
+
+-- it stands in the format n of the method k by that format alone
+pub record Stands (p : Resolved) (k n : ℕ) (o : Obstacle) : Type 0 where
   pub format : Format
   pub format_is : format_at p.methods k n ≡ Some format
   pub whole : MethodSizes
@@ -76,6 +105,29 @@ pub record Hinders (p : Resolved) (k n : ℕ) (o : Obstacle) : Type 0 where
   pub sizes : FormatSizes
   pub sizes_at : slice_get whole.formats n ≡ Some sizes
   pub stands : StandsIn format sizes whole.parameters o
+
+-- the field i of the format n of the method k calls the method j
+pub record CallsAt (p : Resolved) (k n i j : ℕ) : Type 0 where
+  pub format : Format
+  pub format_is : format_at p.methods k n ≡ Some format
+  pub field : Field
+  pub field_at : slice_get format.fields i ≡ Some field
+  pub arguments : List Expr
+  pub is_call : field.encoding ≡ encoding.Call j arguments
+
+mutual
+  -- The obstacle stands in the format n of the method k.
+  pub data Hinders (p : Resolved) : ℕ → ℕ → Obstacle → Type 0 where
+    by_itself : {k n : ℕ} {o : Obstacle} → Stands p k n o → Hinders p k n o
+    -- a field calls a method of which each format has one
+    by_call : {k n i : ℕ} (j : ℕ) → CallsAt p k n i j → IsLifeless p j → Hinders p k n (obstacle.CallsDead i)
+
+  -- Each format of the method has an obstacle.
+  pub data IsLifeless (p : Resolved) : ℕ → Type 0 where
+    lifeless : {k : ℕ} (m : Method) → slice_get p.methods k ≡ Some m → ((n : ℕ) → n < length m.formats → IsHindered p k n) → IsLifeless p k
+
+  pub data IsHindered (p : Resolved) : ℕ → ℕ → Type 0 where
+    hindered : {k n : ℕ} (o : Obstacle) → Hinders p k n o → IsHindered p k n
 
 -- no filling of the format n fits the method k: in no context, under no arguments that a call can hand to it, below no path
 abbrev pub IsDead : Resolved → ℕ → ℕ → Type 0

@@ -3,6 +3,7 @@
 ghost use Rattle.std.specs.Prelude.{◌≡◌, ◌+◌, IfOk, OnOk, Some, slice_get};
 ghost use Rattle.fn_lint.specs.Listing as spec;
 
+use crate::marking::Judged;
 use crate::obstacle::{Obstacle, obstacle_of};
 use fn_normal::Method;
 use fn_profile::Profile;
@@ -22,9 +23,22 @@ pub struct DeadFormat {
 pub fn dead_formats(alloc: Global, profile: &Profile) -> Result<Items<DeadFormat>, AllocError>
     ensures found { IfOk result (spec.AreDead profile.now 0 0) }
 {
+    let judged = Judged::of(alloc, profile)?;
+    dead_in(alloc, &judged, profile.methods())
+}
+
+/// The same of a judged profile with these methods.
+fn dead_in(
+    alloc: Global,
+    judged: &Judged<'_>,
+    methods: &[Method],
+) -> Result<Items<DeadFormat>, AllocError>
+    requires { methods.now ≡ judged.now.methods }
+    ensures { IfOk result (spec.AreDead judged.now 0 0) }
+{
     let mut found = Items::new(alloc);
-    for (index, method) in profile.methods().iter().enumerate() {
-        add_method(alloc, profile, index, method, &mut found)?;
+    for (index, method) in methods.iter().enumerate() {
+        add_method(alloc, judged, index, method, &mut found)?;
     }
     Ok(found)
 }
@@ -32,16 +46,16 @@ pub fn dead_formats(alloc: Global, profile: &Profile) -> Result<Items<DeadFormat
 /// Adds those of a method.
 fn add_method(
     alloc: Global,
-    profile: &Profile,
+    judged: &Judged<'_>,
     index: usize,
     method: &Method,
     found: &mut Items<DeadFormat>,
 ) -> Result<(), AllocError>
-    requires { slice_get profile.now.methods index ≡ Some method.now }
-    ensures { OnOk result (spec.SoFar profile.now index 0 found.old → spec.SoFar profile.now (index + 1) 0 found.new) }
+    requires { slice_get judged.now.methods index ≡ Some method.now }
+    ensures { OnOk result (spec.SoFar judged.now index 0 found.old → spec.SoFar judged.now (index + 1) 0 found.new) }
 {
     for format in 0..method.formats.len() {
-        add_format(alloc, profile, index, format, found)?;
+        add_format(alloc, judged, index, format, found)?;
     }
     Ok(())
 }
@@ -49,14 +63,14 @@ fn add_method(
 /// Adds a format, if it has an obstacle.
 fn add_format(
     alloc: Global,
-    profile: &Profile,
+    judged: &Judged<'_>,
     method: usize,
     format: usize,
     found: &mut Items<DeadFormat>,
 ) -> Result<(), AllocError>
-    ensures { OnOk result (spec.IsNoted profile.now method format found.old found.new) }
+    ensures { OnOk result (spec.IsNoted judged.now method format found.old found.new) }
 {
-    if let Some(obstacle) = obstacle_of(alloc, profile, method, format)? {
+    if let Some(obstacle) = obstacle_of(alloc, judged, method, format)? {
         found.push(DeadFormat {
             method,
             format,

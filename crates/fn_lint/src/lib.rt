@@ -1,18 +1,27 @@
-//! What an author of profiles should know before a header is sent: formats by which nothing can ever be packed, which is proved of each that is told. And what
-//! the rules of `needs` and `spelled` find, which are tested and not proved.
+//! What an author of profiles should know before a header is sent: formats by which nothing can ever be packed, formats that are never used in a flow that begins
+//! with a context, entries of a context that no field can have, and names that are one letter away from another.
 #![tactic(auto)]
 
+pub use demands::Unmet;
 pub use formats::{DeadFormat, dead_formats};
-pub use needs::{Needing, needing_formats, unknown_paths};
+pub use marking::Judged;
+pub use needs::{Needing, needing_formats};
 pub use never::first_untrue;
 pub use obstacle::{Obstacle, obstacle_of};
+pub use paths::unknown_paths;
 pub use spelled::{Misspelled, misspelled_names};
 
+pub mod demands;
 pub mod formats;
+pub mod growth;
 pub mod laws;
 mod lengths;
+pub mod marking;
 pub mod needs;
 pub mod never;
 pub mod obstacle;
+pub mod paths;
+pub mod sites;
 pub mod spelled;
+pub mod undefined;
 mod unfit;

@@ -1,22 +1,32 @@
-//! Formats that ask for what no format that can come before leaves in the context: a tested rule, without a proof.
+//! Formats that ask for what no format that can come before leaves in the context.
 //!
 //! The rule goes by *sites*: the top, and each method at each path at which a format calls it. A field *needs a reference* where it is encoded by `static` or by
 //! `lsb` and INITIAL gives it no value. A format *can be used* at a site where it has no obstacle, each reference that it needs may be in the context, and each
-//! method that it calls has a format that can be used there. The entries of a site may be in the context as soon as a format that can be used there is reached:
-//! at the top, or by a format that can be used and that is reached. This grows from the given context, or an empty one, until nothing is added. A format is told where its method is
-//! reached and it can be used at no site at which its method is reached. So a format that is told packs nothing in a flow that begins with that context. A
-//! profile with more than `SITE_LIMIT` sites is not looked at.
+//! method that it calls has a format that can be used there. The entries of a site may be in the context as soon as it is reached and a format can be used there:
+//! the top is reached, and so is what a format calls that can be used where it is reached. This grows from the given context until nothing is added. A format is
+//! told where its method is reached and it can be used at no site at which its method is reached. So a format that is told packs nothing in a flow that begins
+//! with that context. A profile with more than `SITE_LIMIT` sites is not looked at.
 
+ghost use Rattle.std.specs.Prelude.{◌≡◌, ◌+◌, ◌++◌, ◌<◌, ℕ, List, length, slice_get, option_and_then, string_bytes, Some, IfOk, IfSome, IfNone, OnOk};
+ghost use Rattle.std.specs.Bool.{Decides};
+ghost use Rattle.std.specs.Option.{option_copied};
+ghost use Rattle.fn_normal.specs.declared.profile.Format.{Format};
+ghost use Rattle.fn_lint.specs.Needs as spec;
+ghost use Rattle.fn_lint.specs.NeedsSteps as steps;
+ghost use Rattle.fn_lint.specs.NeedsTold as told;
+ghost use Rattle.fn_lint.specs.Sites as sites;
+
+use crate::growth::{Flags, Ground, entry_path, first_unserved, grow, is_dead, is_reached};
+use crate::marking::Judged;
 use crate::obstacle::obstacle_of;
-use fn_normal::{Encoding, Field, Format, Library, Method, Part};
+use crate::paths::called_by;
+use crate::sites::{SITE_LIMIT, Site, all_sites, inner_path};
+use fn_normal::{Field, Format, Method};
 use fn_profile::Profile;
 use sqlite_items::Items;
 use std::alloc::{AllocError, Global};
 
-/// A profile with more sites is not looked at.
-pub const SITE_LIMIT: usize = 256;
-
-/// A format that can never be used, with the path of an entry that it needs: the format and its method by their indices.
+/// A format that can never be used, with the path of a field that lacks what it needs: the format and its method by their indices.
 #[derive(Drop)]
 pub struct Needing {
     pub method: usize,
@@ -24,588 +34,383 @@ pub struct Needing {
     pub path: String,
 }
 
-/// A method at a path at which it is called. The path ends with a point, unless it is that of the top.
-#[derive(Drop)]
-struct Site {
-    method: usize,
-    path: String,
-}
-
-/// What a format lacks: the path of an entry; or of a field, with the site of the method that it calls.
-#[derive(Drop)]
-struct Lack {
-    path: String,
-    inside: Option<usize>,
-}
-
-/// What is known of each site.
-#[derive(Clone, Copy)]
-struct Flags {
-    // a format of it can be used
-    usable: bool,
-    // it is reached
-    reached: bool,
-}
-
-const NEITHER: Flags = Flags {
-    usable: false,
-    reached: false,
-};
-
-/// The sites with what is known of them.
-#[derive(Drop)]
-struct Growth<'a> {
-    // the paths of the context at the start
-    given: &'a [&'a str],
-    sites: Items<Site>,
-    flags: Items<Flags>,
-    // by method and format
-    dead: Items<Items<bool>>,
-}
-
-/// The formats that can never be used from a context of these paths, in the order of the text, each with an entry that it needs.
+/// The formats that can never be used in a flow that begins with entries at these paths, in the order of the text, each with what it lacks. None of a profile with more
+/// than `SITE_LIMIT` sites. The error is want of memory.
 pub fn needing_formats(
     alloc: Global,
     profile: &Profile,
     given: &[&str],
-) -> Result<Items<Needing>, AllocError> {
-    let methods = profile.methods();
-    let Some(sites) = all_sites(alloc, methods, profile.top())? else {
-        return Ok(Items::new(alloc));
-    };
-    let mut growth = Growth {
-        given,
-        flags: Items::from_vec(vec![in alloc; NEITHER; sites.len()]?),
-        sites,
-        dead: dead_flags(alloc, profile)?,
-    };
-    grow(alloc, methods, &mut growth)?;
-    told(alloc, methods, &growth)
+) -> Result<Items<Needing>, AllocError>
+    ensures { IfOk result (spec.AreNeeding profile.now (steps.texts given.now)) }
+{
+    let dead = dead_flags(alloc, profile)?;
+    needing_among(alloc, profile, given, dead.as_slice())
 }
 
 /// Which formats of each method have an obstacle.
-fn dead_flags(alloc: Global, profile: &Profile) -> Result<Items<Items<bool>>, AllocError> {
+fn dead_flags(alloc: Global, profile: &Profile) -> Result<Items<Items<bool>>, AllocError>
+    ensures { IfOk result (spec.TellsObstacles profile.now) }
+{
+    let judged = Judged::of(alloc, profile)?;
+    dead_rows(alloc, &judged, profile.methods())
+}
+
+fn dead_rows(
+    alloc: Global,
+    judged: &Judged<'_>,
+    methods: &[Method],
+) -> Result<Items<Items<bool>>, AllocError>
+    requires { methods.now ≡ judged.now.methods }
+    ensures { IfOk result (spec.TellsObstacles judged.now) }
+{
     let mut all = Items::new(alloc);
-    for (index, method) in profile.methods().iter().enumerate() {
-        let mut row = Items::new(alloc);
-        for format in 0..method.formats.len() {
-            row.push(obstacle_of(alloc, profile, index, format)?.is_some())?;
-        }
-        all.push(row)?;
+    for (index, method) in methods.iter().enumerate() {
+        all.push(dead_row(alloc, judged, index, method)?)?;
     }
     Ok(all)
 }
 
-// ---- sites
-
-/// All sites, callers first. None where there are too many.
-fn all_sites(
+fn dead_row(
     alloc: Global,
-    methods: &[Method],
-    top: usize,
-) -> Result<Option<Items<Site>>, AllocError> {
-    let mut sites = Items::new(alloc);
-    sites.push(Site {
-        method: top,
-        path: String::new(alloc),
-    })?;
-    for index in 0..SITE_LIMIT {
-        let Some(site) = sites.get(index) else {
-            return Ok(Some(sites));
-        };
-        let found = called_sites(alloc, methods, site)?;
-        for site in found {
-            add_site(&mut sites, site)?;
-        }
+    judged: &Judged<'_>,
+    index: usize,
+    method: &Method,
+) -> Result<Items<bool>, AllocError>
+    ensures { IfOk result (told.TellsRow judged.now index (length method.now.formats)) }
+{
+    let mut row = Items::new(alloc);
+    for format in 0..method.formats.len() {
+        row.push(has_obstacle(alloc, judged, index, format)?)?;
     }
-    Ok(if sites.len() <= SITE_LIMIT {
-        Some(sites)
-    } else {
-        None
-    })
+    Ok(row)
 }
 
-fn add_site(sites: &mut Items<Site>, site: Site) -> Result<(), AllocError> {
-    if find_site(sites.as_slice(), site.method, site.path.as_str()).is_none() {
-        sites.push(site)?;
+fn has_obstacle(
+    alloc: Global,
+    judged: &Judged<'_>,
+    method: usize,
+    format: usize,
+) -> Result<bool, AllocError>
+    ensures { IfOk result (told.TellsOne judged.now method format) }
+{
+    let obstacle = obstacle_of(alloc, judged, method, format)?;
+    Ok(obstacle.is_some())
+}
+
+/// The same by a table that says which formats have an obstacle.
+fn needing_among(
+    alloc: Global,
+    profile: &Profile,
+    given: &[&str],
+    dead: &[Items<bool>],
+) -> Result<Items<Needing>, AllocError>
+    requires { spec.TellsObstacles profile.now dead.now }
+    ensures { IfOk result (spec.AreNeeding profile.now (steps.texts given.now)) }
+{
+    let methods = profile.methods();
+    let top = profile.top();
+    let Some(sites) = all_sites(alloc, methods, top)? else {
+        return Ok(Items::new(alloc));
+    };
+    let ground = Ground {
+        methods,
+        top,
+        dead,
+        given,
+        sites: sites.as_slice(),
+    };
+    needing_on(alloc, &ground)
+}
+
+// ---- what is told
+
+/// Those on the ground of all sites.
+fn needing_on(alloc: Global, ground: &Ground<'_>) -> Result<Items<Needing>, AllocError>
+    requires { sites.AreSites ground.now.methods.now ground.now.top ground.now.sites.now }
+    ensures { IfOk result (told.NeedingFrom ground.now 0 0) }
+{
+    let flags = grow(alloc, ground)?;
+    listed(alloc, ground, flags.as_slice())
+}
+
+/// Those by what is known of the sites.
+fn listed(alloc: Global, ground: &Ground<'_>, flags: &[Flags]) -> Result<Items<Needing>, AllocError>
+    requires sites { sites.AreSites ground.now.methods.now ground.now.top ground.now.sites.now }
+    requires grown { steps.IsGrown ground.now flags.now }
+    ensures { IfOk result (told.NeedingFrom ground.now 0 0) }
+{
+    let mut found = Items::new(alloc);
+    for (index, method) in ground.methods.iter().enumerate() {
+        add_method(alloc, ground, flags, index, method, &mut found)?;
+    }
+    Ok(found)
+}
+
+/// Adds those of a method.
+fn add_method(
+    alloc: Global,
+    ground: &Ground<'_>,
+    flags: &[Flags],
+    index: usize,
+    method: &Method,
+    found: &mut Items<Needing>,
+) -> Result<(), AllocError>
+    requires sites { sites.AreSites ground.now.methods.now ground.now.top ground.now.sites.now }
+    requires grown { steps.IsGrown ground.now flags.now }
+    requires method { slice_get ground.now.methods.now index ≡ Some method.now }
+    ensures { OnOk result (told.SoFar ground.now index 0 found.old → told.SoFar ground.now (index + 1) 0 found.new) }
+{
+    for number in 0..method.formats.len() {
+        add_format(alloc, ground, flags, index, number, found)?;
     }
     Ok(())
 }
 
-fn find_site(sites: &[Site], method: usize, path: &str) -> Option<usize> {
-    for (index, site) in sites.iter().enumerate() {
-        if site.method == method && site.path.as_str() == path {
-            return Some(index);
+/// Adds a format, if it is never used.
+fn add_format(
+    alloc: Global,
+    ground: &Ground<'_>,
+    flags: &[Flags],
+    method: usize,
+    number: usize,
+    found: &mut Items<Needing>,
+) -> Result<(), AllocError>
+    requires sites { sites.AreSites ground.now.methods.now ground.now.top ground.now.sites.now }
+    requires grown { steps.IsGrown ground.now flags.now }
+    ensures { OnOk result (told.IsNoted ground.now method number found.old found.new) }
+{
+    let Some(path) = never_used(alloc, ground, flags, method, number)? else {
+        return Ok(());
+    };
+    found.push(Needing {
+        method,
+        format: number,
+        path,
+    })?;
+    Ok(())
+}
+
+/// What a format lacks that is never used, at the first site at which its method is reached.
+fn never_used(
+    alloc: Global,
+    ground: &Ground<'_>,
+    flags: &[Flags],
+    method: usize,
+    number: usize,
+) -> Result<Option<String>, AllocError>
+    requires sites { sites.AreSites ground.now.methods.now ground.now.top ground.now.sites.now }
+    requires grown { steps.IsGrown ground.now flags.now }
+    ensures found { IfOk result (λ o. IfSome o (λ path. told.NeverUsed ground.now method number (string_bytes path))) }
+    ensures none { IfOk result (λ o. IfNone o ((path : List ℕ) → told.NeverUsed ground.now method number path → ⊥)) }
+{
+    let Some(format) = format_at(ground.methods, method, number) else {
+        return Ok(None);
+    };
+    if is_dead(ground.dead, method, number) {
+        return Ok(None);
+    }
+    let Some(place) = first_reached(ground, flags, method) else {
+        return Ok(None);
+    };
+    if is_served_somewhere(alloc, ground, flags, method, format)? {
+        return Ok(None);
+    }
+    let path = lacking_at(alloc, ground, flags, place, method, number, format)?;
+    Ok(Some(path))
+}
+
+fn format_at(methods: &[Method], method: usize, number: usize) -> Option<&Format>
+    ensures { option_copied result ≡ sites.format_in methods.now method number }
+{
+    methods.get(method)?.formats.get(number)
+}
+
+/// The place of the first site that is the method and is reached.
+fn first_reached(ground: &Ground<'_>, flags: &[Flags], method: usize) -> Option<usize>
+    ensures found { IfSome result (told.IsReachedAt ground.now flags.now method) }
+    ensures none { IfNone result ((j : ℕ) → told.IsReachedAt ground.now flags.now method j → ⊥) }
+{
+    for (place, site) in ground.sites.iter().enumerate() {
+        if is_reached_as(flags, method, place, site) {
+            return Some(place);
         }
     }
     None
 }
 
-/// The sites that the formats of a site call.
-fn called_sites(alloc: Global, methods: &[Method], site: &Site) -> Result<Vec<Site>, AllocError> {
-    let mut found = Vec::new(alloc);
-    let Some(method) = methods.get(site.method) else {
-        return Ok(found);
-    };
-    for format in method.formats.as_slice() {
-        for field in format.fields.as_slice() {
-            if let Some(called) = called_by(field) {
-                let path = path_below(
-                    alloc,
-                    site.path.as_str(),
-                    field.declared.name.as_str(),
-                    ".",
-                )?;
-                found.push(Site {
-                    method: called,
-                    path,
-                })?;
-            }
-        }
-    }
-    Ok(found)
+/// Whether a site is the method and is reached.
+fn is_reached_as(flags: &[Flags], method: usize, place: usize, site: &Site) -> bool
+    ensures { result ≡ told.is_reached_as flags.now method place site.now }
+{
+    site.method == method && is_reached(flags, place)
 }
 
-fn called_by(field: &Field) -> Option<usize> {
-    match field.encoding.get() {
-        Encoding::Call {
-            method,
-            arguments: _,
-        } => Some(*method),
-        _ => None,
-    }
-}
-
-fn path_below(alloc: Global, path: &str, name: &str, end: &str) -> Result<String, AllocError> {
-    format!(in alloc; "{path}{name}{end}")
-}
-
-// ---- growth
-
-/// Grows until nothing is added. Each round but the last reaches a site or makes one usable.
-fn grow(alloc: Global, methods: &[Method], growth: &mut Growth<'_>) -> Result<(), AllocError> {
-    for _ in 0..growth.sites.len().saturating_mul(2) {
-        let grown = use_sites(alloc, methods, growth)?;
-        let reached = reach_sites(alloc, methods, growth)?;
-        if !grown && !reached {
-            return Ok(());
-        }
-    }
-    Ok(())
-}
-
-/// Notes the sites of which a format can be used, called ones first. Whether one was added.
-fn use_sites(
+/// Whether at some site at which its method is reached the format has all that it needs.
+fn is_served_somewhere(
     alloc: Global,
-    methods: &[Method],
-    growth: &mut Growth<'_>,
-) -> Result<bool, AllocError> {
-    let mut adds = false;
-    let count = growth.sites.len();
-    for turn in 0..count {
-        let index = count - 1 - turn;
-        let flags = flags_at(growth, index);
-        if !flags.usable && is_usable(alloc, methods, growth, index)? {
-            set_flags(
-                growth,
-                index,
-                Flags {
-                    usable: true,
-                    reached: flags.reached,
-                },
-            );
-            adds = true;
-        }
-    }
-    Ok(adds)
-}
-
-fn set_flags(growth: &mut Growth<'_>, index: usize, flags: Flags) {
-    if growth.flags.get(index).is_some() {
-        growth.flags.set(index, flags);
-    }
-}
-
-fn flags_at(growth: &Growth<'_>, index: usize) -> Flags {
-    match growth.flags.get(index) {
-        Some(flags) => *flags,
-        None => NEITHER,
-    }
-}
-
-/// Whether a format of the site can be used.
-fn is_usable(
-    alloc: Global,
-    methods: &[Method],
-    growth: &Growth<'_>,
-    index: usize,
-) -> Result<bool, AllocError> {
-    let Some(site) = growth.sites.get(index) else {
-        return Ok(false);
-    };
-    let Some(method) = methods.get(site.method) else {
-        return Ok(false);
-    };
-    for (number, format) in method.formats.as_slice().iter().enumerate() {
-        if can_use(alloc, methods, growth, site, number, format)? {
-            return Ok(true);
-        }
-    }
-    Ok(false)
-}
-
-fn can_use(
-    alloc: Global,
-    methods: &[Method],
-    growth: &Growth<'_>,
-    site: &Site,
-    number: usize,
-    format: &Format,
-) -> Result<bool, AllocError> {
-    if is_dead(growth, site.method, number) {
-        return Ok(false);
-    }
-    Ok(lacking(alloc, methods, growth, site, format)?.is_none())
-}
-
-fn is_dead(growth: &Growth<'_>, method: usize, format: usize) -> bool {
-    let Some(row) = growth.dead.get(method) else {
-        return false;
-    };
-    match row.get(format) {
-        Some(dead) => *dead,
-        None => false,
-    }
-}
-
-/// The first thing that a format needs and that can't be there: the path of an entry, or of a field whose called method can't be used, with the site of that.
-fn lacking(
-    alloc: Global,
-    methods: &[Method],
-    growth: &Growth<'_>,
-    site: &Site,
-    format: &Format,
-) -> Result<Option<Lack>, AllocError> {
-    for field in format.fields.as_slice() {
-        if let Some(lack) = lacks(alloc, methods, growth, site, field)? {
-            return Ok(Some(lack));
-        }
-    }
-    Ok(None)
-}
-
-fn lacks(
-    alloc: Global,
-    methods: &[Method],
-    growth: &Growth<'_>,
-    site: &Site,
-    field: &Field,
-) -> Result<Option<Lack>, AllocError> {
-    let name = field.declared.name.as_str();
-    let path = path_below(alloc, site.path.as_str(), name, "")?;
-    if needs_reference(field) {
-        if is_given(growth, path.as_str())
-            || may_be_there(methods, growth, site.path.as_str(), field)
-        {
-            return Ok(None);
-        }
-        return Ok(Some(Lack { path, inside: None }));
-    }
-    let Some(called) = called_by(field) else {
-        return Ok(None);
-    };
-    let below = path_below(alloc, site.path.as_str(), name, ".")?;
-    let inside = find_site(growth.sites.as_slice(), called, below.as_str());
-    if is_usable_at(growth, inside) {
-        return Ok(None);
-    }
-    Ok(Some(Lack { path, inside }))
-}
-
-/// Whether the site can be used, if there is one.
-fn is_usable_at(growth: &Growth<'_>, site: Option<usize>) -> bool {
-    match site {
-        Some(index) => flags_at(growth, index).usable,
-        None => true,
-    }
-}
-
-/// The path of an entry that is lacking, from called method to called method.
-fn entry_path(
-    alloc: Global,
-    methods: &[Method],
-    growth: &Growth<'_>,
-    first: Lack,
-) -> Result<String, AllocError> {
-    let mut lack = first;
-    for _ in 0..SITE_LIMIT {
-        let Some(index) = lack.inside else {
-            return Ok(lack.path);
-        };
-        match first_lack(alloc, methods, growth, index)? {
-            Some(next) => lack = next,
-            None => return Ok(lack.path),
-        }
-    }
-    Ok(lack.path)
-}
-
-/// What the first format of a site lacks that lacks something.
-fn first_lack(
-    alloc: Global,
-    methods: &[Method],
-    growth: &Growth<'_>,
-    index: usize,
-) -> Result<Option<Lack>, AllocError> {
-    let Some(site) = growth.sites.get(index) else {
-        return Ok(None);
-    };
-    let Some(method) = methods.get(site.method) else {
-        return Ok(None);
-    };
-    for format in method.formats.as_slice() {
-        if let Some(lack) = lacking(alloc, methods, growth, site, format)? {
-            return Ok(Some(lack));
-        }
-    }
-    Ok(None)
-}
-
-/// Whether a field is encoded by what needs a reference, and INITIAL gives it none.
-fn needs_reference(field: &Field) -> bool {
-    match field.encoding.get() {
-        Encoding::Library(Library::Static) => field.initial.is_none(),
-        Encoding::Library(Library::Lsb { .. }) => field.initial.is_none(),
-        _ => false,
-    }
-}
-
-/// Whether the context at the start has the entry.
-fn is_given(growth: &Growth<'_>, path: &str) -> bool {
-    for given in growth.given {
-        if *given == path {
-            return true;
-        }
-    }
-    false
-}
-
-/// Whether a site at this path that is reached and can be used leaves an entry of the field's name.
-fn may_be_there(methods: &[Method], growth: &Growth<'_>, path: &str, field: &Field) -> bool {
-    for (index, site) in growth.sites.as_slice().iter().enumerate() {
-        let flags = flags_at(growth, index);
-        if flags.usable
-            && flags.reached
-            && site.path.as_str() == path
-            && keeps(methods, site.method, field.declared.name.as_str())
-        {
-            return true;
-        }
-    }
-    false
-}
-
-/// Whether a method has a header or control field of that name.
-fn keeps(methods: &[Method], method: usize, name: &str) -> bool {
-    let Some(method) = methods.get(method) else {
-        return false;
-    };
-    let Some(format) = method.formats.get(0) else {
-        return false;
-    };
-    for field in format.fields.as_slice() {
-        if !is_local(field) && field.declared.name.as_str() == name {
-            return true;
-        }
-    }
-    false
-}
-
-fn is_local(field: &Field) -> bool {
-    match field.declared.part {
-        Part::Local => true,
-        Part::Header => false,
-        Part::Control => false,
-    }
-}
-
-/// Notes the sites that are reached: the top, and what formats call that can be used at a site that is reached. Whether one was added.
-fn reach_sites(
-    alloc: Global,
-    methods: &[Method],
-    growth: &mut Growth<'_>,
-) -> Result<bool, AllocError> {
-    let mut adds = reach(growth, 0);
-    for index in 0..growth.sites.len() {
-        if flags_at(growth, index).reached {
-            for called in called_from(alloc, methods, growth, index)?.as_slice() {
-                if reach(growth, *called) {
-                    adds = true;
-                }
-            }
-        }
-    }
-    Ok(adds)
-}
-
-fn reach(growth: &mut Growth<'_>, index: usize) -> bool {
-    let flags = flags_at(growth, index);
-    if flags.reached || growth.sites.len() <= index {
-        return false;
-    }
-    set_flags(
-        growth,
-        index,
-        Flags {
-            usable: flags.usable,
-            reached: true,
-        },
-    );
-    true
-}
-
-/// The sites that the formats call that can be used at a site.
-fn called_from(
-    alloc: Global,
-    methods: &[Method],
-    growth: &Growth<'_>,
-    index: usize,
-) -> Result<Items<usize>, AllocError> {
-    let mut found = Items::new(alloc);
-    let Some(site) = growth.sites.get(index) else {
-        return Ok(found);
-    };
-    let Some(method) = methods.get(site.method) else {
-        return Ok(found);
-    };
-    for (number, format) in method.formats.as_slice().iter().enumerate() {
-        if can_use(alloc, methods, growth, site, number, format)? {
-            push_called(alloc, growth, site, format, &mut found)?;
-        }
-    }
-    Ok(found)
-}
-
-fn push_called(
-    alloc: Global,
-    growth: &Growth<'_>,
-    site: &Site,
-    format: &Format,
-    found: &mut Items<usize>,
-) -> Result<(), AllocError> {
-    for field in format.fields.as_slice() {
-        if let Some(called) = called_by(field) {
-            let path = path_below(alloc, site.path.as_str(), field.declared.name.as_str(), ".")?;
-            if let Some(index) = find_site(growth.sites.as_slice(), called, path.as_str()) {
-                found.push(index)?;
-            }
-        }
-    }
-    Ok(())
-}
-
-// ---- what is told
-
-/// The formats without an obstacle that can be used at no site at which their method is reached, where it is reached at one.
-fn told(
-    alloc: Global,
-    methods: &[Method],
-    growth: &Growth<'_>,
-) -> Result<Items<Needing>, AllocError> {
-    let mut found = Items::new(alloc);
-    for (index, method) in methods.iter().enumerate() {
-        for (number, format) in method.formats.as_slice().iter().enumerate() {
-            if !is_dead(growth, index, number) {
-                if let Some(path) = never_used(alloc, methods, growth, index, format)? {
-                    found.push(Needing {
-                        method: index,
-                        format: number,
-                        path,
-                    })?;
-                }
-            }
-        }
-    }
-    Ok(found)
-}
-
-/// The path of an entry that a format lacks at the first site at which its method is reached, unless it can be used at one.
-fn never_used(
-    alloc: Global,
-    methods: &[Method],
-    growth: &Growth<'_>,
+    ground: &Ground<'_>,
+    flags: &[Flags],
     method: usize,
     format: &Format,
-) -> Result<Option<String>, AllocError> {
-    let mut first = None;
-    for (index, site) in growth.sites.as_slice().iter().enumerate() {
-        if site.method == method && flags_at(growth, index).reached {
-            let Some(lack) = lacking(alloc, methods, growth, site, format)? else {
-                return Ok(None);
-            };
-            if first.is_none() {
-                first = Some(lack);
-            }
-        }
-    }
-    match first {
-        Some(lack) => Ok(Some(entry_path(alloc, methods, growth, lack)?)),
-        None => Ok(None),
-    }
-}
-
-// ---- given paths
-
-/// Those of the paths at which no format has a header or control field.
-pub fn unknown_paths<'a>(
-    alloc: Global,
-    profile: &Profile,
-    given: &[&'a str],
-) -> Result<Items<&'a str>, AllocError> {
-    let mut found = Items::new(alloc);
-    let methods = profile.methods();
-    let Some(sites) = all_sites(alloc, methods, profile.top())? else {
-        return Ok(found);
-    };
-    for path in given {
-        if !is_known(alloc, methods, sites.as_slice(), path)? {
-            found.push(*path)?;
-        }
-    }
-    Ok(found)
-}
-
-fn is_known(
-    alloc: Global,
-    methods: &[Method],
-    sites: &[Site],
-    path: &str,
-) -> Result<bool, AllocError> {
-    for site in sites {
-        if has_field(alloc, methods, site, path)? {
+) -> Result<bool, AllocError>
+    requires { sites.AreSites ground.now.methods.now ground.now.top ground.now.sites.now }
+    ensures { IfOk result (λ is. Decides is (told.IsServedSomewhere ground.now flags.now method format.now)) }
+{
+    for (place, site) in ground.sites.iter().enumerate() {
+        if is_served_at(alloc, ground, flags, method, format, place, site)? {
             return Ok(true);
         }
     }
     Ok(false)
 }
 
-fn has_field(
+fn is_served_at(
     alloc: Global,
-    methods: &[Method],
+    ground: &Ground<'_>,
+    flags: &[Flags],
+    method: usize,
+    format: &Format,
+    place: usize,
     site: &Site,
+) -> Result<bool, AllocError>
+    requires sites { sites.AreSites ground.now.methods.now ground.now.top ground.now.sites.now }
+    requires site { slice_get ground.now.sites.now place ≡ Some site.now }
+    ensures { IfOk result (λ is. Decides is (told.IsServedAt ground.now flags.now method format.now place)) }
+{
+    if !is_reached_as(flags, method, place, site) {
+        return Ok(false);
+    }
+    let path = site.path.as_str();
+    let lacking = first_unserved(alloc, ground, flags, path, format.fields.as_slice())?;
+    Ok(lacking.is_none())
+}
+
+/// What a format lacks at a site at which it doesn't have all that it needs.
+fn lacking_at(
+    alloc: Global,
+    ground: &Ground<'_>,
+    flags: &[Flags],
+    place: usize,
+    method: usize,
+    number: usize,
+    format: &Format,
+) -> Result<String, AllocError>
+    requires sites { sites.AreSites ground.now.methods.now ground.now.top ground.now.sites.now }
+    requires grown { steps.IsGrown ground.now flags.now }
+    requires format { sites.format_in ground.now.methods.now method number ≡ Some format.now }
+    requires place { told.IsReachedAt ground.now flags.now method place }
+    requires lacks { told.IsServedSomewhere ground.now flags.now method format.now → ⊥ }
+    ensures { IfOk result (λ text. told.LacksAt ground.now method number place (string_bytes text)) }
+{
+    let Some(site) = ground.sites.get(place) else {
+        unreachable!();
+    };
+    let path = site.path.as_str();
+    let Some(field) = first_unserved(alloc, ground, flags, path, format.fields.as_slice())? else {
+        unreachable!();
+    };
+    lacking_path(
+        SITE_LIMIT, alloc, ground, flags, path, method, number, field,
+    )
+}
+
+/// The path of a field that lacks something; of a field that calls a method, what a format of that lacks, and so on, so many calls deep at most.
+fn lacking_path(
+    depth: usize,
+    alloc: Global,
+    ground: &Ground<'_>,
+    flags: &[Flags],
     path: &str,
-) -> Result<bool, AllocError> {
-    let Some(method) = methods.get(site.method) else {
-        return Ok(false);
+    method: usize,
+    number: usize,
+    place: usize,
+) -> Result<String, AllocError>
+    requires sites { sites.AreSites ground.now.methods.now ground.now.top ground.now.sites.now }
+    requires grown { steps.IsGrown ground.now flags.now }
+    requires site { sites.Holds ground.now.sites.now method path.now }
+    requires lacks { told.FieldLacks ground.now flags.now path.now method number place }
+    ensures { IfOk result (λ text. told.LacksBelow ground.now path.now method number (string_bytes text)) }
+{
+    let Some(field) = field_at(ground.methods, method, number, place) else {
+        unreachable!();
     };
-    let Some(format) = method.formats.get(0) else {
-        return Ok(false);
+    let name = field.declared.name.as_str();
+    let own = entry_path(alloc, path, name)?;
+    if depth == 0 {
+        return Ok(own);
+    }
+    let Some(called) = called_by(field.encoding.get()) else {
+        return Ok(own);
     };
-    for field in format.fields.as_slice() {
-        let name = path_below(alloc, site.path.as_str(), field.declared.name.as_str(), "")?;
-        if !is_local(field) && name.as_str() == path {
-            return Ok(true);
+    let inner = inner_path(alloc, path, name)?;
+    let Some(lack) = first_lack(alloc, ground, flags, called, inner.as_str())? else {
+        return Ok(own);
+    };
+    let told = lacking_path(
+        depth - 1,
+        alloc,
+        ground,
+        flags,
+        inner.as_str(),
+        called,
+        lack.format,
+        lack.field,
+    )?;
+    Ok(told)
+}
+
+fn field_at(methods: &[Method], method: usize, number: usize, place: usize) -> Option<&Field>
+    ensures { option_copied result ≡ option_and_then (λ (f : Format). slice_get f.fields place) (sites.format_in methods.now method number) }
+{
+    format_at(methods, method, number)?.fields.get(place)
+}
+
+/// A field that lacks something: its format and itself, by their indices.
+#[derive(Clone, Copy)]
+struct Lack {
+    format: usize,
+    field: usize,
+}
+
+/// The first field of a method's formats that lacks something below a path.
+fn first_lack(
+    alloc: Global,
+    ground: &Ground<'_>,
+    flags: &[Flags],
+    method: usize,
+    path: &str,
+) -> Result<Option<Lack>, AllocError>
+    requires { sites.AreSites ground.now.methods.now ground.now.top ground.now.sites.now }
+    ensures { IfOk result (λ o. IfSome o (λ lack. told.FieldLacks ground.now flags.now path.now method lack.format lack.field)) }
+{
+    let Some(found) = ground.methods.get(method) else {
+        return Ok(None);
+    };
+    for number in 0..found.formats.len() {
+        if let Some(field) = lack_of(alloc, ground, flags, method, number, path)? {
+            return Ok(Some(Lack {
+                format: number,
+                field,
+            }));
         }
     }
-    Ok(false)
+    Ok(None)
+}
+
+/// The first field of a format that lacks something below a path.
+fn lack_of(
+    alloc: Global,
+    ground: &Ground<'_>,
+    flags: &[Flags],
+    method: usize,
+    number: usize,
+    path: &str,
+) -> Result<Option<usize>, AllocError>
+    requires { sites.AreSites ground.now.methods.now ground.now.top ground.now.sites.now }
+    ensures { IfOk result (λ o. IfSome o (told.FieldLacks ground.now flags.now path.now method number)) }
+{
+    let Some(format) = format_at(ground.methods, method, number) else {
+        return Ok(None);
+    };
+    first_unserved(alloc, ground, flags, path, format.fields.as_slice())
 }

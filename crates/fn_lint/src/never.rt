@@ -1,14 +1,17 @@
-//! Conditions that their ranges make false.
+//! Conditions that their ranges make false, and brackets with none of the lengths that a side may have.
 
-ghost use Rattle.std.specs.Prelude.{◌≡◌, ◌↔◌, IsTrue, MatchOption};
+ghost use Rattle.std.specs.Prelude.{◌≡◌, ◌↔◌, IsTrue, MatchOption, Ok};
 ghost use Rattle.fn_expr.specs.Bounds.{bounding_of};
+ghost use Rattle.fn_expr.specs.declared.expr.Comparison.TheVariants as comparison;
 ghost use Rattle.fn_expr.specs.Ranged.{ranged};
 ghost use Rattle.fn_lint.specs.Never as spec;
 
-use fn_expr::{Comparison, Cond, Expr, Interval, Ranges, range};
+use crate::demands::length_range;
+use crate::undefined::undefined;
+use fn_expr::{Comparison, Cond, Expr, Interval, Ranges, Subject, range};
 use fn_normal::{Constraint, Shared};
 
-/// The first constraint that is a condition which is never true, by its number.
+/// The first constraint that is a condition which is never true, or a bracket with none of the lengths that the side may have, by its number.
 pub fn first_untrue(constraints: &[Shared<Constraint>], ranges: &Ranges) -> Option<usize>
     ensures { MatchOption result ((j : _) → spec.IsUntrue constraints.now (bounding_of ranges.now) j → ⊥) (spec.IsUntrue constraints.now (bounding_of ranges.now)) }
 {
@@ -33,11 +36,51 @@ fn constraint_is_untrue(constraint: &Constraint, ranges: &Ranges) -> bool
     ensures { result ≡ spec.is_untrue (bounding_of ranges.now) constraint.now }
 {
     match constraint {
-        Constraint::Bracket { .. } => false,
+        Constraint::Bracket {
+            field,
+            side,
+            lengths,
+            place: _,
+        } => {
+            let due = length_range(Subject::Field(*field), *side, ranges);
+            are_none_of(lengths.as_slice(), due, ranges)
+        }
         Constraint::Enforce {
             condition,
             place: _,
         } => never_true(condition.get(), ranges),
+    }
+}
+
+/// Whether none of the expressions is ever one of these numbers.
+fn are_none_of(exprs: &[Expr], due: Interval, ranges: &Ranges) -> bool
+    ensures { result ≡ spec.are_none_of (bounding_of ranges.now) due exprs.now }
+{
+    for expr in exprs {
+        if !is_none_of(expr, due, ranges) {
+            return false;
+        }
+    }
+    true
+}
+
+/// Whether the expression has no value, or never one of these numbers.
+fn is_none_of(expr: &Expr, due: Interval, ranges: &Ranges) -> bool
+    ensures { result ≡ spec.is_none_of (bounding_of ranges.now) due expr.now }
+{
+    match undefined(expr, ranges) {
+        Some(_) => true,
+        None => misses(expr, due, ranges),
+    }
+}
+
+/// Whether the expression is never one of these numbers.
+pub(crate) fn misses(expr: &Expr, due: Interval, ranges: &Ranges) -> bool
+    ensures { result ≡ spec.are_apart comparison.Equal (ranged (bounding_of ranges.now) expr.now) (Ok due) }
+{
+    match range(expr, ranges) {
+        Ok(interval) => is_apart(Comparison::Equal, interval, due),
+        Err(_) => false,
     }
 }
 

@@ -1,8 +1,11 @@
-//! Names that may be misspelled: a tested rule, without a proof.
+//! Names that may be misspelled.
 //!
 //! A name is told where it is declared by the COMPRESSED section of one format alone, has at least three letters, and is one letter from the name of a header
 //! field of its method that has at least three letters too: one letter is another one, is missing, or is one too many. Digits don't count as letters here, so
 //! `crc3` and `crc7` are two names.
+
+ghost use Rattle.std.specs.Prelude.{◌≡◌, ◌++◌, false, IfOk, OnOk};
+ghost use Rattle.fn_lint.specs.Spelled as spec;
 
 use fn_normal::{Field, Format, Method, Part};
 use sqlite_items::Items;
@@ -20,133 +23,197 @@ pub struct Misspelled {
 /// No shorter name is looked at.
 const SHORTEST: usize = 3;
 
-/// The names that may be misspelled, in the order of the text.
-pub fn misspelled_names(
-    alloc: Global,
-    methods: &[Method],
-) -> Result<Items<Misspelled>, AllocError> {
+/// The names that may be misspelled, in the order of the text. The error is want of memory.
+pub fn misspelled_names(alloc: Global, methods: &[Method]) -> Result<Items<Misspelled>, AllocError>
+    ensures { IfOk result (λ found. found ≡ spec.misspelled_names methods.now) }
+{
     let mut found = Items::new(alloc);
     for (index, method) in methods.iter().enumerate() {
-        let formats = method.formats.as_slice();
-        for (number, format) in formats.iter().enumerate() {
-            for (place, field) in format.fields.as_slice().iter().enumerate() {
-                if is_local(field) && listed_once(formats, field.declared.name.as_str()) {
-                    if let Some(meant) = meant_in(format, field.declared.name.as_str()) {
-                        found.push(Misspelled {
-                            method: index,
-                            format: number,
-                            field: place,
-                            meant,
-                        })?;
-                    }
-                }
-            }
-        }
+        add_of_method(&mut found, index, method)?;
     }
     Ok(found)
 }
 
-fn is_local(field: &Field) -> bool {
-    match field.declared.part {
-        Part::Local => true,
-        Part::Header => false,
-        Part::Control => false,
+fn add_of_method(
+    found: &mut Items<Misspelled>,
+    index: usize,
+    method: &Method,
+) -> Result<(), AllocError>
+    ensures { OnOk result (found.new ≡ found.old ++ spec.misspelled_method index method.now) }
+{
+    let formats = method.formats.as_slice();
+    for (number, format) in formats.iter().enumerate() {
+        add_of_format(found, index, formats, number, format)?;
     }
+    Ok(())
 }
 
-fn is_header(field: &Field) -> bool {
-    match field.declared.part {
-        Part::Header => true,
-        Part::Control => false,
-        Part::Local => false,
-    }
-}
-
-/// Whether one format alone has a field of that name.
-fn listed_once(formats: &[Format], name: &str) -> bool {
-    let mut count: usize = 0;
-    for format in formats {
-        for field in format.fields.as_slice() {
-            if field.declared.name.as_str() == name {
-                count = count.saturating_add(1);
-            }
-        }
-    }
-    count == 1
-}
-
-/// The first header field that is one letter from the name.
-fn meant_in(format: &Format, name: &str) -> Option<usize> {
+fn add_of_format(
+    found: &mut Items<Misspelled>,
+    method: usize,
+    formats: &[Format],
+    number: usize,
+    format: &Format,
+) -> Result<(), AllocError>
+    ensures { OnOk result (found.new ≡ found.old ++ spec.misspelled_format method formats.now number format.now) }
+{
     for (place, field) in format.fields.as_slice().iter().enumerate() {
-        if is_header(field) && is_near(name.as_bytes(), field.declared.name.as_str().as_bytes()) {
-            return Some(place);
-        }
+        add_of_field(found, method, formats, number, format, place, field)?;
     }
-    None
+    Ok(())
 }
 
-/// Whether two names of three octets or more are one letter apart.
-fn is_near(one: &[u8], other: &[u8]) -> bool {
-    if one.len() < SHORTEST || other.len() < SHORTEST {
-        return false;
+/// Adds a field, where COMPRESSED of its format alone declares its name and a field of the header may be meant.
+fn add_of_field(
+    found: &mut Items<Misspelled>,
+    method: usize,
+    formats: &[Format],
+    number: usize,
+    format: &Format,
+    place: usize,
+    field: &Field,
+) -> Result<(), AllocError>
+    ensures { OnOk result (found.new ≡ found.old ++ spec.misspelled_field method formats.now number format.now place field.now) }
+{
+    let name = field.declared.name.as_str().as_bytes();
+    if !is_local(field.declared.part) || !is_alone(formats, number, name) {
+        return Ok(());
     }
-    if one.len() == other.len() {
-        return differs_once(one, other);
+    match meant_in(format.fields.as_slice(), name) {
+        Some(meant) => found.push(Misspelled {
+            method,
+            format: number,
+            field: place,
+            meant,
+        }),
+        None => Ok(()),
     }
-    if one.len() < other.len() {
-        return misses_once(one, other);
-    }
-    misses_once(other, one)
 }
 
-/// Whether two rows of one length differ at one place, at which both have letters.
-fn differs_once(one: &[u8], other: &[u8]) -> bool {
-    let mut count: usize = 0;
-    for place in 0..one.len() {
-        if octet_at(one, place) != octet_at(other, place) {
-            if !is_letter(octet_at(one, place)) || !is_letter(octet_at(other, place)) {
-                return false;
-            }
-            count = count.saturating_add(1);
-        }
+fn is_local(part: Part) -> bool
+    ensures { result ≡ spec.is_local part }
+{
+    match part {
+        Part::Local => true,
+        Part::Header | Part::Control => false,
     }
-    count == 1
 }
 
-/// Whether the shorter row is the longer one without one of its letters.
-fn misses_once(short: &[u8], long: &[u8]) -> bool {
-    if long.len().saturating_sub(short.len()) != 1 {
-        return false;
+fn is_header(part: Part) -> bool
+    ensures { result ≡ spec.is_header part }
+{
+    match part {
+        Part::Header => true,
+        Part::Control | Part::Local => false,
     }
-    let mut place: usize = 0;
-    for _ in 0..short.len() {
-        if octet_at(short, place) != octet_at(long, place) {
-            break;
-        }
-        place = place.saturating_add(1);
-    }
-    if !is_letter(octet_at(long, place)) {
-        return false;
-    }
-    for left in place..short.len() {
-        if octet_at(short, left) != octet_at(long, left.saturating_add(1)) {
+}
+
+/// Whether no format but that of the number has a field of the name.
+fn is_alone(formats: &[Format], number: usize, name: &[u8]) -> bool
+    ensures { result ≡ spec.is_alone formats.now number name.now }
+{
+    for (index, format) in formats.iter().enumerate() {
+        if index != number && has_field(name, format) {
             return false;
         }
     }
     true
 }
 
-fn octet_at(octets: &[u8], place: usize) -> u8 {
-    match octets.get(place) {
-        Some(octet) => *octet,
-        None => 0,
+fn has_field(name: &[u8], format: &Format) -> bool
+    ensures { result ≡ spec.has_field name.now format.now }
+{
+    for field in format.fields.as_slice() {
+        if field.declared.name.as_str().as_bytes() == name {
+            return true;
+        }
     }
+    false
 }
 
-fn is_letter(octet: u8) -> bool {
-    match octet {
-        b'a'..=b'z' => true,
-        b'A'..=b'Z' => true,
-        _ => false,
+/// The first header field that may be meant by the name.
+fn meant_in(fields: &[Field], name: &[u8]) -> Option<usize>
+    ensures { result ≡ spec.meant_from 0 name.now fields.now }
+{
+    for (place, field) in fields.iter().enumerate() {
+        if may_be_meant(name, field) {
+            return Some(place);
+        }
     }
+    None
 }
+
+fn may_be_meant(name: &[u8], field: &Field) -> bool
+    ensures { result ≡ spec.may_be_meant name.now field.now }
+{
+    let meant = field.declared.name.as_str().as_bytes();
+    is_header(field.declared.part) && is_long(name) && is_long(meant) && is_near(name, meant)
+}
+
+fn is_long(name: &[u8]) -> bool
+    ensures { result ≡ spec.is_long name.now }
+{
+    SHORTEST <= name.len()
+}
+
+// ---- one letter apart
+
+/// Whether two texts are one letter apart.
+fn is_near(one: &[u8], other: &[u8]) -> bool
+    ensures { result ≡ spec.is_near one.now other.now }
+{
+    let mut left = one;
+    let mut right = other;
+    while begin_alike(left, right) {
+        left = &left[1..];
+        right = &right[1..];
+    }
+    differ_once(left, right)
+}
+
+/// Whether both texts begin with one octet.
+fn begin_alike(one: &[u8], other: &[u8]) -> bool
+    ensures { result ≡ spec.begin_alike one.now other.now }
+{
+    let [first, ..] = one else {
+        return false;
+    };
+    let [second, ..] = other else {
+        return false;
+    };
+    first == second
+}
+
+/// Whether two texts that don't begin alike are one letter apart.
+fn differ_once(one: &[u8], other: &[u8]) -> bool
+    ensures { result ≡ spec.differ_once one.now other.now }
+{
+    have_other_letter(one, other) || has_letter_more(one, other) || has_letter_more(other, one)
+}
+
+fn have_other_letter(one: &[u8], other: &[u8]) -> bool
+    ensures { result ≡ spec.have_other_letter one.now other.now }
+{
+    let [first, rest @ ..] = one else {
+        return false;
+    };
+    let [second, others @ ..] = other else {
+        return false;
+    };
+    first.is_ascii_alphabetic() && second.is_ascii_alphabetic() && rest == others
+}
+
+fn has_letter_more(short: &[u8], long: &[u8]) -> bool
+    ensures { result ≡ spec.has_letter_more short.now long.now }
+{
+    let [first, rest @ ..] = long else {
+        return false;
+    };
+    first.is_ascii_alphabetic() && rest == short
+}
+
+/// A law of names: being one letter apart says that a letter is another one, is missing, or is one too many.
+#[tactic(auto, using(crate::proofs::SpelledNear::near_is_one_letter))]
+pub fn near_is_one_letter()
+    ensures { spec.NearIsOneLetter }
+{}

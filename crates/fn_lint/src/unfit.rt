@@ -82,11 +82,11 @@ fn crc_in(encoding: &Encoding) -> Option<&CrcArguments>
     }
 }
 
-/// Whether bits have one length, which is no number of whole octets.
+/// Whether no length within the bounds is a number of whole octets.
 fn are_split(bounds: Bounds) -> bool
     ensures { IsTrue result ↔ spec.AreSplit bounds }
 {
-    bounds.least == bounds.most && bounds.most % OCTET != 0
+    bounds.most - bounds.most % OCTET < bounds.least
 }
 
 /// The bounds of a side of a field or of the whole.

@@ -1,6 +1,6 @@
 -- The order has each step of a format that has a rule; what steps learn until none is next is the closure.
 use Rattle.std.proofs.Common.{◌≡◌, ℕ, ◌<◌, List, length, map}
-use Rattle.std.specs.Prelude.{None, true}
+use Rattle.std.specs.Prelude.{◌↔◌, None, true}
 use Rattle.std.specs.List.{flat_map, range_with_len}
 use Rattle.std.proofs.lemmas.Option.{slice_get_within}
 use Rattle.fn_expr.specs.declared.expr.Side.TheVariants.{Uncompressed, Compressed}
@@ -13,16 +13,17 @@ use Rattle.fn_cert.specs.declared.certificate.Direction.{Direction}
 use Rattle.fn_cert.specs.declared.certificate.Direction.TheVariants.{Read, Write}
 use Rattle.fn_cert.specs.declared.certificate.Step.{Step}
 use Rattle.fn_cert.specs.declared.certificate.Step.TheVariants.{Take, Call, LibraryUp, LibraryDown, MethodLength, ConstraintLength, Solve, Choose, Ask}
+use Rattle.fn_cert.specs.declared.rule.Fact.{Fact}
 use Rattle.fn_cert.specs.declared.rule.Rule.{Rule}
+use Rattle.fn_rules.specs.Facts.{has}
 use Rattle.fn_rules.specs.Plans.{Way, way_of, known_after, all_enabled}
 use Rattle.fn_order.specs.declared.kinds.Kind.{Kind}
 use Rattle.fn_order.specs.declared.kinds.Kind.TheVariants as kind
-use Rattle.fn_order.specs.Closure.{Closure, Lacking}
+use Rattle.fn_order.specs.Closure.{Closure}
 use Rattle.fn_order.specs.Order.{kinds_of, steps_of, in_order, order_of}
 use Rattle.fn_order.specs.Ordered.{next_step}
-use Rattle.fn_order.specs.Searching.{missing_in}
 use Rattle.fn_order.proofs.ClosureElements.{Among, here, later, among_flat, among_map, among_below}
-use Rattle.fn_order.proofs.ClosureLemmas.{Orderly, stays_in, runs_out, missing}
+use Rattle.fn_order.proofs.ClosureLemmas.{Orderly, stays_in, runs_out}
 use Rattle.fn_order.proofs.OrderShapes.{Shape, IsOfDirection, shape, does_so, one_step, not_at_start}
 
 module _ (version : Version) (sizes : FormatSizes) (format : Format) where
@@ -78,8 +79,7 @@ module _ (version : Version) (sizes : FormatSizes) (format : Format) where
       covers = λ s r e. covers direction s r (shape version sizes format table direction s r e) (does_so version sizes format table direction s r e);
     }
 
-    -- the sides that are missing where no step is next are those that the closure lacks
-    pub missing_lack : (steps : List Step) → all_enabled way.rule way.start steps ≡ true → next_step way.rule (order_of direction format) (known_after way.rule way.start steps) ≡ None →
-        Lacking (Closure way) way.goals (missing_in (known_after way.rule way.start steps) way.goals)
-    missing_lack steps e stopped =
-        missing way (known_after way.rule way.start steps) (λ x h. stays_in way steps e x h) (λ x h. runs_out way (order_of direction format) orderly steps stopped h) way.goals
+    -- what is known where no step is next is just what the closure has
+    pub all_there_is : (steps : List Step) → all_enabled way.rule way.start steps ≡ true → next_step way.rule (order_of direction format) (known_after way.rule way.start steps) ≡ None →
+        (x : Fact) → (has (known_after way.rule way.start steps) x ≡ true) ↔ Closure way x
+    all_there_is steps e stopped x = (λ h. stays_in way steps e x h, λ h. runs_out way (order_of direction format) orderly steps stopped h)

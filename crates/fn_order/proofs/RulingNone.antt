@@ -1,13 +1,12 @@
 -- What is told at a glance to have no rule has none.
 use Rattle.std.proofs.Common.{◌≡◌, refl, sym, ◌∙◌, ap, ℕ, Bool, true, false, List, [], ◌∷◌, ◌++◌, append_assoc, drop, ◌+◌}
-use Rattle.std.specs.Prelude.{Option, Some, None, slice_get, option_map, option_and_then, nat_eq, ◌&&◌, not}
+use Rattle.std.specs.Prelude.{Option, Some, None, slice_get, option_map, option_and_then, nat_eq, ◌&&◌}
 use Rattle.std.specs.Option.{option_to_list}
 use Rattle.std.specs.List.{cons_option}
 use Rattle.std.proofs.lemmas.List.{append-nil}
 use Rattle.fn_expr.specs.declared.expr.Side.{Side}
-use Rattle.fn_expr.specs.declared.expr.Side.TheVariants.{Uncompressed, Compressed}
+use Rattle.fn_expr.specs.declared.expr.Side.TheVariants.{Uncompressed}
 use Rattle.fn_expr.specs.declared.expr.Measure.TheVariants as measure
-use Rattle.fn_expr.specs.declared.expr.Expr.{Expr}
 use Rattle.fn_cert.specs.Steps.{field_of}
 use Rattle.fn_cert.specs.declared.certificate.Version.{Version}
 use Rattle.fn_cert.specs.declared.certificate.Direction.{Direction}
@@ -29,7 +28,6 @@ use Rattle.fn_normal.specs.declared.profile.MethodSizes.{MethodSizes}
 use Rattle.fn_filling.specs.Fillings.{is_header}
 use Rattle.fn_rules.specs.Facts.{same_side, inputs}
 use Rattle.fn_rules.specs.Rules.{rule, when, first_or, from_two, is_call, by_library, up_needs, down_needs, length_needs, read_call, write_call, value_given, length_given, remainder_given, Congruence, equated, attribute_of, by_equation, by_remainder, by_value, by_length}
-use Rattle.fn_rules.specs.Plans.{rule_of}
 use Rattle.fn_order.specs.Ruling.{HasNone, is_library, may_solve, may_tell, may_be_on}
 use Rattle.fn_order.specs.Searching.{Ruled, with_rule, possible_of}
 use Rattle.fn_order.proofs.Linked.{of_neither, nothing_then, solve_rule, length_rule}

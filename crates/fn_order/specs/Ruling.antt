@@ -1,5 +1,5 @@
 -- Which steps have no rule, at a glance.
-use Rattle.std.specs.Prelude.{◌≡◌, ℕ, Bool, true, false, not, List, Option, Some, None}
+use Rattle.std.specs.Prelude.{◌≡◌, Bool, true, false, not, List, Option, Some, None}
 use Rattle.fn_expr.specs.declared.expr.Side.{Side}
 use Rattle.fn_cert.specs.declared.certificate.Version.{Version}
 use Rattle.fn_cert.specs.declared.certificate.Direction.{Direction}

@@ -1,13 +1,13 @@
 -- What each end of the growth says of the method.
-use Rattle.std.proofs.Common.{◌≡◌, ◌∙◌, refl, sym, ap, subst, ℕ, ◌≤◌, List, [], ◌∷◌, ◌++◌, map, length}
-use Rattle.std.specs.List.{filter, flat_map, range_with_len}
+use Rattle.std.proofs.Common.{◌≡◌, ◌∙◌, refl, sym, ap, subst, ℕ, ◌<◌, ◌≤◌, List, [], ◌∷◌, ◌++◌, map, length}
+use Rattle.std.specs.List.{AllByRecursion, filter, flat_map, range_with_len}
 use Rattle.std.specs.HashMap.{keys}
 use Rattle.fn_normal.specs.declared.profile.Format.{Format}
 use Rattle.fn_normal.specs.declared.profile.FormatSizes.{FormatSizes}
 use Rattle.fn_normal.specs.declared.profile.MethodSizes.{MethodSizes}
 use Rattle.fn_cert.specs.declared.certificate.Version.{Version}
 use Rattle.fn_cert.specs.declared.certificate.Node.{Node}
-use Rattle.fn_cert.specs.Kept.{IsTreeKept, node_limit}
+use Rattle.fn_cert.specs.Kept.{IsNodeKept, IsTreeKept, node_limit}
 use Rattle.fn_rules.specs.Trees.{Reach}
 use Rattle.fn_trees.specs.declared.told.Told.{Told}
 use Rattle.fn_trees.specs.Told.{AreTold}
@@ -46,8 +46,9 @@ module _ (version : Version) (formats : List Format) (s : MethodSizes) where
       by [] e some so = absurd (some refl)
       by (set ∷ others) e some so = let n = next_set version formats s nodes (set ∷ others) others set refl so in too_many nodes _ _ (comes_to version formats s nodes set others n) many
 
-  refused : (reach : Reach) (nodes : List Node) (left' : List (List Numbered)) (e : Unparted) → GrowsFromAll version formats s nodes (those reach (all_of formats s) ∷ left') → HasNoNode version s.parameters (those reach (all_of formats s)) e → IsUnparted version formats s e
-  refused reach nodes left' (Stuck first second) grown h = record {
+  refused : (reach : Reach) (nodes : List Node) (left' : List (List Numbered)) (e : Unparted) → GrowsFromAll version formats s nodes (those reach (all_of formats s) ∷ left') → HasNoNode version s.parameters (those reach (all_of formats s)) e →
+      length nodes < node_limit → AllByRecursion IsNodeKept nodes → IsUnparted version formats s e
+  refused reach nodes left' (Stuck first second) grown h few near = record {
     set = those reach (all_of formats s);
     stuck = record {
       marks = map (λ z. reach z.format z.sizes) (all_of formats s);
@@ -63,9 +64,11 @@ module _ (version : Version) (formats : List Format) (s : MethodSizes) where
     nodes = nodes;
     left = left';
     grown = grown;
+    few = few;
+    near = near;
   }
-  refused reach nodes left' Limit grown h = too_far nodes (those reach (all_of formats s)) left' h.0 grown h.1 h.2
-  refused reach nodes left' OutOfMemory grown h = absurd h
+  refused reach nodes left' Limit grown h few near = too_far nodes (those reach (all_of formats s)) left' h.0 grown h.1 h.2
+  refused reach nodes left' OutOfMemory grown h few near = absurd h
 
   -- the next set, by the slices that the code reads
   module _ (nodes : List Node) (sets others : List (List ℕ)) (set shown : List ℕ) (stacked : sets ≡ set ∷ others) (same : shown ≡ set) (so : GrownTo version formats s nodes sets) where
@@ -75,8 +78,8 @@ module _ (version : Version) (formats : List Format) (s : MethodSizes) where
     pub shown_is : shown ≡ numbers (those next.reach (all_of formats s))
     shown_is = same ∙ next.set_is
 
-    pub has_no_node : (e : Unparted) → HasNoNode version s.parameters (those next.reach (all_of formats s)) e → IsUnparted version formats s e
-    has_no_node e h = refused next.reach nodes _ e (comes_to version formats s nodes set others next) h
+    pub has_no_node : (e : Unparted) → length nodes < node_limit → HasNoNode version s.parameters (those next.reach (all_of formats s)) e → IsUnparted version formats s e
+    has_no_node e few h = refused next.reach nodes _ e (comes_to version formats s nodes set others next) h few so.each
 
     pub has_node : (tolds : List Told) (far : List ℕ) (newer : List Node) (x : Node) (after : List (List ℕ)) → AreKnown formats s tolds far → IsNext version s.parameters (those next.reach (all_of formats s)) x → newer ≡ nodes ++ x ∷ [] →
         after ≡ subsets_by tolds set x ++ others → GrownTo version formats s newer after

@@ -1,9 +1,9 @@
 pub mod PlacesOrdered
 pub mod ToldPinned
+pub mod AskedFields
 pub mod ToldKnown
 pub mod Numbered
 pub mod ReasonsTrue
 pub mod ReasonsMaking
 pub mod AcrossArms
-pub mod UndefinedValueless
 pub mod ToldMeasured

@@ -1,20 +1,22 @@
 -- What the look at a format finds, from its parts.
-use Rattle.std.proofs.Common.{◌≡◌, ◌≢◌, ◌∙◌, refl, sym, ap, subst, ℕ, zero, suc, ◌+◌, ◌≤◌, ◌<◌, Bool, true, false, List, [], ◌∷◌, ◌++◌, length, drop, arith, append_assoc}
-use Rattle.std.specs.Prelude.{Option, Some, None, Result, Ok, Err, IfOk, IfSome, OnOk, slice_get, string_bytes, ℤ, ◌⊎◌}
+use Rattle.std.proofs.Common.{◌≡◌, ◌≢◌, ◌∙◌, refl, sym, ap, subst, ℕ, zero, suc, ◌+◌, ◌≤◌, ◌<◌, Bool, true, false, cond, List, [], ◌∷◌, ◌++◌, length, drop, arith, append_assoc}
+use Rattle.std.specs.Prelude.{◌&&◌, is_none, Option, Some, None, MatchOption, Result, Ok, Err, IfOk, IfSome, OnOk, slice_get, string_bytes, ℤ, ◌⊎◌}
 use Rattle.std.specs.Option.{option_map, option_and_then, option_copied}
 use Rattle.std.proofs.Common.{inl, inr, String, Global}
 use Rattle.std.proofs.lemmas.Result.{IfOk-weaker}
 use Rattle.std.proofs.lemmas.List.{append-nil, length-append}
 use Rattle.fn_expr.specs.declared.expr.Side.{Side}
+use Rattle.fn_expr.specs.declared.expr.Side.TheVariants.{Uncompressed}
 use Rattle.fn_expr.specs.declared.expr.Expr.{Expr}
 use Rattle.fn_expr.specs.declared.interval.Interval.{Interval}
 use Rattle.fn_expr.specs.Bounds.{bounding_of}
 use Rattle.fn_expr.specs.Ranged.{Bounding}
-use Rattle.fn_fits.specs.Fits.{crc_values, two_values}
+use Rattle.fn_fits.specs.Fits.{crc_values, format_at, two_values}
 use Rattle.fn_lib.specs.Methods as lib
 use Rattle.fn_lib.specs.Methods.{IsOnly}
 use Rattle.fn_normal.specs.declared.profile.Encoding.TheVariants as encoding
 use Rattle.fn_normal.specs.declared.profile.Field.{Field}
+use Rattle.fn_normal.specs.declared.profile.Format.{Format}
 use Rattle.fn_normal.specs.declared.profile.FormatSizes.{FormatSizes}
 use Rattle.fn_normal.specs.declared.profile.Library.{Library}
 use Rattle.fn_normal.specs.declared.profile.Library.TheVariants as library
@@ -22,8 +24,10 @@ use Rattle.fn_normal.specs.declared.profile.CrcArguments.{CrcArguments}
 use Rattle.fn_source.specs.declared.span.Span.{Span}
 use Rattle.fn_bounds.specs.Faults.{side_bounds}
 use Rattle.fn_bounds.specs.Laws.{encoding_exprs}
+use Rattle.fn_filling.specs.declared.filling.AskedValue.{AskedValue}
 use Rattle.fn_filling.specs.Entries.{below}
 use Rattle.fn_fits.specs.Bounded.{sizes_at}
+use Rattle.fn_fits.proofs.FitsSized.{one_value}
 use Rattle.fn_lint.specs.Obstacles.{Hinders}
 use Rattle.fn_lint.specs.Never.{IsUntrue}
 use Rattle.fn_lint.specs.declared.obstacle.Obstacle.{Obstacle}
@@ -32,10 +36,10 @@ use Rattle.fn_reasons.specs.Conflicts.{IsSighted, IsCoded, StandsIn, reference_o
 use Rattle.fn_reasons.specs.Looks.{IsLook, ToldOf, SeenOf, SoFar}
 use Rattle.fn_reasons.specs.Places.{HaveLength, one_more, BeginsAt, Holds, length_in, order_of}
 use Rattle.fn_reasons.specs.Settings.{Setting, setting_of}
-use Rattle.fn_reasons.specs.Told.{placed, empty, across, Related, AreSeen, all_pinned, base_ranges, is_crc, leaves_empty, length_of, lengths_from, method_in, opposite, pinned, reference_in, seen_at}
-use Rattle.fn_reasons.specs.Reasons.{View, HasMethod, Stands, dead, short, long, cut, no_reference, differs, no_side, untrue, no_argument, no_truth, Calls, Tells, by_reason, by_call, TellAll, ends, next, Verdicts, no_more, out, open_still, all_ranged, formats_of, inside, line_of, ranges_in, wants_reference}
+use Rattle.fn_reasons.specs.Told.{placed, empty, asked_for, across, asked_before, Related, AreSeen, all_pinned, base_ranges, is_crc, leaves_empty, length_of, lengths_from, method_in, opposite, pinned, reference_in, seen_at}
+use Rattle.fn_reasons.specs.Reasons.{View, HasMethod, Stands, dead, short, long, cut, no_reference, differs, no_side, untrue, no_argument, no_truth, Calls, Tells, by_reason, by_call, TellAll, ends, next, HasReferences, HasRoom, IsOpen, Verdicts, lacking, lacks, no_more, out, open_still, all_ranged, formats_of, inside, line_of, ranges_in, wants_reference}
 use Rattle.fn_reasons.specs.Figures.{figures_at}
-use Rattle.fn_reasons.specs.Undefined.{first_undefined, undefined_condition}
+use Rattle.fn_lint.specs.Undefined.{first_undefined, undefined_condition}
 use Rattle.fn_reasons.specs.Listing as listing
 use Rattle.fn_reasons.specs.declared.across.Valued.{Valued}
 use Rattle.fn_reasons.specs.declared.across.Valued.TheVariants as valued
@@ -73,6 +77,10 @@ placed_is k n i look own h =
 
 pub empty_is : (k : Look) (i : ℕ) (side : Side) (d : Field) → slice_get k.format.now.fields i ≡ Some d → leaves_empty d.encoding side ≡ true → ToldOf k i side []
 empty_is k i side d at leaves = empty d at leaves
+
+pub asked_is : (k : Look) (i : ℕ) (d : Field) → slice_get k.format.now.fields i ≡ Some d → d.declared.asked ≡ true → (value : AskedValue) → slice_get k.spot.asked.now (asked_before k.format.now.fields i) ≡ Some value → (own : List Bool) → own ≡ value.bits
+    → ToldOf k i Uncompressed own
+asked_is k i d at is value given own same = subst (λ z. ToldOf k i Uncompressed z) (sym same) (asked_for d value at is given)
 
 -- the method of the values is that of the arguments, of which each has one value
 two_is : (make : ℤ → ℤ → Valued) (made : ℤ → ℤ → lib.Method) (o q : Option ℤ) (v : Valued) (covered : List Bool) → ((x y : ℤ) → method_of (make x y) covered ≡ made x y) → two_valued make o q ≡ Some v → two_values made o q ≡ Some (method_of v covered)
@@ -243,9 +251,9 @@ calls_is k h i d at m es is parameters ranges offset begins inner inner_is = rec
 }
 
 pub inner_same : (s : Setting) (d : Field) (m : ℕ) (ps qs : List Interval) (offset : ℕ) (path : List ℕ) (bits : List Bool) → qs ≡ ps → path ≡ below s.path d.declared.name → bits ≡ drop offset s.bits
-    → record { profile = s.profile; context = s.context; method = m; parameters = qs; path = path; side = s.side; bits = bits; is_whole = false } ≡ inside s d m ps offset
+    → record { profile = s.profile; context = s.context; method = m; parameters = qs; path = path; side = s.side; bits = bits; is_whole = false; asked = [] } ≡ inside s d m ps offset
 inner_same s d m ps qs offset path bits a b c =
-    λ j. record { profile = s.profile; context = s.context; method = m; parameters = a j; path = b j; side = s.side; bits = c j; is_whole = false }
+    λ j. record { profile = s.profile; context = s.context; method = m; parameters = a j; path = b j; side = s.side; bits = c j; is_whole = false; asked = [] }
 
 pub called_is : (s inner : Setting) (depth n i : ℕ) (line : Line) (lines all : List Line) → Calls s n i inner → TellAll inner (depth + 1) 0 lines → line ≡ line_of s depth n (reason.Inside i) → all ≡ line ∷ lines → Tells s depth n all
 called_is s inner depth n i line lines all calls tell is are = subst (λ z. Tells s depth n z) (sym (are ∙ (λ j. is j ∷ lines))) (by_call i inner calls tell)
@@ -263,10 +271,92 @@ all_end s depth n lines past so = subst (λ z. TellAll s depth 0 z) (append-nil 
 pub verdict_out : (s : Setting) (n : ℕ) (old new more : List Line) → n < formats_of s → Tells s 0 n more → new ≡ old ++ more → listing.SoFar s n old → listing.SoFar s (n + 1) new
 verdict_out s n old new more lt tells is so rest t = subst (λ z. Verdicts s 0 z) (sym (append_assoc old more rest) ∙ ap (λ z. z ++ rest) (sym is)) (so (more ++ rest) (out lt tells t))
 
-pub verdict_open : (s : Setting) (n : ℕ) (old new : List Line) (line : Line) → n < formats_of s → line ≡ line_of s 0 n reason.Nothing → new ≡ old ++ line ∷ [] → listing.SoFar s n old → listing.SoFar s (n + 1) new
-verdict_open s n old new line lt is are so rest t =
-    let made : Verdicts s n (line ∷ rest) = subst (λ z. Verdicts s n (z ∷ rest)) (sym is) (open_still lt t) in
+pub verdict_open : (s : Setting) (n : ℕ) (old new : List Line) (line : Line) → n < formats_of s → IsOpen s n → HasReferences s n → line ≡ line_of s 0 n reason.Nothing → new ≡ old ++ line ∷ [] → listing.SoFar s n old → listing.SoFar s (n + 1) new
+verdict_open s n old new line lt free referred is are so rest t =
+    let made : Verdicts s n (line ∷ rest) = subst (λ z. Verdicts s n (z ∷ rest)) (sym is) (open_still lt free referred t) in
     subst (λ z. Verdicts s 0 z) (sym (append_assoc old (line ∷ []) rest) ∙ ap (λ z. z ++ rest) (sym are)) (so (line ∷ rest) made)
 
 pub verdicts_end : (s : Setting) (n : ℕ) (lines : List Line) → formats_of s ≤ n → listing.SoFar s n lines → Verdicts s 0 lines
 verdicts_end s n lines past so = subst (λ z. Verdicts s 0 z) (append-nil lines) (so [] (no_more past))
+
+-- what stands without a look
+pub verdict_at_once : (s : Setting) (n : ℕ) (old new : List Line) (line : Line) (r : Reason) → n < formats_of s → Stands s n r → line ≡ line_of s 0 n r → new ≡ old ++ line ∷ [] → listing.SoFar s n old → listing.SoFar s (n + 1) new
+verdict_at_once s n old new line r lt stands is are so =
+    verdict_out s n old new (line ∷ []) lt (subst (λ z. Tells s 0 n (z ∷ [])) (sym is) (by_reason r stands)) are so
+
+-- ---- references
+
+pub no_format : (s : Setting) (n : ℕ) → format_at s.profile.methods s.method n ≡ None → HasReferences s n
+no_format s n none format i d at d_at wants lacking = let wrong = sym none ∙ at in absurd (cc)
+
+both_so : (s : Setting) (d : Field) → lacks s d ≡ true → (wants_reference d.encoding ≡ true) × (reference_in s d ≡ None)
+both_so s d e = by (wants_reference d.encoding) (reference_in s d) e
+  where
+    by : (b : Bool) (o : Option (List Bool)) → (b && is_none o) ≡ true → (b ≡ true) × (o ≡ None)
+    by true None e = (refl, refl)
+    by true (Some x) e = absurd (cc)
+    by false o e = absurd (cc)
+
+not_both : (s : Setting) (d : Field) → lacks s d ≡ false → wants_reference d.encoding ≡ true → reference_in s d ≡ None → ⊥
+not_both s d e = by (wants_reference d.encoding) (reference_in s d) e
+  where
+    by : (b : Bool) (o : Option (List Bool)) → (b && is_none o) ≡ false → b ≡ true → o ≡ None → ⊥
+    by true None e wants none = absurd (cc)
+    by true (Some x) e wants none = absurd (cc)
+    by false o e wants none = absurd (cc)
+
+-- the first field that lacks its reference
+pub lacking_at : (s : Setting) (k : ℕ) (ds : List Field) (i : ℕ) → lacking s k ds ≡ Some i → (j : ℕ) × (d : Field) × (i ≡ k + j) × (slice_get ds j ≡ Some d) × (lacks s d ≡ true)
+lacking_at s k [] i e = absurd (cc)
+lacking_at s k (d ∷ ds) i e = by (lacks s d) refl (λ more. lacking_at s (k + 1) ds i more) e
+  where
+    by : (b : Bool) → lacks s d ≡ b → (lacking s (k + 1) ds ≡ Some i → (j : ℕ) × (x : Field) × (i ≡ k + 1 + j) × (slice_get ds j ≡ Some x) × (lacks s x ≡ true)) → cond b (Some k) (lacking s (k + 1) ds) ≡ Some i
+        → (j : ℕ) × (x : Field) × (i ≡ k + j) × (slice_get (d ∷ ds) j ≡ Some x) × (lacks s x ≡ true)
+    by true is later e = let same : k ≡ i = cc in (zero, d, omega (arith, same), refl, is)
+    by false is later e = let t = later e in let same = t.2 in (suc t.0, t.1, omega (arith, same), t.3, t.4)
+
+none_lacking : (s : Setting) (k : ℕ) (ds : List Field) → lacking s k ds ≡ None → (i : ℕ) (d : Field) → slice_get ds i ≡ Some d → lacks s d ≡ false
+none_lacking s k [] e i d at = absurd (cc)
+none_lacking s k (x ∷ ds) e i d at = by (lacks s x) refl (λ none j there. none_lacking s (k + 1) ds none j d there) e i at
+  where
+    by : (b : Bool) → lacks s x ≡ b → (lacking s (k + 1) ds ≡ None → (j : ℕ) → slice_get ds j ≡ Some d → lacks s d ≡ false) → cond b (Some k) (lacking s (k + 1) ds) ≡ None → (i : ℕ) → slice_get (x ∷ ds) i ≡ Some d → lacks s d ≡ false
+    by true is later e i at = absurd (cc)
+    by false is later e zero at = let same : x ≡ d = cc in subst (λ z. lacks s z ≡ false) same is
+    by false is later e (suc i) at = later e i at
+
+pub referred_is : (s : Setting) (n : ℕ) (format : Format) → format_at s.profile.methods s.method n ≡ Some format → lacking s 0 format.fields ≡ None → HasReferences s n
+referred_is s n format at none other i d there d_at wants gone =
+    let same : other ≡ format = one_value _ other format there at in
+    not_both s d (none_lacking s 0 format.fields none i d (subst (λ (z : Format). slice_get z.fields i ≡ Some d) same d_at)) wants gone
+
+pub lacking_there : (s : Setting) (ds : List Field) (i : ℕ) → lacking s 0 ds ≡ Some i → (d : Field) × (slice_get ds i ≡ Some d) × (lacks s d ≡ true)
+lacking_there s ds i e =
+    let t = lacking_at s 0 ds i e in
+    let same : t.0 ≡ i = let is = t.2 in omega (arith, is) in
+    (t.1, subst (λ z. slice_get ds z ≡ Some t.1) same t.3, t.4)
+
+pub unreferenced_is : (s : Setting) (n : ℕ) (format : Format) → format_at s.profile.methods s.method n ≡ Some format → (i : ℕ) → lacking s 0 format.fields ≡ Some i → (d : Field) → slice_get format.fields i ≡ Some d
+    → (path : String Global) → string_bytes path ≡ below s.path d.declared.name → Stands s n (reason.NoReference i path)
+unreferenced_is s n format at i e d d_at path is =
+    let t = lacking_there s format.fields i e in
+    let same : t.0 ≡ d = one_value _ t.0 d t.1 d_at in
+    let both = both_so s d (subst (λ z. lacks s z ≡ true) same t.2) in
+    no_reference format d at d_at both.0 both.1 is
+
+-- neither an obstacle nor the length stands against the format
+pub open_is : (s : Setting) (n : ℕ) (o : Option Reason) → MatchOption o (HasRoom s n) (Stands s n) → ((x : Obstacle) → Hinders s.profile s.method n x → ⊥) → MatchOption o (IsOpen s n) (Stands s n)
+open_is s n (Some r) h alive = h
+open_is s n None h alive = record { alive = alive; room = h }
+
+pub no_sizes : (s : Setting) (n : ℕ) → sizes_at s.profile.sizes s.method n ≡ None → HasRoom s n
+no_sizes s n none = record {
+  not_short = λ sizes at. let wrong = sym none ∙ at in absurd (cc);
+  not_long = λ sizes at. let wrong = sym none ∙ at in absurd (cc);
+}
+
+pub room_is : (s : Setting) (n : ℕ) (sizes : FormatSizes) → sizes_at s.profile.sizes s.method n ≡ Some sizes → ((length s.bits < (side_bounds s.side sizes.whole).least) → ⊥)
+    → (s.is_whole ≡ true → (side_bounds s.side sizes.whole).most < length s.bits → ⊥) → HasRoom s n
+room_is s n sizes at enough few = record {
+  not_short = λ other there. let same : other ≡ sizes = one_value _ other sizes there at in subst (λ (z : FormatSizes). length s.bits < (side_bounds s.side z.whole).least → ⊥) (sym same) enough;
+  not_long = λ other there. let same : other ≡ sizes = one_value _ other sizes there at in subst (λ (z : FormatSizes). s.is_whole ≡ true → (side_bounds s.side z.whole).most < length s.bits → ⊥) (sym same) few;
+}

@@ -1,6 +1,6 @@
 -- What stands against a format is true: no filling of it is asked for.
 use Rattle.std.proofs.Common.{◌≡◌, ◌≢◌, ◌∙◌, refl, sym, ap, subst, ℕ, zero, suc, ◌+◌, ◌≤◌, ◌<◌, Bool, true, false, List, [], ◌∷◌, ◌++◌, length, drop, arith}
-use Rattle.std.specs.Prelude.{ℤ, Option, Some, None, Result, Ok, Err, slice_get, nat_eq}
+use Rattle.std.specs.Prelude.{ℤ, pos, Option, Some, None, Result, Ok, Err, slice_get, nat_eq}
 use Rattle.std.proofs.lemmas.Bool.{true≢false}
 use Rattle.std.proofs.lemmas.Bool.Decides.{nat_tests}
 use Rattle.std.specs.Option.{option_map, unwrap_or}
@@ -11,6 +11,7 @@ use Rattle.fn_expr.specs.declared.expr.Expr.{Expr}
 use Rattle.fn_expr.specs.declared.expr.Side.{Side}
 use Rattle.fn_expr.specs.declared.expr.Side.TheVariants.{Uncompressed, Compressed}
 use Rattle.fn_expr.specs.declared.fault.RangeFault.{RangeFault}
+use Rattle.fn_expr.specs.declared.expr.Subject.TheVariants as subject
 use Rattle.fn_expr.specs.declared.interval.Interval.{Interval}
 use Rattle.fn_expr.specs.Known.{assignment_of}
 use Rattle.fn_expr.specs.Ranged.{Bounding, ranged}
@@ -40,9 +41,12 @@ use Rattle.fn_filling.specs.Fillings.{sides_of, level, header, packed}
 use Rattle.fn_fits.specs.Bounded.{ArgumentsLie, LiesBetween, SidesLie, sizes_at}
 use Rattle.fn_reasons.specs.Places.{BeginsAt, order_of}
 use Rattle.fn_fits.specs.Fits.{assigned, field_side, format_at, method_of, side_of, vals}
+use Rattle.fn_fits.proofs.Bounding.{placed as bounded_at}
 use Rattle.fn_fits.proofs.FitsInverted.{FitsParts, parts}
 use Rattle.fn_fits.proofs.FitsSized.{and_then_some, map_some, some_and, two_parts}
+use Rattle.fn_lint.specs.Attributes.{length_range}
 use Rattle.fn_lint.specs.Never.{is_untrue, IsUntrue}
+use Rattle.fn_lint.proofs.BracketsEmpty.{none_in_bracket}
 use Rattle.fn_lint.proofs.NeverApart.{not_true}
 use Rattle.fn_lint.proofs.ObstaclesDead.{obstacles-kill}
 use Rattle.fn_reasons.specs.Laws.{ReasonsAreTrue}
@@ -53,8 +57,8 @@ use Rattle.fn_reasons.specs.declared.line.Line.{Line}
 use Rattle.fn_reasons.specs.declared.reason.Reason.{Reason}
 use Rattle.fn_reasons.specs.declared.sight.Seen.{Seen}
 use Rattle.fn_reasons.proofs.ToldKnown as known
-use Rattle.fn_reasons.specs.Undefined.{first_undefined, undefined_condition}
-use Rattle.fn_reasons.proofs.UndefinedValueless as undefined
+use Rattle.fn_lint.specs.Undefined.{first_undefined, undefined_condition}
+use Rattle.fn_lint.proofs.UndefinedValueless as undefined
 use Rattle.fn_reasons.proofs.PlacesOrdered.{piece}
 use Rattle.fn_reasons.proofs.ToldPinned.{LiesIn, same_method}
 
@@ -195,7 +199,11 @@ module _ (s : Setting) (sound : IsSound s.profile) (n : ℕ) (f : Filling) (h : 
     no_untrue j u = by u.constraint u.constraint_at u.untrue
       where
         by : (c : Constraint) → slice_get format.constraints j ≡ Some c → is_untrue (ranges_in s sizes seen) c ≡ true → ⊥
-        by (Bracket i side lengths place) at never = absurd (cc)
+        by (Bracket i side lengths place) at never =
+            let t = known.bracket_is s sound n format v.format_is sizes v.sizes_are f h j i side lengths place at in
+            let lie = known.all_lie s sound n format v.format_is sizes v.sizes_are f h seen v.is_seen in
+            none_in_bracket (assignment_of (known.numbers_of s sound n format v.format_is sizes v.sizes_are f h)) (ranges_in s sizes seen) lie (length_range (ranges_in s sizes seen) (subject.Field i) side) lengths never t.0 t.1 t.2
+            (pos (length (side_of format.listing (level f) (subject.Field i) side))) t.3 (known.bracket_lies s sound n format v.format_is sizes v.sizes_are f h (ranges_in s sizes seen) lie j i side lengths place at)
         by (Enforce condition place) at never =
             not_true lies-in-ranges (assignment_of (known.numbers_of s sound n format v.format_is sizes v.sizes_are f h)) (ranges_in s sizes seen) (known.all_lie s sound n format v.format_is sizes v.sizes_are f h seen v.is_seen) condition never
             (known.condition_is s sound n format v.format_is sizes v.sizes_are f h j condition place at)
@@ -246,6 +254,7 @@ module _ (s : Setting) (sound : IsSound s.profile) (n : ℕ) (f : Filling) (h : 
           rest = b.0;
           in_front = b.1 ∙ ap (λ z. z ++ b.0) (g.side_is s.side ∙ inner_side s.side);
           whole_is = λ e. absurd (true≢false (sym e));
+          asked_are = λ k value given. absurd (cc);
         }
       where
         inner_side : (side : Side) → field_side (Some (sides_of (known.stood s sound n format v.format_is sizes v.sizes_are f h i d at).field)) side ≡ whole_side side (known.called s sound n format v.format_is sizes v.sizes_are f h i d at k es is).inner
@@ -253,7 +262,9 @@ module _ (s : Setting) (sound : IsSound s.profile) (n : ℕ) (f : Filling) (h : 
         inner_side Compressed = (known.called s sound n format v.format_is sizes v.sizes_are f h i d at k es is).packed_is
 
   no_stand : (r : Reason) → Stands s n r → ⊥
-  no_stand r (dead o has) = obstacles-kill s.profile sound s.method n o has (bits_at s.context) h.args s.path f has.whole has.whole_at (h.in_table has.whole has.whole_at) h.fits h.format_is
+  no_stand r (dead o has) =
+      let t = bounded_at s.profile.methods s.profile.sizes sound.sized s.method n format_found.0 format_found.1 in
+      obstacles-kill s.profile sound s.method n o has (bits_at s.context) h.args s.path f t.whole t.whole_at (h.in_table t.whole t.whole_at) h.fits h.format_is
   no_stand r (short sizes at few) = no_short sizes at few
   no_stand r (long sizes at whole many) = no_long sizes at whole many
   no_stand r (cut {i} {due} offset format sizes at sizes_are begins is few) = no_cut i offset due format sizes at sizes_are begins is few

@@ -1,9 +1,9 @@
 -- What is told of the fields of a format is so in each filling that is asked for.
 use Rattle.std.proofs.Common.{◌≡◌, ◌∙◌, refl, sym, ap, subst, ℕ, zero, ◌+◌, ◌<◌, ◌≤◌, Bool, true, false, cond, List, [], ◌∷◌, ◌++◌, length, map, flat_map, drop, arith}
-use Rattle.std.specs.Prelude.{ℤ, Option, Some, None, IfSome, slice_get, nat_eq}
+use Rattle.std.specs.Prelude.{ℤ, pos, Option, Some, None, IfSome, slice_get, nat_eq}
 use Rattle.std.specs.Option.{option_map, option_and_then, option_or}
 use Rattle.std.proofs.lemmas.List.{length-append}
-use Rattle.std.proofs.lemmas.Option.{slice_get_within, slice_get-map}
+use Rattle.std.proofs.lemmas.Option.{same_Some, slice_get_within, slice_get-map}
 use Rattle.std.proofs.lemmas.Bool.{true≢false}
 use Rattle.std.proofs.lemmas.Bool.Decides.{nat_tests}
 use Rattle.fn_context.specs.Entries.{bits_at}
@@ -21,7 +21,7 @@ use Rattle.fn_expr.specs.Spread.{LieIn}
 use Rattle.fn_source.specs.declared.span.Span.{Span}
 use Rattle.fn_expr.specs.declared.expr.Cond.{Cond}
 use Rattle.fn_expr.specs.declared.known.Known.{Known}
-use Rattle.fn_normal.specs.declared.profile.Constraint.TheVariants.{Enforce}
+use Rattle.fn_normal.specs.declared.profile.Constraint.TheVariants.{Bracket, Enforce}
 use Rattle.fn_expr.specs.Values.{Assignment, truth, val}
 use Rattle.fn_expr.proofs.RangedLie as ranges
 use Rattle.fn_lib.specs.Methods as lib
@@ -38,14 +38,15 @@ use Rattle.fn_normal.specs.declared.profile.Library.TheVariants as library
 use Rattle.fn_normal.specs.declared.profile.MethodSizes.{MethodSizes}
 use Rattle.fn_normal.specs.declared.profile.Sizes.{Sizes}
 use Rattle.fn_bounds.specs.Faults.{side_bounds}
-use Rattle.fn_bounds.specs.Laws.{StandsIn, in_encoding, encoding_exprs, library_exprs}
+use Rattle.fn_bounds.specs.Laws.{StandsIn, in_encoding, in_bracket, encoding_exprs, library_exprs}
 use Rattle.fn_bounds.specs.Ranging.{side_ranges}
 use Rattle.fn_bounds.proofs.FieldsRuling.{there}
 use Rattle.fn_bounds.proofs.ParametersWidening.{lie-in-parameters}
 use Rattle.fn_profile.specs.Resolved.{Resolved, IsSound}
 use Rattle.fn_filling.specs.declared.filling.Filling.{Filling}
 use Rattle.fn_filling.specs.declared.filling.FilledField.{FilledField}
-use Rattle.fn_filling.specs.Fillings.{Sides, sides_of, fields_of, level, header, packed, packed_bits}
+use Rattle.fn_filling.specs.declared.filling.AskedValue.{AskedValue}
+use Rattle.fn_filling.specs.Fillings.{Sides, asked_values, sides_of, fields_of, level, header, packed, packed_bits}
 use Rattle.fn_fits.specs.Bounded.{ArgumentsLie, LengthsLie, LiesBetween, SidesLie, sizes_at}
 use Rattle.fn_fits.specs.Fits.{IsShaped, field_side, side_of, assigned, method_of, format_at, vals}
 use Rattle.fn_fits.specs.Numbers.{known_level}
@@ -59,11 +60,14 @@ use Rattle.fn_fits.proofs.FitsSized.{and_then_some, crc_parts, two_parts}
 use Rattle.std.proofs.lemmas.List.{length-map}
 use Rattle.fn_lint.proofs.ObstaclesFitting.{Sits}
 use Rattle.fn_lint.proofs.ObstaclesFitting as fitting
+use Rattle.fn_lint.proofs.LengthsKnown.{length_lies}
+use Rattle.fn_lint.specs.Attributes.{length_range}
 use Rattle.fn_reasons.specs.Settings.{Setting, IsSought, whole_side}
 use Rattle.fn_reasons.specs.Places.{BeginsAt, only_length, only_within, order_of}
-use Rattle.fn_reasons.specs.Told.{Told, placed, empty, across, Related, IsSeen, AreAllSeen, base_ranges, is_crc, leaves_empty, length_of, told_length, opposite, joined, ranges_seen, reference_in, seen_at, seen_side, seen_subject}
+use Rattle.fn_reasons.specs.Told.{Told, placed, empty, asked_for, across, asked_before, Related, IsSeen, AreAllSeen, base_ranges, is_crc, leaves_empty, length_of, told_length, opposite, joined, ranges_seen, reference_in, seen_at, seen_side, seen_subject}
 use Rattle.fn_reasons.specs.declared.sight.Seen.{Seen}
 use Rattle.fn_reasons.specs.declared.sight.Sight.{Sight}
+use Rattle.fn_reasons.proofs.AskedFields.{asked_at}
 use Rattle.fn_reasons.proofs.Numbered.{fields_lie, one_side, joined_is}
 use Rattle.fn_reasons.proofs.PlacesOrdered.{piece, whole_pieces, begun, held}
 use Rattle.fn_reasons.proofs.ToldMeasured.{library_has, noted, pick}
@@ -210,6 +214,23 @@ module _ (s : Setting) (sound : IsSound s.profile) (n : ℕ) (format : Format) (
   library_in : (i : ℕ) (d : Field) (l : Library) → slice_get format.fields i ≡ Some d → d.encoding ≡ encoding.Library l → (q : ℕ) (e : Expr) → slice_get (library_exprs l) q ≡ Some e → StandsIn format e
   library_in i d l at is q e here = in_encoding i q at (ap (λ z. slice_get (encoding_exprs z) q) is ∙ here)
 
+  -- ---- brackets
+
+  pub bracket_is : (j i : ℕ) (side : Side) (lengths : List Expr) (place : Span) → slice_get format.constraints j ≡ Some (Bracket i side lengths place)
+      → (q : ℕ) × (e : Expr) × (slice_get lengths q ≡ Some e) × (val (assignment_of (known_level f h.args)) e ≡ Some (pos (length (side_of format.listing (level f) (subject.Field i) side))))
+  bracket_is j i side lengths place at =
+      let t = (fitting.fits_level p sound s.method n sit (bits_at s.context) h.args s.path f arguments h.fits h.format_is).constraints j (Bracket i side lengths place) at in
+      (t.0, t.1, t.2, known_is t.1 (in_bracket j t.0 at t.2) ∙ t.3)
+
+  pub bracket_lies : (r : Bounding) → LieIn (assignment_of (known_level f h.args)) r → (j i : ℕ) (side : Side) (lengths : List Expr) (place : Span) → slice_get format.constraints j ≡ Some (Bracket i side lengths place)
+      → IsIn (length_range r (subject.Field i) side) (pos (length (side_of format.listing (level f) (subject.Field i) side)))
+  bracket_lies r lies j i side lengths place at =
+      let m = fitting.method_found p sound s.method n sit (bits_at s.context) h.args s.path f arguments h.fits h.format_is in
+      let within : i < length format.fields = (sound.well_formed.formats s.method n m.0 format m.1 m.2).bracketed j i side lengths place at in
+      let count = fitting.count p sound s.method n sit (bits_at s.context) h.args s.path f arguments h.fits h.format_is in
+      let own : i < length (level f) = omega (arith, within, count) in
+      length_lies f h.args format.listing shaped.listing_is r lies (subject.Field i) side (λ x is. let same : i ≡ x = cc in subst (λ z. z < length (level f)) same own)
+
   -- ---- lengths
 
   by_bounds : (i m : ℕ) → only_length sizes.fields s.side i ≡ Some m → length (piece (level f) s.side i) ≡ m
@@ -269,6 +290,10 @@ module _ (s : Setting) (sound : IsSound s.profile) (n : ℕ) (format : Format) (
       let l = left_empty d.encoding side leaves in
       let c = coded i d at l.0 l.1 in
       g.side_is side ∙ (picked (sides_of g.field) side ∙ unsent l.0 side (ap (λ z. leaves_empty z side) (sym l.1) ∙ leaves) (side_of format.listing (level f)) numbers c.0 (reference_in s d) (sides_of g.field).uncompressed (sides_of g.field).compressed c.1 c.2)
+  told_is i side own (asked_for d value at is given) =
+      let has : slice_get (asked_values (level f)) (asked_before format.fields i) ≡ Some value = h.asked_are (asked_before format.fields i) value given in
+      let found = asked_at format.fields (level f) shaped.declared_is i d at is in
+      ap (λ (z : AskedValue). z.bits) (same_Some _ _ (sym found ∙ has))
   told_is i other_side own (across {side = side} d l m first t at is plain method only) =
       let g = stood i d at in
       let c = coded i d at l is in

@@ -3,7 +3,6 @@ pub mod Places
 pub mod Told
 pub mod Across
 pub mod Looks
-pub mod Undefined
 pub mod Figures
 pub mod Reasons
 pub mod Conflicts

@@ -1,5 +1,5 @@
 -- What stands against a format: why no filling of it is asked for (docs/DEFINITIONS.md, Reasons).
-use Rattle.std.specs.Prelude.{◌≡◌, ◌≢◌, ℕ, ◌+◌, ◌<◌, ◌≤◌, Bool, true, false, List, [], ◌∷◌, ◌++◌, length, drop, slice_get, Option, Some, None, option_map, option_and_then, Result, Ok, Err, string_bytes}
+use Rattle.std.specs.Prelude.{◌≡◌, ◌≢◌, ℕ, ◌+◌, ◌<◌, ◌≤◌, Bool, true, false, is_none, ◌&&◌, if◌then◌else◌, List, [], ◌∷◌, ◌++◌, length, drop, slice_get, Option, Some, None, option_map, option_and_then, Result, Ok, Err, string_bytes}
 use Rattle.std.specs.Option.{unwrap_or}
 use Rattle.fn_expr.specs.declared.fault.RangeFault.{RangeFault}
 use Rattle.fn_expr.specs.declared.expr.Expr.{Expr}
@@ -25,11 +25,12 @@ use Rattle.fn_fits.specs.Bounded.{sizes_at}
 use Rattle.fn_fits.specs.Fits.{format_at}
 use Rattle.fn_lint.specs.Never.{IsUntrue}
 use Rattle.fn_lint.specs.Obstacles.{Hinders}
+use Rattle.fn_lint.specs.declared.obstacle.Obstacle.{Obstacle}
 use Rattle.fn_reasons.specs.Figures.{figures_at}
 use Rattle.fn_reasons.specs.Settings.{Setting}
 use Rattle.fn_reasons.specs.Places.{BeginsAt, order_of}
 use Rattle.fn_reasons.specs.Told.{AreAllSeen, Covers, Related, base_ranges, length_of, method_in, opposite, ranges_seen, reference_in, seen_at}
-use Rattle.fn_reasons.specs.Undefined.{first_undefined, undefined_condition}
+use Rattle.fn_lint.specs.Undefined.{first_undefined, undefined_condition}
 use Rattle.fn_reasons.specs.declared.line.Line.{Line}
 use Rattle.fn_reasons.specs.declared.reason.Reason.{Reason}
 use Rattle.fn_reasons.specs.declared.reason.Reason.TheVariants as reason
@@ -111,6 +112,7 @@ inside s d k parameters offset = record {
   side = s.side;
   bits = drop offset s.bits;
   is_whole = false;
+  asked = [];
 }
 
 -- the field i of the format n calls the method of the inner setting
@@ -149,8 +151,34 @@ mutual
     ends : {s : Setting} {depth n : ℕ} → formats_of s ≤ n → TellAll s depth n []
     next : {s : Setting} {depth n : ℕ} {first rest : List Line} → n < formats_of s → Tells s depth n first → TellAll s depth (n + 1) rest → TellAll s depth n (first ++ rest)
 
--- What is told of each format from the number n on: why no filling of it is asked for, or that nothing simple stands against it.
+-- ---- where nothing simple stands against a format
+
+-- by its bounds the format has neither more bits at least nor fewer at most
+pub record HasRoom (s : Setting) (n : ℕ) : Type 0 where
+  pub not_short : (sizes : FormatSizes) → sizes_at s.profile.sizes s.method n ≡ Some sizes → length s.bits < (side_bounds s.side sizes.whole).least → ⊥
+  pub not_long : (sizes : FormatSizes) → sizes_at s.profile.sizes s.method n ≡ Some sizes → s.is_whole ≡ true → (side_bounds s.side sizes.whole).most < length s.bits → ⊥
+
+-- nor does an obstacle stand against it
+pub record IsOpen (s : Setting) (n : ℕ) : Type 0 where
+  pub alive : (o : Obstacle) → Hinders s.profile s.method n o → ⊥
+  pub room : HasRoom s n
+
+-- a field wants a reference, and there is none at its path
+abbrev pub lacks : Setting → Field → Bool
+lacks s d = wants_reference d.encoding && is_none (reference_in s d)
+
+-- the index of the first such field, counted from k
+abbrev pub lacking : Setting → ℕ → List Field → Option ℕ
+lacking s k [] = None
+lacking s k (d ∷ ds) = if lacks s d then Some k else lacking s (k + 1) ds
+
+-- no field of the format is such a one
+abbrev pub HasReferences : Setting → ℕ → Type 0
+HasReferences s n = (format : Format) (i : ℕ) (d : Field) → format_at s.profile.methods s.method n ≡ Some format → slice_get format.fields i ≡ Some d → wants_reference d.encoding ≡ true → reference_in s d ≡ None → ⊥
+
+-- What is told of each format from the number n on: why no filling of it is asked for, or that nothing simple stands against it. This is said where it is open alone,
+-- and no field lacks its reference.
 pub data Verdicts (s : Setting) : ℕ → List Line → Type 0 where
   no_more : {n : ℕ} → formats_of s ≤ n → Verdicts s n []
   out : {n : ℕ} {first rest : List Line} → n < formats_of s → Tells s 0 n first → Verdicts s (n + 1) rest → Verdicts s n (first ++ rest)
-  open_still : {n : ℕ} {rest : List Line} → n < formats_of s → Verdicts s (n + 1) rest → Verdicts s n (line_of s 0 n reason.Nothing ∷ rest)
+  open_still : {n : ℕ} {rest : List Line} → n < formats_of s → IsOpen s n → HasReferences s n → Verdicts s (n + 1) rest → Verdicts s n (line_of s 0 n reason.Nothing ∷ rest)

@@ -1,12 +1,13 @@
 -- What is asked for: fillings of a method of which one side begins given bits (docs/DEFINITIONS.md, Reasons).
-use Rattle.std.specs.Prelude.{◌≡◌, ℕ, ℤ, Bool, true, List, [], ◌++◌}
+use Rattle.std.specs.Prelude.{◌≡◌, ℕ, ℤ, Bool, true, List, [], ◌++◌, slice_get, Some}
 use Rattle.fn_context.specs.Entries.{Entries, bits_at}
 use Rattle.fn_expr.specs.declared.expr.Side.{Side}
 use Rattle.fn_expr.specs.declared.expr.Side.TheVariants.{Uncompressed, Compressed}
 use Rattle.fn_expr.specs.declared.interval.Interval.{Interval}
+use Rattle.fn_filling.specs.declared.filling.AskedValue.{AskedValue}
 use Rattle.fn_filling.specs.declared.filling.Filling.{Filling, out-Filling}
 use Rattle.fn_filling.specs.Entries.{Path}
-use Rattle.fn_filling.specs.Fillings.{header, packed}
+use Rattle.fn_filling.specs.Fillings.{asked_values, header, level, packed}
 use Rattle.fn_fits.specs.Bounded.{ArgumentsLie}
 use Rattle.fn_fits.specs.Fits.{Fits}
 use Rattle.fn_fits.specs.Ready.{ArgumentsLieAt}
@@ -25,6 +26,8 @@ pub record Setting : Type 0 where
   pub bits : List Bool
   -- the side is all of the bits
   pub is_whole : Bool
+  -- the first values of the asked fields, in their order, as far as they are known
+  pub asked : List AskedValue
 
 abbrev pub setting_of : Spot → Setting
 setting_of s = record {
@@ -36,13 +39,14 @@ setting_of s = record {
   side = s.side;
   bits = s.bits.now;
   is_whole = s.is_whole;
+  asked = s.asked.now;
 }
 
 abbrev pub whole_side : Side → Filling → List Bool
 whole_side Uncompressed f = header f
 whole_side Compressed f = packed f
 
--- a filling of the format n that is asked for: it fits under arguments that lie in the ranges, and its side begins the bits
+-- a filling of the format n that is asked for: it fits under arguments that lie in the ranges, its side begins the bits, and its asked fields have the values
 pub record IsSought (s : Setting) (n : ℕ) (f : Filling) : Type 0 where
   pub args : List ℤ
   pub in_table : ArgumentsLieAt s.profile s.method args
@@ -52,6 +56,7 @@ pub record IsSought (s : Setting) (n : ℕ) (f : Filling) : Type 0 where
   pub rest : List Bool
   pub in_front : s.bits ≡ whole_side s.side f ++ rest
   pub whole_is : s.is_whole ≡ true → rest ≡ []
+  pub asked_are : (k : ℕ) (value : AskedValue) → slice_get s.asked k ≡ Some value → slice_get (asked_values (level f)) k ≡ Some value
 
 -- no filling of the format n is asked for
 abbrev pub IsOut : Setting → ℕ → Type 0

@@ -1,5 +1,5 @@
 -- What is told of the sides of a format's fields, and of the numbers in its expressions.
-use Rattle.std.specs.Prelude.{◌≡◌, ℕ, ◌+◌, ℤ, pos, negsuc, nat_le, Bool, true, false, List, [], ◌∷◌, ◌++◌, length, slice_get, Option, Some, None, option_map, option_and_then, Result, Ok, Err, IfSome, if◌then◌else◌}
+use Rattle.std.specs.Prelude.{◌≡◌, ℕ, ◌+◌, ℤ, pos, negsuc, nat_le, Bool, true, false, List, [], ◌∷◌, ◌++◌, length, filter, take, slice_get, Option, Some, None, option_map, option_and_then, Result, Ok, Err, IfSome, if◌then◌else◌}
 use Rattle.std.specs.Option.{option_or}
 use Rattle.std.specs.Ordering.{int_eq}
 use Rattle.fn_bits.specs.Number.{num}
@@ -27,6 +27,7 @@ use Rattle.fn_normal.specs.declared.profile.FormatSizes.{FormatSizes}
 use Rattle.fn_normal.specs.declared.profile.Library.{Library}
 use Rattle.fn_normal.specs.declared.profile.Library.TheVariants as library
 use Rattle.fn_bounds.specs.Ranging.{format_ranges}
+use Rattle.fn_filling.specs.declared.filling.AskedValue.{AskedValue}
 use Rattle.fn_filling.specs.Entries.{below}
 use Rattle.fn_fits.specs.Fits.{reference_of, two_values, crc_values}
 use Rattle.fn_reasons.specs.Settings.{Setting}
@@ -129,12 +130,18 @@ lengths_from s base sizes k (d ∷ ds) = length_at s base sizes k d ∷ lengths_
 abbrev pub length_of : Setting → Format → FormatSizes → ℕ → Option ℕ
 length_of s format sizes = length_in (lengths_from s (base_ranges s sizes) sizes 0 format.fields)
 
+-- how many of the fields before the one of number i are asked
+abbrev pub asked_before : List Field → ℕ → ℕ
+asked_before fields i = length (filter (λ (d : Field). d.declared.asked) (take i fields))
+
 -- What that side of the field i has in each filling that is asked for.
 pub data Told (s : Setting) (format : Format) (sizes : FormatSizes) : ℕ → Side → List Bool → Type 0 where
   -- the bits at its place
   placed : {i : ℕ} {own : List Bool} → Holds (order_of format s.side) (length_of s format sizes) s.bits i own → Told s format sizes i s.side own
   -- none
   empty : {i : ℕ} {side : Side} (d : Field) → slice_get format.fields i ≡ Some d → leaves_empty d.encoding side ≡ true → Told s format sizes i side []
+  -- the value that is asked for
+  asked_for : {i : ℕ} (d : Field) (value : AskedValue) → slice_get format.fields i ≡ Some d → d.declared.asked ≡ true → slice_get s.asked (asked_before format.fields i) ≡ Some value → Told s format sizes i Uncompressed value.bits
   -- the only bits that its method relates to the other side
   across : {i : ℕ} {side : Side} {other : List Bool} (d : Field) (l : Library) (m : lib.Method) (own : List Bool) → Told s format sizes i side own → slice_get format.fields i ≡ Some d
       → d.encoding ≡ encoding.Library l → is_crc l ≡ false → method_in (bounding_of (base_ranges s sizes)) [] l ≡ Some m → IsOnly (Related m (reference_in s d) side own) (Some other)

@@ -222,7 +222,7 @@ fn covered_by<'a>(seen: &'a Seen, library: &Library, nothing: &'a Bits) -> Optio
     }
 }
 
-fn wants_reference(encoding: &Encoding) -> bool
+pub(crate) fn wants_reference(encoding: &Encoding) -> bool
     ensures { result ≡ wants_reference encoding.now }
 {
     match encoding {

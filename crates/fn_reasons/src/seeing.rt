@@ -1,6 +1,6 @@
 //! What is seen of the fields of a format.
 
-ghost use Rattle.std.specs.Prelude.{◌≡◌, ◌+◌, IfOk, IfSome, OnOk, Some, None, slice_get};
+ghost use Rattle.std.specs.Prelude.{◌≡◌, ◌+◌, ◌≤◌, IfOk, IfSome, OnOk, Some, None, true, filter, length, slice_get};
 ghost use Rattle.fn_expr.specs.Bounds.{bounding_of};
 ghost use Rattle.fn_normal.specs.declared.profile.Encoding.TheVariants as encoding;
 ghost use Rattle.fn_reasons.specs.Looks as spec;
@@ -15,7 +15,7 @@ use fn_bits::Bits;
 use fn_expr::{Ranges, Side};
 use fn_fits::whole_sides::reference_below;
 use fn_normal::{Encoding, Field, Format, FormatSizes, Library};
-use sqlite_items::Items;
+use sqlite_items::{Items, at};
 use std::alloc::{AllocError, Global};
 
 /// What a look at a format of the spot's method goes by: its bounds, the fields on the spot's side in order, their lengths on that side where they are known, and the
@@ -150,7 +150,7 @@ fn with_header(
     })
 }
 
-/// A side that the field's method leaves empty, or the bits at its place.
+/// A side that the field's method leaves empty, or the value that is asked for, or the bits at its place.
 fn first_told(
     alloc: Global,
     look: &Look<'_>,
@@ -166,11 +166,89 @@ fn first_told(
     if leaves_empty(field.encoding.get(), side) {
         return Ok(Some(Bits::new(alloc)));
     }
+    let asked = asked_told(alloc, look, index, field, side)?;
+    if asked.is_some() {
+        return Ok(asked);
+    }
     if side == look.spot.side {
         placed(alloc, look, format, index)
     } else {
         Ok(None)
     }
+}
+
+/// The value that is asked for, where the side is the one that has it.
+fn asked_told(
+    alloc: Global,
+    look: &Look<'_>,
+    index: usize,
+    field: &Field,
+    side: Side,
+) -> Result<Option<Bits>, AllocError>
+    requires at { slice_get look.now.format.now.fields index ≡ Some field.now }
+    ensures { IfOk result (λ o. IfSome o (spec.ToldOf look.now index side)) }
+{
+    match side {
+        Side::Uncompressed => asked_bits(alloc, look, index, field),
+        Side::Compressed => Ok(None),
+    }
+}
+
+/// The value that is asked for, if the field is an asked one.
+fn asked_bits(
+    alloc: Global,
+    look: &Look<'_>,
+    index: usize,
+    field: &Field,
+) -> Result<Option<Bits>, AllocError>
+    requires at { slice_get look.now.format.now.fields index ≡ Some field.now }
+    ensures { IfOk result (λ o. IfSome o (spec.ToldOf look.now index Side.Uncompressed)) }
+{
+    if field.declared.asked {
+        value_bits(alloc, look, index, field)
+    } else {
+        Ok(None)
+    }
+}
+
+/// The value that is asked for of an asked field.
+fn value_bits(
+    alloc: Global,
+    look: &Look<'_>,
+    index: usize,
+    field: &Field,
+) -> Result<Option<Bits>, AllocError>
+    requires at { slice_get look.now.format.now.fields index ≡ Some field.now }
+    requires asked { field.now.declared.asked ≡ true }
+    ensures { IfOk result (λ o. IfSome o (spec.ToldOf look.now index Side.Uncompressed)) }
+{
+    let before = asked_before(look.format.fields.as_slice(), index);
+    let Some(value) = at(look.spot.asked, before) else {
+        return Ok(None);
+    };
+    let bits = value.bits.copy(alloc)?;
+    Ok(Some(bits))
+}
+
+/// How many of the fields before the one of that index are asked.
+fn asked_before(fields: &[Field], index: usize) -> usize
+    requires within { index ≤ length fields.now }
+    ensures { result ≡ told.asked_before fields.now index }
+{
+    asked_among(&fields[..index])
+}
+
+/// How many of these fields are asked.
+fn asked_among(fields: &[Field]) -> usize
+    ensures { result ≡ length (filter (λ other. other.declared.asked) fields.now) }
+{
+    let mut count = 0;
+    for other in fields {
+        if other.declared.asked {
+            count += 1;
+        }
+    }
+    count
 }
 
 /// The bits at the place of the field.

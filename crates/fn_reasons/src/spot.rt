@@ -3,13 +3,15 @@
 use fn_bits::Bits;
 use fn_context::Context;
 use fn_expr::{Interval, Side};
-use fn_profile::Profile;
+use fn_filling::AskedValue;
+use fn_lint::Judged;
 
-/// What is asked for: fillings that fit a method of the profile, by its index, in the context and below the path of the field that they fill, which is empty at the
+/// What is asked for: fillings that fit a method of the judged profile, by its index, in the context and below the path of the field that they fill, which is empty at the
 /// top. Their arguments lie in the ranges. That side of each, its header or its packed bits, begins the bits, or is all of them.
+/// The first of its asked fields have the asked values, in order.
 #[derive(Clone, Copy)]
 pub struct Spot<'a> {
-    pub profile: &'a Profile,
+    pub profile: &'a Judged<'a>,
     pub context: &'a Context,
     pub method: usize,
     pub parameters: &'a [Interval],
@@ -17,4 +19,5 @@ pub struct Spot<'a> {
     pub side: Side,
     pub bits: &'a Bits,
     pub is_whole: bool,
+    pub asked: &'a [AskedValue],
 }

@@ -1,6 +1,6 @@
 //! What stands against each format.
 
-ghost use Rattle.std.specs.Prelude.{◌≡◌, ◌<◌, ◌+◌, drop, IfOk, IfSome, OnOk, Some, slice_get};
+ghost use Rattle.std.specs.Prelude.{◌≡◌, ◌<◌, ◌+◌, drop, IfOk, IfSome, MatchOption, OnOk, Some, slice_get};
 ghost use Rattle.std.specs.Option.{option_copied};
 ghost use Rattle.fn_expr.specs.Bounds.{bounding_of};
 ghost use Rattle.fn_fits.specs.Bounded.{sizes_at};
@@ -20,17 +20,18 @@ use crate::line::Line;
 use crate::numbers::ranges_seen;
 use crate::placing::{begin_of, length_in, order_of};
 use crate::reason::Reason;
+use crate::references::unreferenced;
 use crate::seeing::{Look, sights};
 use crate::sight::{Seen, Sight};
 use crate::spot::Spot;
 use crate::subjects::joined;
-use crate::undefined::{undefined_argument, undefined_condition};
 use fn_bits::Bits;
 use fn_expr::{Expr, Interval, Ranges, Side, range};
 use fn_filling::below;
-use fn_lint::{first_untrue, obstacle_of};
+use fn_lint::undefined::{undefined_argument, undefined_condition};
+use fn_lint::{Judged, first_untrue, obstacle_of};
 use fn_normal::{Bounds, Encoding, Field, Format, FormatSizes};
-use fn_profile::{DEPTH_LIMIT, Profile};
+use fn_profile::DEPTH_LIMIT;
 use fn_sizes::ranging::format_ranges;
 use sqlite_items::Items;
 use std::alloc::{AllocError, Global};
@@ -51,7 +52,7 @@ pub fn reasons(alloc: Global, spot: &Spot<'_>) -> Result<Items<Line>, AllocError
 fn formats_of(spot: &Spot<'_>) -> usize
     ensures { result ≡ spec.formats_of (setting_of spot.now) }
 {
-    match spot.profile.methods().get(spot.method) {
+    match spot.profile.profile().methods().get(spot.method) {
         Some(method) => method.formats.len(),
         None => 0,
     }
@@ -67,9 +68,53 @@ fn add_verdict(
     requires { format < spec.formats_of (setting_of spot.now) }
     ensures { OnOk result (listing.SoFar (setting_of spot.now) format lines.old → listing.SoFar (setting_of spot.now) (format + 1) lines.new) }
 {
+    match at_once(alloc, spot, format)? {
+        Some(reason) => lines.push(line(spot, 0, format, reason)),
+        None => add_look(alloc, spot, format, lines),
+    }
+}
+
+/// Adds what a look at the fields of a format tells against it, where nothing does without one.
+fn add_look(
+    alloc: Global,
+    spot: &Spot<'_>,
+    format: usize,
+    lines: &mut Items<Line>,
+) -> Result<(), AllocError>
+    requires within { format < spec.formats_of (setting_of spot.now) }
+    requires is_open { spec.IsOpen (setting_of spot.now) format }
+    ensures { OnOk result (listing.SoFar (setting_of spot.now) format lines.old → listing.SoFar (setting_of spot.now) (format + 1) lines.new) }
+{
     match told(DEPTH_LIMIT, alloc, spot, 0, format)? {
         Some(more) => lines.append(more),
+        None => add_rest(alloc, spot, format, lines),
+    }
+}
+
+/// Adds that a field lacks its reference, or that nothing stands against the format.
+fn add_rest(
+    alloc: Global,
+    spot: &Spot<'_>,
+    format: usize,
+    lines: &mut Items<Line>,
+) -> Result<(), AllocError>
+    requires within { format < spec.formats_of (setting_of spot.now) }
+    requires is_open { spec.IsOpen (setting_of spot.now) format }
+    ensures { OnOk result (listing.SoFar (setting_of spot.now) format lines.old → listing.SoFar (setting_of spot.now) (format + 1) lines.new) }
+{
+    match rest_at(alloc, spot, format)? {
+        Some(reason) => lines.push(line(spot, 0, format, reason)),
         None => lines.push(line(spot, 0, format, Reason::Nothing)),
+    }
+}
+
+/// The first field that lacks its reference.
+fn rest_at(alloc: Global, spot: &Spot<'_>, format: usize) -> Result<Option<Reason>, AllocError>
+    ensures { IfOk result (λ o. MatchOption o (spec.HasReferences (setting_of spot.now) format) (spec.Stands (setting_of spot.now) format)) }
+{
+    match format_of(spot.profile, spot.method, format) {
+        Some(found) => unreferenced(alloc, spot, format, found),
+        None => Ok(None),
     }
 }
 
@@ -144,7 +189,7 @@ fn alone(
 
 /// What stands against the format without a look at its fields.
 fn at_once(alloc: Global, spot: &Spot<'_>, format: usize) -> Result<Option<Reason>, AllocError>
-    ensures { IfOk result (λ o. IfSome o (spec.Stands (setting_of spot.now) format)) }
+    ensures { IfOk result (λ o. MatchOption o (spec.IsOpen (setting_of spot.now) format) (spec.Stands (setting_of spot.now) format)) }
 {
     if let Some(obstacle) = obstacle_of(alloc, spot.profile, spot.method, format)? {
         return Ok(Some(Reason::Dead(obstacle)));
@@ -154,7 +199,7 @@ fn at_once(alloc: Global, spot: &Spot<'_>, format: usize) -> Result<Option<Reaso
 
 /// Whether there are fewer or more bits than a filling of the format has.
 fn of_length(spot: &Spot<'_>, format: usize) -> Option<Reason>
-    ensures { IfSome result (spec.Stands (setting_of spot.now) format) }
+    ensures { MatchOption result (spec.HasRoom (setting_of spot.now) format) (spec.Stands (setting_of spot.now) format) }
 {
     let Some(sizes) = sizes_of(spot.profile, spot.method, format) else {
         return None;
@@ -419,6 +464,7 @@ fn told_by_call(
         side: look.spot.side,
         bits: &bits,
         is_whole: false,
+        asked: &[],
     };
     let Some(deeper) = depth.checked_add(1) else {
         return Ok(None);
@@ -482,14 +528,14 @@ fn all_ranged(
     Ok(Some(found))
 }
 
-fn format_of(profile: &Profile, method: usize, format: usize) -> Option<&Format>
-    ensures { option_copied result ≡ format_at profile.now.methods method format }
+fn format_of<'a>(judged: &'a Judged<'a>, method: usize, format: usize) -> Option<&'a Format>
+    ensures { option_copied result ≡ format_at judged.now.methods method format }
 {
-    profile.methods().get(method)?.formats.get(format)
+    judged.profile().methods().get(method)?.formats.get(format)
 }
 
-fn sizes_of(profile: &Profile, method: usize, format: usize) -> Option<&FormatSizes>
-    ensures { option_copied result ≡ sizes_at profile.now.sizes method format }
+fn sizes_of<'a>(judged: &'a Judged<'a>, method: usize, format: usize) -> Option<&'a FormatSizes>
+    ensures { option_copied result ≡ sizes_at judged.now.sizes method format }
 {
-    profile.sizes().get(method)?.formats.get(format)
+    judged.profile().sizes().get(method)?.formats.get(format)
 }

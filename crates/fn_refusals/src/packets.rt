@@ -6,7 +6,7 @@ use crate::stop::Stop;
 use fn_accepted::Accepted;
 use fn_bits::{Bits, Cursor};
 use fn_context::Context;
-use fn_engine::{PackFault, Read, UnpackFault, Written, pack, unpack};
+use fn_engine::{PackFault, Packed, UnpackFault, Unpacked, pack, unpack};
 use fn_filling::Item;
 use std::alloc::Global;
 
@@ -40,7 +40,7 @@ fn packed(
     context: &Context,
     item: &Item,
 ) -> Result<Bits, PackFault> {
-    let Written { packed, .. } = pack(alloc, accepted, context, item)?;
+    let Packed { packed, .. } = pack(alloc, accepted, context, item)?;
     Ok(packed)
 }
 
@@ -86,7 +86,6 @@ fn header(
     context: &Context,
     cursor: &mut Cursor<'_>,
 ) -> Result<Bits, UnpackFault> {
-    let Read { item, .. } = unpack(alloc, accepted, context, cursor)?;
-    let Item { header, .. } = item;
+    let Unpacked { header, .. } = unpack(alloc, accepted, context, cursor)?;
     Ok(header)
 }

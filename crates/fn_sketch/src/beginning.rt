@@ -154,7 +154,7 @@ fn spelling_of(bits: Option<Bits>) -> Result<Spelled, Stop> {
 
 /// Adds a field with these sides.
 #[inline(always)]
-fn add(
+pub(crate) fn add(
     fields: &mut Vec<FilledField>,
     declared: &Declared,
     uncompressed: Bits,

@@ -15,19 +15,19 @@ use fn_normal::Encoding;
 use fn_profile::DEPTH_LIMIT;
 use smallvec::SmallVec;
 use sqlite_items::at;
-use std::alloc::{AllocError, Global};
+use std::alloc::Global;
 
 /// A filling of the top that may be the one whose packed bits are at the cursor's place. It is drawn by the tree and the read plans alone, and neither bounds
 /// nor constraints nor what is known already are tested on the way: nothing is promised of it, and who asks for it judges it. None where the plan leads
-/// nowhere, or where fewer bits are left than any packet has. The error is want of memory.
+/// nowhere, where fewer bits are left than any packet has, or where memory is out: a sketch is no answer that is owed, so it can't be refused.
 pub fn sketch(
     alloc: Global,
     accepted: &Accepted,
     context: &Context,
     cursor: &Cursor<'_>,
-) -> Result<Option<Filling>, AllocError> {
+) -> Option<Filling> {
     if cursor.rest() < least_of(accepted, accepted.profile().top()) {
-        return Ok(None);
+        return None;
     }
     drawn(alloc, &top(accepted, context, &[]), Goal::Read, cursor)
 }
@@ -39,7 +39,7 @@ pub fn sketch_item(
     context: &Context,
     item: &Item,
     number: u64,
-) -> Result<Option<Filling>, AllocError> {
+) -> Option<Filling> {
     let mut desk = top(accepted, context, item.asked.as_slice());
     desk.header = Some(&item.header);
     let source = Cursor::new(&item.header);
@@ -54,7 +54,11 @@ pub fn is_hopeful(accepted: &Accepted, context: &Context, number: u64) -> bool {
 }
 
 /// Where the top is drawn.
-fn top<'a>(accepted: &'a Accepted, context: &'a Context, asked: &'a [AskedValue]) -> Desk<'a> {
+pub(crate) fn top<'a>(
+    accepted: &'a Accepted,
+    context: &'a Context,
+    asked: &'a [AskedValue],
+) -> Desk<'a> {
     Desk {
         accepted,
         context,
@@ -66,16 +70,10 @@ fn top<'a>(accepted: &'a Accepted, context: &'a Context, asked: &'a [AskedValue]
     }
 }
 
-fn drawn(
-    alloc: Global,
-    desk: &Desk<'_>,
-    goal: Goal,
-    source: &Cursor<'_>,
-) -> Result<Option<Filling>, AllocError> {
+fn drawn(alloc: Global, desk: &Desk<'_>, goal: Goal, source: &Cursor<'_>) -> Option<Filling> {
     match draw(DEPTH_LIMIT, alloc, desk, goal, source, 0) {
-        Ok(filling) => Ok(Some(filling)),
-        Err(Stop::Nowhere) => Ok(None),
-        Err(Stop::OutOfMemory) => Err(AllocError),
+        Ok(filling) => Some(filling),
+        Err(_) => None,
     }
 }
 

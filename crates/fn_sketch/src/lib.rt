@@ -2,6 +2,7 @@
 #![tactic(auto)]
 
 pub use drawing::{is_hopeful, sketch, sketch_item};
+pub use trial::runs_out;
 
 mod beginning;
 mod drawing;
@@ -9,4 +10,5 @@ mod level;
 mod no_sketch;
 mod place;
 mod steps;
+mod trial;
 mod values;

@@ -8,6 +8,8 @@ use std::alloc::AllocError;
 pub(crate) enum Stop {
     /// It leads nowhere.
     Nowhere,
+    /// The bits run out; of a sketch that isn't told.
+    Short,
     OutOfMemory,
 }
 

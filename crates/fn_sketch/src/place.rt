@@ -75,7 +75,7 @@ impl Digits {
 }
 
 impl<'a> Desk<'a> {
-    /// The format to which the goal leads. The error is Nowhere or want of memory.
+    /// The format to which the goal leads. The error is Nowhere, Short or want of memory.
     pub(crate) fn start(
         &self,
         alloc: Global,
@@ -114,8 +114,13 @@ impl<'a> Desk<'a> {
         })
     }
 
-    /// The format to which the method's tree leads. The error is Nowhere or want of memory.
-    fn read_index(&self, alloc: Global, cursor: &Cursor<'_>, from: usize) -> Result<usize, Stop> {
+    /// The format to which the method's tree leads. The error is Nowhere, Short or want of memory.
+    pub(crate) fn read_index(
+        &self,
+        alloc: Global,
+        cursor: &Cursor<'_>,
+        from: usize,
+    ) -> Result<usize, Stop> {
         match self.accepted.pick_ahead(
             alloc,
             self.method,
@@ -126,7 +131,8 @@ impl<'a> Desk<'a> {
             from,
         )? {
             Picked::Format(index) => Ok(index),
-            Picked::Nothing | Picked::Short => Err(Stop::Nowhere),
+            Picked::Nothing => Err(Stop::Nowhere),
+            Picked::Short => Err(Stop::Short),
         }
     }
 

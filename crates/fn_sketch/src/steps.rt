@@ -190,7 +190,12 @@ fn ask(
 
 /// Follows a step of a plan that learns from what was drawn. The error is Nowhere or want of memory.
 #[inline(never)]
-fn follow(alloc: Global, desk: &Desk<'_>, sheet: &mut Sheet<'_>, step: Step) -> Result<(), Stop> {
+pub(crate) fn follow(
+    alloc: Global,
+    desk: &Desk<'_>,
+    sheet: &mut Sheet<'_>,
+    step: Step,
+) -> Result<(), Stop> {
     match step {
         Step::LibraryUp(field) => go_up(alloc, desk, sheet, field),
         Step::LibraryDown(field) => go_down(alloc, desk, sheet, field),

@@ -2,7 +2,7 @@
 
 use crate::counting::count_notes;
 use crate::places::{constraint_place, place_text};
-use fn_bits::lines::lines;
+use fn_bits::lines::{LinesError, lines};
 use fn_cert::{Certificate, Direction, Step};
 use fn_normal::Method;
 use fn_profile::Profile;
@@ -170,8 +170,10 @@ fn text_line(
     if text.is_empty() {
         return Ok(None);
     }
-    let Ok(lines) = lines(alloc, text.as_bytes()) else {
-        return Ok(None);
+    let lines = match lines(alloc, text.as_bytes()) {
+        Ok(lines) => lines,
+        Err(LinesError::NotText { line: _ }) => return Ok(None),
+        Err(LinesError::OutOfMemory) => return Err(AllocError),
     };
     let mut is_here = false;
     let mut in_format = false;

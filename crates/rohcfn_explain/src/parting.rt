@@ -1,6 +1,7 @@
 //! What two formats are known to begin with, which no tree parts.
 
 use crate::places::place_text;
+use fn_cert::Version;
 use fn_profile::Profile;
 use fn_trees::{Told, all_told};
 use rohcfn_names::names::{format_name, method_place};
@@ -9,11 +10,13 @@ use std::alloc::{AllocError, Global};
 /// So many bits are shown at most.
 const SHOWN: u128 = 64;
 
-/// The first bits of two formats of a method, as far as they are known of all packets, and that this is no proof of two readings.
+/// The first bits of two formats of a method, as far as they are known of all packets, and that this is no proof of two readings: only that no test of a certificate of
+/// that version parts the two.
 pub fn tree_notes(
     alloc: Global,
     octets: &[u8],
     profile: &Profile,
+    version: Version,
     method: usize,
     first: usize,
     second: usize,
@@ -37,14 +40,23 @@ pub fn tree_notes(
     let bits = bits_text(alloc, one, count)?;
     let others = bits_text(alloc, other, count)?;
     format!(in alloc;
-        "{}{} begins with {}, {} with {}; a point is a bit that is not known\n{}this is no proof that a packet has two readings: only that no bit and no parameter parts the two\n",
+        "{}{} begins with {}, {} with {}; a point is a bit that is not known\n{}this is no proof that a packet has two readings: only that {} parts the two\n",
         place.as_str(),
         format_name(methods, method, first),
         bits.as_str(),
         format_name(methods, method, second),
         others.as_str(),
-        place.as_str()
+        place.as_str(),
+        tests_named(version)
     )
+}
+
+/// What the tests of a tree look at, in a certificate of that version.
+fn tests_named(version: Version) -> &'static str {
+    match version {
+        Version::One => "no bit and no parameter",
+        Version::Two => "no bit, no parameter and no reference",
+    }
 }
 
 /// How many bits are shown for a format: up to its last known one below the limit, and eight at least.

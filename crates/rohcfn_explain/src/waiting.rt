@@ -1,24 +1,17 @@
-//! Which step of a plan waits first, and for what. All steps are taken that can be, as the prover takes them. Of the first side that is missing then, the first step
-//! is told that would give it, with the first fact that it lacks. A fact that a field was taken or called is followed to the step that takes or calls it.
+//! Which step of a plan waits first, and for what. The prover's own search (fn_order) tells which steps have a rule, and what is known where none is next. Of the
+//! first side that is missing then, the first step is told that would give it, with the first fact that it lacks. A fact that a field was taken or called is
+//! followed to the step that takes or calls it.
 
 use crate::places::{constraint_place, naming_place, place_text};
 use fn_cert::{Direction, Fact, Step, Version};
 use fn_expr::Side;
 use fn_normal::{Format, FormatSizes, MethodSizes};
-use fn_order::FieldSide;
-use fn_plans::{Knowledge, NeedRule, enables, lacking, rule_of};
+use fn_order::{FieldSide, Possible, follow_order};
+use fn_plans::{Knowledge, NeedRule, lacking};
 use fn_profile::Profile;
 use fn_source::Span;
 use rohcfn_names::names::{field_name, format_at, method_place};
-use sqlite_items::Items;
 use std::alloc::{AllocError, Global};
-
-/// A step with its rule.
-#[derive(Drop)]
-struct Possible<'a> {
-    step: Step,
-    rule: NeedRule<'a>,
-}
 
 /// What waits: a step for a fact, or nothing that would give the fact.
 #[derive(Clone, Copy)]
@@ -48,10 +41,14 @@ pub fn plan_notes(
     let Some(first) = sides.get(0) else {
         return Ok(String::new(alloc));
     };
-    let steps = possible_steps(alloc, version, direction, profile.sizes(), sizes, found)?;
-    let known = closure(alloc, found, steps.as_slice())?;
+    let followed = follow_order(alloc, version, direction, profile.sizes(), sizes, found)?;
     let missing = Fact::BitsOf(first.side, first.field);
-    let waiting = first_waiting(&known, found, steps.as_slice(), missing);
+    let waiting = first_waiting(
+        &followed.known,
+        found,
+        followed.possible.as_slice(),
+        missing,
+    );
     let place = place_of(found, waiting, method_place(methods, method));
     let mut text = place_text(alloc, octets, place)?;
     push_waiting(alloc, &mut text, profile, method, format, waiting)?;
@@ -60,94 +57,6 @@ pub fn plan_notes(
 
 fn sizes_at(table: &[MethodSizes], method: usize, format: usize) -> Option<&FormatSizes> {
     table.get(method)?.formats.get(format)
-}
-
-/// All steps that have a rule, field by field.
-fn possible_steps<'a>(
-    alloc: Global,
-    version: Version,
-    direction: Direction,
-    table: &[MethodSizes],
-    sizes: &FormatSizes,
-    format: &'a Format,
-) -> Result<Items<Possible<'a>>, AllocError> {
-    let mut found = Items::new(alloc);
-    for step in all_steps(alloc, format)?.as_slice() {
-        if let Some(rule) = rule_of(alloc, version, direction, table, sizes, format, *step)? {
-            found.push(Possible { step: *step, rule })?;
-        }
-    }
-    Ok(found)
-}
-
-fn all_steps(alloc: Global, format: &Format) -> Result<Items<Step>, AllocError> {
-    let mut steps = Items::new(alloc);
-    for field in 0..format.fields.len() {
-        steps.push(Step::Take(field))?;
-        steps.push(Step::Call(field))?;
-        steps.push(Step::Ask(field))?;
-        steps.push(Step::LibraryUp(field))?;
-        steps.push(Step::LibraryDown(field))?;
-        for number in 0..format.constraints.len() {
-            steps.push(Step::Solve(field, number))?;
-        }
-        push_lengths(
-            &mut steps,
-            field,
-            Side::Uncompressed,
-            format.constraints.len(),
-        )?;
-        push_lengths(
-            &mut steps,
-            field,
-            Side::Compressed,
-            format.constraints.len(),
-        )?;
-        steps.push(Step::Choose(field))?;
-    }
-    Ok(steps)
-}
-
-fn push_lengths(
-    steps: &mut Items<Step>,
-    field: usize,
-    side: Side,
-    constraints: usize,
-) -> Result<(), AllocError> {
-    steps.push(Step::MethodLength(field, side))?;
-    for number in 0..constraints {
-        steps.push(Step::ConstraintLength(field, side, number))?;
-    }
-    Ok(())
-}
-
-/// What is known where each step is taken that can be. Each round but the last learns one of five facts of a field.
-fn closure(
-    alloc: Global,
-    format: &Format,
-    steps: &[Possible<'_>],
-) -> Result<Knowledge, AllocError> {
-    let mut known = Knowledge::at_start(alloc, format)?;
-    for _ in 0..format.fields.len().saturating_mul(5) {
-        if !learn_round(&mut known, format, steps) {
-            return Ok(known);
-        }
-    }
-    Ok(known)
-}
-
-/// Takes each step that can be taken and gives something new. Whether one was.
-fn learn_round(known: &mut Knowledge, format: &Format, steps: &[Possible<'_>]) -> bool {
-    let mut learns = false;
-    for possible in steps {
-        let written = possible.rule.gives.written();
-        let gives = written.as_slice();
-        if !known.has_all(gives) && enables(known, format, &possible.rule) {
-            known.learn_all(gives);
-            learns = true;
-        }
-    }
-    learns
 }
 
 /// The step that would give the fact, with what it lacks. From a field that wasn't taken or called it goes on, at most once for each field.

@@ -134,8 +134,8 @@ fn is_long(text: &str) -> bool
     text.chars().count() > SHOWN_LIMIT
 }
 
-// Adds a character as it is, but a control character escaped.
-fn push_shown(shown: &mut String, character: char) -> Result<(), AllocError>
+/// Adds a character as it is, but a control character escaped, so that a terminal shows it and doesn't obey.
+pub fn push_shown(shown: &mut String, character: char) -> Result<(), AllocError>
     ensures { OnOk result (string_bytes shown.new ≡ string_bytes shown.old ++ shown_character character) }
 {
     if character.is_control() {

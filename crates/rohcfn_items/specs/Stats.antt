@@ -1,5 +1,5 @@
 -- What `stats` prints of what was packed: a head line, and a table of the formats of the top and their fields (docs/FORMATS.md).
-use Rattle.std.specs.Prelude.{ℕ, ◌*◌, ◌/◌, ◌%◌, List, [], ◌∷◌, ◌++◌, codes, decimal, flat_map, nat_eq, if◌then◌else◌}
+use Rattle.std.specs.Prelude.{ℕ, ◌+◌, ◌*◌, ◌/◌, ◌%◌, List, [], ◌∷◌, ◌++◌, codes, decimal, flat_map, nat_eq, if◌then◌else◌}
 use Rattle.std.specs.List.{enumerate_from}
 use Rattle.fn_normal.specs.declared.profile.Format.{Format}
 use Rattle.fn_normal.specs.declared.profile.Method.{Method}
@@ -12,9 +12,13 @@ use Rattle.rohcfn_names.specs.Names.{field_name, format_name, formats_of}
 abbrev pub tenths_text : ℕ → List ℕ
 tenths_text tenths = decimal (tenths / 10) ++ codes "." ++ decimal (tenths % 10)
 
--- the mean with one decimal, rounded down; of no items there is none
+-- the nearest number of tenths to the bits over the items, the greater of two that are as near
+abbrev pub tenths_near : ℕ → ℕ → ℕ
+tenths_near bits items = (bits * 20 + items) / (items * 2)
+
+-- the mean with one decimal; of no items there is none
 abbrev pub mean_text : Tally → List ℕ
-mean_text t = if nat_eq t.items 0 then codes "-" else tenths_text (t.bits * 10 / t.items)
+mean_text t = if nat_eq t.items 0 then codes "-" else tenths_text (tenths_near t.bits t.items)
 
 abbrev pub head_line : Tally → List ℕ
 head_line t = codes "items " ++ decimal t.items ++ codes " bits " ++ decimal t.bits ++ codes " mean " ++ mean_text t

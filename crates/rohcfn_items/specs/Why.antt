@@ -1,5 +1,5 @@
 -- What `why` prints of the reasons that stand against formats: a line for each (docs/FORMATS.md).
-use Rattle.std.specs.Prelude.{ℕ, List, ◌++◌, Option, None, codes, decimal, flat_map, replicate, slice_get, string_bytes}
+use Rattle.std.specs.Prelude.{ℕ, List, ◌++◌, Option, Some, None, codes, decimal, flat_map, replicate, slice_get, string_bytes}
 use Rattle.std.specs.Fmt.{signed_decimal}
 use Rattle.std.specs.Option.{option_and_then, unwrap_or}
 use Rattle.fn_source.specs.declared.span.Span.{Span}
@@ -12,14 +12,18 @@ use Rattle.fn_expr.specs.declared.expr.Subject.{Subject}
 use Rattle.fn_expr.specs.declared.expr.Subject.TheVariants as subject
 use Rattle.fn_expr.specs.declared.inputs.Input.{Input}
 use Rattle.fn_expr.specs.declared.inputs.Input.TheVariants as input
+use Rattle.fn_normal.specs.declared.profile.Constraint.{Constraint}
+use Rattle.fn_normal.specs.declared.profile.Constraint.TheVariants.{Bracket, Enforce}
 use Rattle.fn_normal.specs.declared.profile.Method.{Method}
 use Rattle.fn_lint.specs.declared.obstacle.Obstacle.TheVariants as obstacle
+use Rattle.fn_filling.specs.declared.filling.AskedValue.{AskedValue}
 use Rattle.fn_profile.specs.Resolved.{Resolved}
 use Rattle.fn_cert_text.specs.Text.{name_of}
 use Rattle.fn_reasons.specs.declared.figures.Figure.{Figure}
 use Rattle.fn_reasons.specs.declared.line.Line.{Line}
 use Rattle.fn_reasons.specs.declared.reason.Reason.{Reason}
 use Rattle.fn_reasons.specs.declared.reason.Reason.TheVariants.{Dead, Short, Long, Cut, NoReference, Differs, NoSide, Untrue, Undefined, Inside, Nothing}
+use Rattle.rohcfn_items.specs.Asked.{front_words}
 use Rattle.rohcfn_items.specs.BitTexts.{bits_text}
 use Rattle.rohcfn_items.specs.Fields.{encoding_at, method_word}
 use Rattle.rohcfn_names.specs.Obstacles.{first_bracket, obstacle_words}
@@ -83,6 +87,12 @@ figure_words methods k n f = codes "; " ++ input_name methods k n f.input ++ cod
 abbrev pub false_words : List Method → ℕ → ℕ → List Figure → List ℕ
 false_words methods k n figures = codes "the condition is false" ++ flat_map (figure_words methods k n) figures
 
+-- that a bracket has no length of its side, or that a condition is false
+abbrev pub untrue_words : List Method → ℕ → ℕ → Option Constraint → List Figure → List ℕ
+untrue_words methods k n (Some (Bracket i side lengths place)) figures = field_name methods k n i ++ codes " has no length here that this bracket has"
+untrue_words methods k n (Some (Enforce condition place)) figures = false_words methods k n figures
+untrue_words methods k n None figures = false_words methods k n figures
+
 abbrev pub reason_words : Resolved → ℕ → ℕ → Reason → List ℕ
 reason_words p k n (Dead o) = obstacle_words p k n o
 reason_words p k n (Short length least) = decimal length ++ codes " bits are there, and at least " ++ decimal least ++ codes " are due"
@@ -91,10 +101,14 @@ reason_words p k n (Cut i left due) = coded_words p.methods k n i ++ codes ": " 
 reason_words p k n (NoReference i path) = coded_words p.methods k n i ++ codes ": the context has no entry " ++ string_bytes path ++ codes ", and INITIAL gives none"
 reason_words p k n (Differs i side found due) = coded_words p.methods k n i ++ codes ": the " ++ side_word side ++ codes " has " ++ bits_text found ++ codes ", and " ++ bits_text due ++ codes " is due"
 reason_words p k n (NoSide i side found) = coded_words p.methods k n i ++ codes ": the " ++ side_word side ++ codes " has " ++ bits_text found ++ codes ", with which nothing goes"
-reason_words p k n (Untrue j figures) = false_words p.methods k n figures
-reason_words p k n (Undefined at) = codes "this has no value, since it divides by 0"
+reason_words p k n (Untrue j figures) = untrue_words p.methods k n (slice_get (constraints_at p.methods k n) j) figures
+reason_words p k n (Undefined at) = codes "this has no value: it divides by 0, or its exponent is below 0"
 reason_words p k n (Inside i) = codes "nothing goes in " ++ field_name p.methods k n i ++ codes ", by no format of " ++ method_word p.methods (encoding_at p.methods k n i) None
 reason_words p k n Nothing = codes "nothing simple stands against it"
+
+-- what stands against it, after the asked values by which it goes
+abbrev pub line_words : Resolved → List AskedValue → Line → List ℕ
+line_words p asked l = front_words l.depth p.methods l.method l.format asked l.reason ++ reason_words p l.method l.format l.reason
 
 -- two blanks for each call on the way
 abbrev pub indent : ℕ → List ℕ
@@ -104,11 +118,11 @@ indent depth = replicate depth 32 ++ replicate depth 32
 abbrev pub reason_text : ℕ → ℕ → List ℕ → List ℕ → List ℕ → List ℕ → List ℕ
 reason_text line column blanks method format words = codes "\n" ++ decimal line ++ codes ":" ++ decimal column ++ codes ": " ++ blanks ++ method ++ codes "." ++ format ++ codes ": " ++ words
 
-abbrev pub reason_line : List ℕ → Resolved → Line → List ℕ
-reason_line octets p l =
+abbrev pub reason_line : List ℕ → Resolved → List AskedValue → Line → List ℕ
+reason_line octets p asked l =
     reason_text (line_of octets (reason_place p.methods l.method l.format l.reason).from) (column_of octets (reason_place p.methods l.method l.format l.reason).from) (indent l.depth)
-    (method_name p.methods l.method) (format_name p.methods l.method l.format) (reason_words p l.method l.format l.reason)
+    (method_name p.methods l.method) (format_name p.methods l.method l.format) (line_words p asked l)
 
 -- each after a line feed
-abbrev pub reasons_text : List ℕ → Resolved → List Line → List ℕ
-reasons_text octets p lines = flat_map (reason_line octets p) lines
+abbrev pub reasons_text : List ℕ → Resolved → List AskedValue → List Line → List ℕ
+reasons_text octets p asked lines = flat_map (reason_line octets p asked) lines

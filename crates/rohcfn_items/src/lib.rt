@@ -1,6 +1,7 @@
 //! What is told of items and packets: `fields` prints the fields of a filling, `stats` what formats and fields cost, and `why` the reasons of a refusal.
 #![tactic(auto)]
 
+mod asked;
 pub mod fields;
 pub mod stats;
 pub mod why;

@@ -1,6 +1,6 @@
 //! What `stats` prints of what was packed.
 
-ghost use Rattle.std.specs.Prelude.{◌≡◌, ◌∷◌, ◌++◌, [], IfOk, OnOk, codes, decimal, string_bytes};
+ghost use Rattle.std.specs.Prelude.{◌≡◌, ◌<◌, ◌∷◌, ◌++◌, [], IfOk, OnOk, codes, decimal, string_bytes};
 ghost use Rattle.rohcfn_items.specs.Stats as spec;
 
 use fn_normal::{Format, Method};
@@ -41,14 +41,22 @@ fn head_words(alloc: Global, items: usize, bits: usize, mean: &str) -> Result<St
     format!(in alloc; "items {items} bits {bits} mean {mean}")
 }
 
-/// The mean with one decimal, rounded down; of no items there is none.
+/// The mean with one decimal, rounded to the nearest tenth, halves up; of no items there is none.
 fn mean_text(alloc: Global, tally: Tally) -> Result<String, AllocError>
     ensures { IfOk result (λ text. string_bytes text ≡ spec.mean_text tally) }
 {
     if tally.items == 0 {
         return String::from_str(alloc, "-");
     }
-    tenths_text(alloc, tally.bits as u128 * 10 / tally.items as u128)
+    tenths_text(alloc, tenths_near(tally.bits, tally.items))
+}
+
+/// The mean of so many bits over so many items, one or more: the nearest number of tenths, the greater of two.
+fn tenths_near(bits: usize, items: usize) -> u128
+    requires { 0 < items }
+    ensures { result ≡ spec.tenths_near bits items }
+{
+    (bits as u128 * 20 + items as u128) / (items as u128 * 2)
 }
 
 /// A number of tenths.

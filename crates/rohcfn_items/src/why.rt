@@ -1,17 +1,20 @@
 //! What `why` prints of the reasons that stand against formats.
 
-ghost use Rattle.std.specs.Prelude.{◌≡◌, ◌++◌, IfOk, OnOk, None, codes, decimal, string_bytes};
+ghost use Rattle.std.specs.Prelude.{◌≡◌, ◌++◌, IfOk, OnOk, Some, None, codes, decimal, slice_get, string_bytes};
 ghost use Rattle.std.specs.Fmt.{signed_decimal};
 ghost use Rattle.std.specs.Option.{option_copied};
 ghost use Rattle.rohcfn_items.specs.BitTexts.{bits_text};
 ghost use Rattle.rohcfn_items.specs.Fields.{encoding_at as encoding_of, method_word};
 ghost use Rattle.rohcfn_items.specs.Why as spec;
+ghost use Rattle.rohcfn_names.specs.Names.{constraints_at};
 
+use crate::asked::front_words;
 use crate::fields::{bits_cell, encoding_at, method_cell};
 use fn_bits::Bits;
 use fn_expr::{Input, Measure, Side, Subject};
+use fn_filling::AskedValue;
 use fn_lint::{DeadFormat, Obstacle};
-use fn_normal::{Method, Name};
+use fn_normal::{Constraint, Method, Name};
 use fn_profile::Profile;
 use fn_reasons::{Figure, Line, Reason};
 use fn_source::{Span, line_column};
@@ -21,19 +24,20 @@ use rohcfn_names::obstacles::{bracket_or, obstacle_words, place_of};
 use rohcfn_names::table::push_blanks;
 use std::alloc::{AllocError, Global};
 
-/// Adds a line for each, after a line feed: where in the profile it stands, the method and the format, and what stands against that. Each method that a field
-/// calls stands two blanks further in.
+/// Adds a line for each, after a line feed: where in the profile it stands, the method and the format, and what stands against that, after the asked values by which
+/// it goes. Each method that a field calls stands two blanks further in.
 pub fn push_reasons(
     alloc: Global,
     output: &mut String,
     octets: &[u8],
     profile: &Profile,
+    asked: &[AskedValue],
     lines: &[Line],
 ) -> Result<(), AllocError>
-    ensures { OnOk result (string_bytes output.new ≡ string_bytes output.old ++ spec.reasons_text octets.now profile.now lines.now) }
+    ensures { OnOk result (string_bytes output.new ≡ string_bytes output.old ++ spec.reasons_text octets.now profile.now asked.now lines.now) }
 {
     for line in lines {
-        push_reason(alloc, output, octets, profile, line)?;
+        push_reason(alloc, output, octets, profile, asked, line)?;
     }
     Ok(())
 }
@@ -44,11 +48,12 @@ fn push_reason(
     output: &mut String,
     octets: &[u8],
     profile: &Profile,
+    asked: &[AskedValue],
     line: &Line,
 ) -> Result<(), AllocError>
-    ensures { OnOk result (string_bytes output.new ≡ string_bytes output.old ++ spec.reason_line octets.now profile.now line.now) }
+    ensures { OnOk result (string_bytes output.new ≡ string_bytes output.old ++ spec.reason_line octets.now profile.now asked.now line.now) }
 {
-    let text = reason_line(alloc, octets, profile, line)?;
+    let text = reason_line(alloc, octets, profile, asked, line)?;
     output.push_str(text.as_str())
 }
 
@@ -56,16 +61,17 @@ fn reason_line(
     alloc: Global,
     octets: &[u8],
     profile: &Profile,
+    asked: &[AskedValue],
     line: &Line,
 ) -> Result<String, AllocError>
-    ensures { IfOk result (λ text. string_bytes text ≡ spec.reason_line octets.now profile.now line.now) }
+    ensures { IfOk result (λ text. string_bytes text ≡ spec.reason_line octets.now profile.now asked.now line.now) }
 {
     let methods = profile.methods();
     let (method, format) = (line.method, line.format);
     let at = reason_place(methods, method, format, &line.reason);
     let place = line_column(octets, at.from as usize);
     let blanks = indent(alloc, line.depth)?;
-    let words = reason_words(alloc, profile, method, format, &line.reason)?;
+    let words = line_words(alloc, profile, asked, line)?;
     reason_text(
         alloc,
         place.line,
@@ -75,6 +81,24 @@ fn reason_line(
         format_name(methods, method, format),
         words.as_str(),
     )
+}
+
+/// What stands against it, after the asked values by which it goes.
+fn line_words(
+    alloc: Global,
+    profile: &Profile,
+    asked: &[AskedValue],
+    line: &Line,
+) -> Result<String, AllocError>
+    ensures { IfOk result (λ text. string_bytes text ≡ spec.line_words profile.now asked.now line.now) }
+{
+    let methods = profile.methods();
+    let (method, format) = (line.method, line.format);
+    let reason = &line.reason;
+    let mut front = front_words(alloc, line.depth, methods, method, format, asked, reason)?;
+    let words = reason_words(alloc, profile, method, format, reason)?;
+    front.push_str(words.as_str())?;
+    Ok(front)
 }
 
 fn reason_text(
@@ -180,11 +204,22 @@ fn reason_words(
         Reason::NoSide { field, side, found } => {
             lacking_words(alloc, methods, method, format, *field, *side, found)
         }
-        Reason::Untrue { figures, .. } => {
-            false_words(alloc, methods, method, format, figures.as_slice())
-        }
+        Reason::Untrue {
+            constraint,
+            figures,
+        } => untrue_words(
+            alloc,
+            methods,
+            method,
+            format,
+            *constraint,
+            figures.as_slice(),
+        ),
         Reason::Undefined { .. } => {
-            String::from_str(alloc, "this has no value, since it divides by 0")
+            String::from_str(
+                alloc,
+                "this has no value: it divides by 0, or its exponent is below 0",
+            )
         }
         Reason::Inside { field } => inside_words(alloc, methods, method, format, *field),
         Reason::Nothing => String::from_str(alloc, "nothing simple stands against it"),
@@ -316,6 +351,53 @@ fn called_words(alloc: Global, name: &str, called: &str) -> Result<String, Alloc
     ensures { IfOk result (λ text. string_bytes text ≡ codes "nothing goes in " ++ name.now ++ codes ", by no format of " ++ called.now) }
 {
     format!(in alloc; "nothing goes in {name}, by no format of {called}")
+}
+
+/// That a bracket has no length of its side, or that a condition is false.
+fn untrue_words(
+    alloc: Global,
+    methods: &[Method],
+    method: usize,
+    format: usize,
+    constraint: usize,
+    figures: &[Figure],
+) -> Result<String, AllocError>
+    ensures { IfOk result (λ text. string_bytes text ≡ spec.untrue_words methods.now method format (slice_get (constraints_at methods.now method format) constraint) figures.now) }
+{
+    match constraints_at(methods, method, format).get(constraint) {
+        Some(found) => constraint_words(alloc, methods, method, format, found.get(), figures),
+        None => false_words(alloc, methods, method, format, figures),
+    }
+}
+
+fn constraint_words(
+    alloc: Global,
+    methods: &[Method],
+    method: usize,
+    format: usize,
+    constraint: &Constraint,
+    figures: &[Figure],
+) -> Result<String, AllocError>
+    ensures { IfOk result (λ text. string_bytes text ≡ spec.untrue_words methods.now method format (Some constraint.now) figures.now) }
+{
+    match constraint {
+        Constraint::Bracket {
+            field,
+            side: _,
+            lengths: _,
+            place: _,
+        } => bracket_words(alloc, field_name(methods, method, format, *field)),
+        Constraint::Enforce {
+            condition: _,
+            place: _,
+        } => false_words(alloc, methods, method, format, figures),
+    }
+}
+
+fn bracket_words(alloc: Global, name: &str) -> Result<String, AllocError>
+    ensures { IfOk result (λ text. string_bytes text ≡ name.now ++ codes " has no length here that this bracket has") }
+{
+    format!(in alloc; "{name} has no length here that this bracket has")
 }
 
 /// That a condition is false, and the numbers by which it goes.

@@ -1,6 +1,7 @@
 -- What keeps every filling from a format: where its reason stands in the profile, and its words (docs/FORMATS.md).
-use Rattle.std.specs.Prelude.{ℕ, List, [], ◌++◌, Option, None, Some, codes, decimal, slice_get, option_and_then, option_map, ◌∷◌, ◌&&◌, nat_eq, unwrap_or, if◌then◌else◌, ◌+◌, true}
+use Rattle.std.specs.Prelude.{ℕ, ℤ, List, [], ◌++◌, Option, None, Some, codes, decimal, slice_get, option_and_then, option_map, ◌∷◌, ◌&&◌, nat_eq, unwrap_or, if◌then◌else◌, ◌+◌, true}
 use Rattle.fn_normal.specs.declared.profile.Method.{Method}
+use Rattle.std.specs.Fmt.{signed_decimal}
 use Rattle.std.specs.Option.{option_or}
 use Rattle.fn_source.specs.declared.span.Span.{Span}
 use Rattle.fn_expr.specs.declared.expr.Side.{Side}
@@ -8,6 +9,9 @@ use Rattle.fn_expr.specs.declared.expr.Side.TheVariants.{Uncompressed, Compresse
 use Rattle.fn_normal.specs.declared.profile.Bounds.{Bounds}
 use Rattle.fn_normal.specs.declared.profile.Constraint.{Constraint}
 use Rattle.fn_normal.specs.declared.profile.Constraint.TheVariants.{Bracket, Enforce}
+use Rattle.fn_normal.specs.declared.profile.Encoding.{Encoding}
+use Rattle.fn_normal.specs.declared.profile.Encoding.TheVariants as encoding
+use Rattle.fn_normal.specs.declared.profile.Field.{Field}
 use Rattle.fn_normal.specs.declared.profile.FormatSizes.{FormatSizes}
 use Rattle.fn_normal.specs.declared.profile.MethodSizes.{MethodSizes}
 use Rattle.fn_profile.specs.Resolved.{Resolved}
@@ -17,7 +21,7 @@ use Rattle.fn_lint.specs.declared.obstacle.Obstacle.{Obstacle}
 use Rattle.fn_lint.specs.declared.obstacle.Obstacle.TheVariants as obstacle
 use Rattle.fn_bounds.specs.Faults.{side_bounds}
 use Rattle.fn_fits.specs.Bounded.{sizes_at}
-use Rattle.rohcfn_names.specs.Names.{constraints_at, field_name, method_place}
+use Rattle.rohcfn_names.specs.Names.{constraints_at, field_at, field_name, method_name, method_place}
 
 -- the place of a bracket of this side of the field i
 abbrev pub bracket_of : ℕ → Side → Constraint → Option Span
@@ -34,11 +38,15 @@ abbrev pub constraint_place : Constraint → Span
 constraint_place (Bracket i side lengths place) = place
 constraint_place (Enforce condition place) = place
 
--- the bracket of the side that has no length, or of what `lsb` or `crc` sends; the condition; the method's name where there is no bracket
+-- the bracket of the side that has no length, or of what `lsb`, `crc` or a call sends; the argument, or its part without a value; the condition or the bracket; the method's name where there
+-- is no bracket
 abbrev pub obstacle_place : List Constraint → Span → Obstacle → Span
 obstacle_place cs at (obstacle.NoLength i side) = unwrap_or (first_bracket i side cs) at
 obstacle_place cs at (obstacle.SendsMore i) = unwrap_or (first_bracket i Compressed cs) at
 obstacle_place cs at (obstacle.SplitsOctets i) = unwrap_or (first_bracket i Compressed cs) at
+obstacle_place cs at (obstacle.NoValue place) = place
+obstacle_place cs at (obstacle.OutOfRange u) = u.at
+obstacle_place cs at (obstacle.CallsDead i) = unwrap_or (first_bracket i Compressed cs) at
 obstacle_place cs at (obstacle.NeverTrue j) = unwrap_or (option_map constraint_place (slice_get cs j)) at
 
 abbrev pub place_of : List Method → DeadFormat → Span
@@ -65,10 +73,43 @@ lsb_words name sent most = codes "lsb of " ++ decimal sent ++ codes " bits on " 
 abbrev pub crc_words : List ℕ → List ℕ
 crc_words name = codes "crc " ++ name ++ codes " is over bits that are never whole octets"
 
+abbrev pub range_words : ℤ → ℤ → List ℕ
+range_words from to = codes "this argument has to be from " ++ signed_decimal from ++ codes " to " ++ signed_decimal to ++ codes ", and never is"
+
+-- of a bracket, with the bounds of its side; of a condition
+abbrev pub bracket_words : List ℕ → Bounds → Side → List ℕ
+bracket_words name b side = length_words name b side ++ codes ", and this bracket has no such length"
+
+abbrev pub constraint_words : Resolved → ℕ → ℕ → Option Constraint → List ℕ
+constraint_words p k n (Some (Bracket i side lengths place)) = bracket_words (field_name p.methods k n i) (bounds_at p.sizes k n i side) side
+constraint_words p k n (Some (Enforce condition place)) = codes "the condition is never true"
+constraint_words p k n None = codes "the condition is never true"
+
+-- the method that a field calls, by its name
+abbrev pub called_by : Encoding → Option ℕ
+called_by (encoding.Call j arguments) = Some j
+called_by _ = None
+
+abbrev pub callee_at : List Method → ℕ → ℕ → ℕ → Option ℕ
+callee_at methods k n i = option_and_then (λ (d : Field). called_by d.encoding) (field_at methods k n i)
+
+abbrev pub callee_name : List Method → Option ℕ → List ℕ
+callee_name methods (Some j) = method_name methods j
+callee_name methods None = codes "-"
+
+abbrev pub called_name : List Method → ℕ → ℕ → ℕ → List ℕ
+called_name methods k n i = callee_name methods (callee_at methods k n i)
+
+abbrev pub call_words : List ℕ → List ℕ → List ℕ
+call_words name called = name ++ codes " calls " ++ called ++ codes ", by which nothing can be packed"
+
 -- what keeps every filling from the format n of the method k
 abbrev pub obstacle_words : Resolved → ℕ → ℕ → Obstacle → List ℕ
 obstacle_words p k n (obstacle.NoLength i side) = length_words (field_name p.methods k n i) (bounds_at p.sizes k n i side) side
 obstacle_words p k n (obstacle.SendsMore i) =
     lsb_words (field_name p.methods k n i) (bounds_at p.sizes k n i Compressed).least (bounds_at p.sizes k n i Uncompressed).most
 obstacle_words p k n (obstacle.SplitsOctets i) = crc_words (field_name p.methods k n i)
-obstacle_words p k n (obstacle.NeverTrue j) = codes "the condition is never true"
+obstacle_words p k n (obstacle.NoValue place) = codes "this has no value: it divides by 0, or its exponent is below 0"
+obstacle_words p k n (obstacle.OutOfRange u) = range_words u.due.from u.due.to
+obstacle_words p k n (obstacle.NeverTrue j) = constraint_words p k n (slice_get (constraints_at p.methods k n) j)
+obstacle_words p k n (obstacle.CallsDead i) = call_words (field_name p.methods k n i) (called_name p.methods k n i)

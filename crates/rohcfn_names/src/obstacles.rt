@@ -1,16 +1,18 @@
 //! What keeps every filling from a format: its place in the profile, and its words.
 
-ghost use Rattle.std.specs.Prelude.{◌≡◌, IfOk, option_and_then, slice_get, string_bytes, unwrap_or};
+ghost use Rattle.std.specs.Prelude.{◌≡◌, ◌++◌, codes, IfOk, Some, option_and_then, slice_get, string_bytes, unwrap_or};
 ghost use Rattle.fn_fits.specs.Bounded.{sizes_at};
 ghost use Rattle.fn_rules.specs.Facts.{same_side};
+ghost use Rattle.rohcfn_names.specs.Names.{constraints_at};
 ghost use Rattle.rohcfn_names.specs.Obstacles as spec;
 
-use crate::names::{constraints_at, field_name, method_place};
-use fn_expr::Side;
+use crate::names::{constraints_at, field_at, field_name, method_name, method_place};
+use fn_expr::{Interval, Side};
 use fn_lint::{DeadFormat, Obstacle};
-use fn_normal::{Bounds, Constraint, Method, Shared, Sizes};
+use fn_normal::{Bounds, Constraint, Encoding, Method, Shared, Sizes};
 use fn_profile::Profile;
 use fn_source::Span;
+use itoa::Buffer;
 use std::alloc::{AllocError, Global};
 
 /// Where in the profile the reason stands.
@@ -23,6 +25,9 @@ pub fn place_of(methods: &[Method], dead: DeadFormat) -> Span
         Obstacle::NoLength { field, side } => bracket_or(constraints, field, side, at),
         Obstacle::SendsMore { field } => bracket_or(constraints, field, Side::Compressed, at),
         Obstacle::SplitsOctets { field } => bracket_or(constraints, field, Side::Compressed, at),
+        Obstacle::CallsDead { field } => bracket_or(constraints, field, Side::Compressed, at),
+        Obstacle::NoValue { at: part } => part,
+        Obstacle::OutOfRange(unmet) => unmet.at,
         Obstacle::NeverTrue { constraint } => match constraints.get(constraint) {
             Some(found) => constraint_place(found.get()),
             None => at,
@@ -131,10 +136,130 @@ pub fn obstacle_words(
         Obstacle::SplitsOctets { field } => {
             crc_words(alloc, field_name(methods, method, format, field))
         }
-        Obstacle::NeverTrue { constraint: _ } => {
-            String::from_str(alloc, "the condition is never true")
+        Obstacle::NoValue { at: _ } => String::from_str(
+            alloc,
+            "this has no value: it divides by 0, or its exponent is below 0",
+        ),
+        Obstacle::OutOfRange(unmet) => range_words(alloc, unmet.due),
+        Obstacle::NeverTrue { constraint } => {
+            never_words(alloc, profile, method, format, constraint)
         }
+        Obstacle::CallsDead { field } => call_words(
+            alloc,
+            field_name(methods, method, format, field),
+            called_name(methods, method, format, field),
+        ),
     }
+}
+
+/// Of a condition that is never true, or a bracket with no length that its side may have.
+fn never_words(
+    alloc: Global,
+    profile: &Profile,
+    method: usize,
+    format: usize,
+    constraint: usize,
+) -> Result<String, AllocError>
+    ensures { IfOk result (λ text. string_bytes text ≡ spec.constraint_words profile.now method format (slice_get (constraints_at profile.now.methods method format) constraint)) }
+{
+    match constraints_at(profile.methods(), method, format).get(constraint) {
+        Some(found) => constraint_words(alloc, profile, method, format, found.get()),
+        None => String::from_str(alloc, "the condition is never true"),
+    }
+}
+
+fn constraint_words(
+    alloc: Global,
+    profile: &Profile,
+    method: usize,
+    format: usize,
+    constraint: &Constraint,
+) -> Result<String, AllocError>
+    ensures { IfOk result (λ text. string_bytes text ≡ spec.constraint_words profile.now method format (Some constraint.now)) }
+{
+    match constraint {
+        Constraint::Bracket {
+            field,
+            side,
+            lengths: _,
+            place: _,
+        } => bracket_words(
+            alloc,
+            field_name(profile.methods(), method, format, *field),
+            bounds_at(profile, method, format, *field, *side),
+            *side,
+        ),
+        Constraint::Enforce {
+            condition: _,
+            place: _,
+        } => String::from_str(alloc, "the condition is never true"),
+    }
+}
+
+fn bracket_words(
+    alloc: Global,
+    name: &str,
+    bounds: Bounds,
+    side: Side,
+) -> Result<String, AllocError>
+    ensures { IfOk result (λ text. string_bytes text ≡ spec.bracket_words name.now bounds side) }
+{
+    let lengths = length_words(alloc, name, bounds, side)?;
+    none_words(alloc, lengths.as_str())
+}
+
+fn none_words(alloc: Global, lengths: &str) -> Result<String, AllocError>
+    ensures { IfOk result (λ text. string_bytes text ≡ lengths.now ++ codes ", and this bracket has no such length") }
+{
+    format!(in alloc; "{lengths}, and this bracket has no such length")
+}
+
+fn range_words(alloc: Global, due: Interval) -> Result<String, AllocError>
+    ensures { IfOk result (λ text. string_bytes text ≡ spec.range_words due.from due.to) }
+{
+    let mut first = Buffer::new();
+    let mut last = Buffer::new();
+    due_words(alloc, first.format(due.from), last.format(due.to))
+}
+
+fn due_words(alloc: Global, from: &str, to: &str) -> Result<String, AllocError>
+    ensures { IfOk result (λ text. string_bytes text ≡ codes "this argument has to be from " ++ from.now ++ codes " to " ++ to.now ++ codes ", and never is") }
+{
+    format!(in alloc; "this argument has to be from {from} to {to}, and never is")
+}
+
+/// The name of the method that a field calls, or `-`.
+fn called_name(methods: &[Method], method: usize, format: usize, field: usize) -> &str
+    ensures { result.now ≡ spec.called_name methods.now method format field }
+{
+    match callee_at(methods, method, format, field) {
+        Some(called) => method_name(methods, called),
+        None => "-",
+    }
+}
+
+fn callee_at(methods: &[Method], method: usize, format: usize, field: usize) -> Option<usize>
+    ensures { result ≡ spec.callee_at methods.now method format field }
+{
+    match field_at(methods, method, format, field) {
+        Some(found) => called_by(found.encoding.get()),
+        None => None,
+    }
+}
+
+fn called_by(encoding: &Encoding) -> Option<usize>
+    ensures { result ≡ spec.called_by encoding.now }
+{
+    match encoding {
+        Encoding::Call { method, .. } => Some(*method),
+        Encoding::Bare | Encoding::Library(_) => None,
+    }
+}
+
+fn call_words(alloc: Global, name: &str, called: &str) -> Result<String, AllocError>
+    ensures { IfOk result (λ text. string_bytes text ≡ spec.call_words name.now called.now) }
+{
+    format!(in alloc; "{name} calls {called}, by which nothing can be packed")
 }
 
 fn field_bounds(profile: &Profile, method: usize, format: usize, field: usize) -> Option<Sizes>

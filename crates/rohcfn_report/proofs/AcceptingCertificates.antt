@@ -19,7 +19,7 @@ use Rattle.fn_cert_text.specs.declared.reading.CertificateError.{CertificateErro
 use Rattle.fn_rules.specs.declared.fault.CheckFault.{CheckFault}
 use Rattle.fn_rules.specs.Valid.{Valid}
 use Rattle.fn_checker.specs.Blaming as check
-use Rattle.fn_checker.specs.Judged.{AreEntriesRight}
+use Rattle.fn_checker.specs.Right.{AreEntriesRight}
 use Rattle.fn_accepted.specs.Accepted.{Accepting, IsAccepted}
 use Rattle.fn_checker.specs.declared.refusal.CheckError.{CheckError}
 use Rattle.fn_checker.specs.declared.refusal.CheckError.TheVariants.{Fault}

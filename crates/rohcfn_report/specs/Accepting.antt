@@ -10,9 +10,9 @@ use Rattle.fn_cert.specs.declared.certificate.Version.{Version}
 use Rattle.fn_cert.specs.Kept.{Certified, AreKept}
 use Rattle.fn_cert_text.specs.Faults.{IsReading, Blames, text_limit}
 use Rattle.fn_rules.specs.declared.fault.CheckFault.{CheckFault}
-use Rattle.fn_rules.specs.Refusals.{IsRefused}
 use Rattle.fn_rules.specs.Valid.{Valid}
-use Rattle.fn_checker.specs.Judged.{AreEntriesRight}
+use Rattle.fn_checker.specs.Right.{AreEntriesRight}
+use Rattle.fn_checker.specs.Blaming.{IsFirstFault}
 use Rattle.fn_accepted.specs.Accepted.{Accepting}
 use Rattle.fn_prover.specs.Proved.{IsProved, IsUnproved}
 use Rattle.fn_prover.specs.declared.unproved.Unproved.{Unproved}
@@ -53,8 +53,8 @@ pub data LacksCertificate (p : Resolved) (origin : Origin) (text : List ℕ) : T
 -- The line of what is wrong with the certificate of a profile.
 pub data RefusesCertificate (p : Resolved) (origin : Origin) (text : List ℕ) : Type 0 where
   lacking : LacksCertificate p origin text → RefusesCertificate p origin text
-  -- it is not valid
-  invalid : (cert : Certified) (fault : CheckFault) → IsCertificate p origin cert → IsRefused p.methods p.sizes p.top cert fault → text ≡ verdict_line p.methods fault → RefusesCertificate p origin text
+  -- it is not valid, and this is its first fault
+  invalid : (cert : Certified) (fault : CheckFault) → IsCertificate p origin cert → IsFirstFault p.methods p.sizes p.top cert fault → text ≡ verdict_line p.methods fault → RefusesCertificate p origin text
 
 -- a profile with its certificate, which is valid for it
 pub record IsAcceptedOf (p : Resolved) (origin : Origin) (a : Accepting) : Type 0 where
@@ -94,7 +94,7 @@ IsMade p version = IsFound p (Made version)
 -- what is found of a profile with this certificate
 abbrev pub IsVerdict : Resolved → Certified → Judged → Type 0
 IsVerdict p cert (judged.Accepted a) = (a.profile ≡ p) × (a.certificate ≡ cert) × Valid p.methods p.sizes p.top cert
-IsVerdict p cert (judged.Refused text) = (fault : CheckFault) × IsRefused p.methods p.sizes p.top cert fault × (string_bytes text ≡ verdict_line p.methods fault) × IsLine (string_bytes text)
+IsVerdict p cert (judged.Refused text) = (fault : CheckFault) × IsFirstFault p.methods p.sizes p.top cert fault × (string_bytes text ≡ verdict_line p.methods fault) × IsLine (string_bytes text)
 
 abbrev pub IsJudged : Resolved → Origin → Judged → Type 0
 IsJudged p origin (judged.Accepted a) = IsAcceptedOf p origin a

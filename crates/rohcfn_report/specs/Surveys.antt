@@ -1,5 +1,8 @@
 -- What `lint` and `draw` answer (docs/FORMATS.md).
-use Rattle.std.specs.Prelude.{ℕ, List, [], ◌∷◌, ◌++◌}
+use Rattle.std.specs.Prelude.{◌≡◌, ℕ, List, [], ◌∷◌, ◌++◌, Option, Some}
+use Rattle.std.specs.Borrow.{Bor}
+use Rattle.std.specs.Map.{keys_of}
+use Rattle.fn_context.specs.Entries.{Entries}
 use Rattle.fn_profile.specs.Resolved.{Resolved}
 use Rattle.fn_names.specs.Readings.{Reads}
 use Rattle.fn_lint.specs.declared.formats.DeadFormat.{DeadFormat}
@@ -7,22 +10,33 @@ use Rattle.fn_lint.specs.Listing.{AreDead}
 use Rattle.rohcfn_input.specs.declared.status.Answer.{Answer}
 use Rattle.rohcfn_input.specs.declared.status.Status.{Status}
 use Rattle.rohcfn_input.specs.declared.status.Status.TheVariants as status
-use Rattle.rohcfn_input.specs.Refusals.{Holds}
+use Rattle.rohcfn_input.specs.Inputs.{IsBadContext, StartsAt}
+use Rattle.rohcfn_input.specs.Refusals.{Holds, context_line}
 use Rattle.rohcfn_report.specs.ProfileLines.{IsFaultLine}
 use Rattle.rohcfn_survey.specs.Draw.{drawn}
 use Rattle.rohcfn_survey.specs.Lint.{lint_text}
 use Rattle.rohcfn_survey.specs.Warnings.{AreWarnings}
 
--- What is answered to `lint`.
-pub data LintedBy (top octets : List ℕ) : Status → List ℕ → Type 0 where
-  -- the profile is at fault
-  no_lint : (text : List ℕ) → IsFaultLine top octets text → LintedBy top octets status.Refused (text ++ 10 ∷ [])
-  -- the formats of the normal form by which nothing can be packed, and below them warnings
-  linted : (p : Resolved) (found : List DeadFormat) (warnings : List ℕ) → Reads octets top p → AreDead p 0 0 found → AreWarnings octets p warnings
-      → LintedBy top octets status.Done (lint_text octets p found ++ warnings)
+-- What is answered to `lint` of a normal form, by the part of the context.
+pub data LintedIn (octets : List ℕ) (p : Resolved) (context : Option (Bor (List ℕ))) : Status → List ℕ → Type 0 where
+  -- a line of the context can't be read
+  no_context : (given : Bor (List ℕ)) (n : ℕ) → context ≡ Some given → IsBadContext given.now n → LintedIn octets p context status.Refused (context_line n ++ 10 ∷ [])
+  -- the formats by which nothing can be packed, and below them warnings for a flow that begins with that context
+  linted : (ctx : Entries) (found : List DeadFormat) (warnings : List ℕ) → StartsAt context ctx → AreDead p 0 0 found → AreWarnings octets p (keys_of ctx) warnings
+      → LintedIn octets p context status.Done (lint_text octets p found ++ warnings)
 
-abbrev pub Lints : List ℕ → List ℕ → Answer → Type 0
-Lints top octets = Holds (LintedBy top octets)
+abbrev pub LintsBy : List ℕ → Resolved → Option (Bor (List ℕ)) → Answer → Type 0
+LintsBy octets p context = Holds (LintedIn octets p context)
+
+-- What is answered to `lint`.
+pub data LintedBy (top octets : List ℕ) (context : Option (Bor (List ℕ))) : Status → List ℕ → Type 0 where
+  -- the profile is at fault
+  no_lint : (text : List ℕ) → IsFaultLine top octets text → LintedBy top octets context status.Refused (text ++ 10 ∷ [])
+  -- by the normal form
+  by_form : {s : Status} {output : List ℕ} (p : Resolved) → Reads octets top p → LintedIn octets p context s output → LintedBy top octets context s output
+
+abbrev pub Lints : List ℕ → List ℕ → Option (Bor (List ℕ)) → Answer → Type 0
+Lints top octets context = Holds (LintedBy top octets context)
 
 -- What is answered to `draw`.
 pub data DrawnBy (top octets : List ℕ) : Status → List ℕ → Type 0 where

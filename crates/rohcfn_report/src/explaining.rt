@@ -7,8 +7,9 @@ use crate::check::answer_check;
 use crate::profile_and_certificate::Origin;
 use crate::prove::answer_prove;
 use fn_cert::{Certificate, Version};
+use fn_cert_text::CertificateError;
 use fn_checker::{CheckError, check};
-use fn_names::read;
+use fn_names::{ReadError, read};
 use fn_profile::Profile;
 use fn_prover::{Unproved, prove};
 use rohcfn_explain::faults::fault_notes;
@@ -83,7 +84,15 @@ fn prove_notes(
             Ok(_) => Ok(String::new(alloc)),
             Err(unproved) => unproved_notes(alloc, octets, &profile, version, unproved),
         },
-        Err(_) => Ok(String::new(alloc)),
+        Err(error) => profile_notes(alloc, error),
+    }
+}
+
+/// What explains the fault of a profile: nothing more than its line.
+fn profile_notes(alloc: Global, error: ReadError) -> Result<String, AllocError> {
+    match error {
+        ReadError::Text(_) | ReadError::Profile(_) => Ok(String::new(alloc)),
+        ReadError::OutOfMemory => Err(AllocError),
     }
 }
 
@@ -114,7 +123,7 @@ fn unproved_notes(
             method,
             first,
             second,
-        } => tree_notes(alloc, octets, profile, method, first, second),
+        } => tree_notes(alloc, octets, profile, version, method, first, second),
         Unproved::Limit => Ok(String::new(alloc)),
         Unproved::OutOfMemory => Err(AllocError),
     }
@@ -129,7 +138,7 @@ fn check_notes(
 ) -> Result<String, AllocError> {
     match read(alloc, octets, top.as_bytes()) {
         Ok(profile) => origin_notes(alloc, octets, profile, origin),
-        Err(_) => Ok(String::new(alloc)),
+        Err(error) => profile_notes(alloc, error),
     }
 }
 
@@ -146,13 +155,23 @@ fn origin_notes(
             };
             match fn_cert_text::read(alloc, &profile, text) {
                 Ok(certificate) => verdict_notes(alloc, octets, profile, certificate, text),
-                Err(_) => Ok(String::new(alloc)),
+                Err(error) => certificate_notes(alloc, error),
             }
         }
         Origin::Made(version) => match prove(alloc, &profile, version) {
             Ok(certificate) => verdict_notes(alloc, octets, profile, certificate, ""),
             Err(unproved) => unproved_notes(alloc, octets, &profile, version, unproved),
         },
+    }
+}
+
+/// What explains a text that is no certificate: nothing more than its line.
+fn certificate_notes(alloc: Global, error: CertificateError) -> Result<String, AllocError> {
+    match error {
+        CertificateError::BadWord { line: _ }
+        | CertificateError::UnknownName { line: _ }
+        | CertificateError::AboveLimits { line: _ } => Ok(String::new(alloc)),
+        CertificateError::OutOfMemory => Err(AllocError),
     }
 }
 

@@ -4,7 +4,7 @@ ghost use Rattle.std.specs.Prelude.{◌≡◌, IfOk, IfErr, IsTrue, string_bytes
 ghost use Rattle.std.specs.Str.{IsUtf8};
 ghost use Rattle.fn_cert_text.specs.Faults.{Blames};
 ghost use Rattle.fn_checker.specs.Blaming as checker;
-ghost use Rattle.fn_checker.specs.Judged.{AreEntriesRight};
+ghost use Rattle.fn_checker.specs.Right.{AreEntriesRight};
 ghost use Rattle.fn_profile.specs.Resolved.{Resolved};
 ghost use Rattle.rohcfn_report.specs.Accepting as spec;
 ghost use Rattle.rohcfn_names.specs.CheckFaults as verdicts;

@@ -1,32 +1,54 @@
 //! What is answered to `lint` and to `draw`.
 
 ghost use Rattle.std.specs.Prelude.{IfOk};
-ghost use Rattle.rohcfn_report.specs.Surveys.{Draws, Lints};
+ghost use Rattle.rohcfn_report.specs.Surveys.{Draws, Lints, LintsBy};
 
 use crate::show::error_line;
 use fn_names::read;
-use rohcfn_input::refusals::refusal;
+use fn_profile::Profile;
+use rohcfn_input::bundle::Parts;
+use rohcfn_input::inputs::{BadLine, read_context};
+use rohcfn_input::refusals::{context_line, refusal};
 use rohcfn_input::status::Answer;
 use rohcfn_survey::draw::draw_profile;
 use rohcfn_survey::lint::lint_profile;
 use std::alloc::{AllocError, Global};
 
-/// The formats of the profile by which no header can ever be packed, whatever the context holds, and warnings below them; for a profile with a fault its line. The
-/// octets of a context may be given, with which a flow begins.
+/// The formats of the profile by which no header can ever be packed, whatever the context holds, and warnings below them; for a profile with a fault its line, and
+/// else for a part `context` with a bad line that line. A flow begins with that context.
 pub fn answer_lint(
     alloc: Global,
     top: &str,
     octets: &[u8],
-    context: Option<&[u8]>,
+    parts: &Parts<'_>,
 ) -> Result<Answer, AllocError>
-    ensures { IfOk result (Lints top.now octets.now) }
+    ensures { IfOk result (Lints top.now octets.now parts.now.context) }
 {
     match read(alloc, octets, top.as_bytes()) {
-        Ok(profile) => lint_profile(alloc, octets, &profile, context),
+        Ok(profile) => lint_by(alloc, octets, &profile, parts),
         Err(error) => {
             let line = error_line(alloc, octets, error)?;
             refusal(alloc, line.as_str())
         }
+    }
+}
+
+/// The same of a profile without a fault.
+fn lint_by(
+    alloc: Global,
+    octets: &[u8],
+    profile: &Profile,
+    parts: &Parts<'_>,
+) -> Result<Answer, AllocError>
+    ensures { IfOk result (LintsBy octets.now profile.now parts.now.context) }
+{
+    match read_context(alloc, parts) {
+        Ok(context) => lint_profile(alloc, octets, profile, &context),
+        Err(BadLine::Number(number)) => {
+            let line = context_line(alloc, number)?;
+            refusal(alloc, line.as_str())
+        }
+        Err(BadLine::OutOfMemory) => Err(AllocError),
     }
 }
 

@@ -1,6 +1,9 @@
 -- The warnings of `lint`, and the numbers of candidates in them.
-use Rattle.std.proofs.Common.{◌≡◌, ◌∙◌, ℕ, List, sym, subst}
-use Rattle.std.specs.Prelude.{Result, Ok, Err, IfOk, String, [], string_bytes, true}
+use Rattle.std.proofs.Common.{◌≡◌, ◌∙◌, ℕ, ◌+◌, ◌<◌, ◌≤◌, List, ◌∷◌, ◌++◌, length, map, take, get_or, ap, sym, subst}
+use Rattle.std.specs.Prelude.{Result, Ok, Err, IfOk, String, Some, None, [], slice_get, string_bytes, true}
+use Rattle.std.specs.Borrow.{Bor}
+use Rattle.std.proofs.lemmas.List.{map-append, take_all, take_more}
+use Rattle.std.proofs.lemmas.Option.{get_or_from_slice_get, slice_get-get_or, slice_get_within}
 use Rattle.std.specs.Global.{Global}
 use Rattle.std.specs.declared.alloc.AllocError.{AllocError}
 use Rattle.fn_normal.specs.declared.profile.Method.{Method}
@@ -11,19 +14,24 @@ use Rattle.fn_prover.specs.Proved.{IsProved, IsUnproved}
 use Rattle.fn_prover.specs.declared.unproved.Unproved.{Unproved}
 use Rattle.fn_lint.specs.declared.needs.Needing.{Needing}
 use Rattle.fn_lint.specs.declared.spelled.Misspelled.{Misspelled}
+use Rattle.fn_lint.specs.Needs.{AreNeeding}
+use Rattle.fn_lint.specs.Paths.{AreThose, IsUnknown}
+use Rattle.fn_lint.specs.Spelled.{misspelled_names}
 use Rattle.rohcfn_survey.specs.Warnings.{AreCandidates, AreCountedLines, AreWarnings, counted, is_of_profile, unproved, warning_lines}
 
 -- the lines of what was found are warnings
-pub all_warned : (octets : List ℕ) (p : Resolved) (methods : List Method) (needing : List Needing) (misspelled : List Misspelled) (candidates given : List ℕ) (unknown : List (List ℕ)) (r : Result (String Global) AllocError)
-    → methods ≡ p.methods → AreCandidates octets p candidates → given ≡ candidates → IfOk r (λ text. string_bytes text ≡ warning_lines octets methods needing misspelled given unknown) → IfOk r (λ text. AreWarnings octets p (string_bytes text))
-all_warned octets p methods needing misspelled candidates given unknown (Err e) ms are same h = tt
-all_warned octets p methods needing misspelled candidates given unknown (Ok text) ms are same h = record {
+pub all_warned : (octets : List ℕ) (p : Resolved) (methods : List Method) (paths : List (List ℕ)) (needing : List Needing) (misspelled : List Misspelled) (candidates given : List ℕ) (unknown : List (List ℕ))
+    (r : Result (String Global) AllocError) → methods ≡ p.methods → AreNeeding p paths needing → misspelled ≡ misspelled_names methods → AreCandidates octets p candidates → given ≡ candidates → AreThose (IsUnknown p) paths unknown
+    → IfOk r (λ text. string_bytes text ≡ warning_lines octets methods needing misspelled given unknown) → IfOk r (λ text. AreWarnings octets p paths (string_bytes text))
+all_warned octets p methods paths needing misspelled candidates given unknown (Err e) ms needed spelled are same those h = tt
+all_warned octets p methods paths needing misspelled candidates given unknown (Ok text) ms needed spelled are same those h = record {
   needing = needing;
-  misspelled = misspelled;
+  are_needing = needed;
   candidates = candidates;
-  unknown = unknown;
   are_candidates = are;
-  text_is = h ∙ (λ i. warning_lines octets (ms i) needing misspelled (same i) unknown);
+  unknown = unknown;
+  are_unknown = those;
+  text_is = h ∙ (λ i. warning_lines octets (ms i) needing ((spelled ∙ ap misspelled_names ms) i) (same i) unknown);
 }
 
 -- the lines on candidates, by a certificate that is made, and where none is
@@ -36,3 +44,20 @@ pub no_lines : (octets : List ℕ) (p : Resolved) (why : Unproved) (r : Result (
     → IfOk r (λ text. AreCandidates octets p (string_bytes text))
 no_lines octets p why (Err e) is empty refused = tt
 no_lines octets p why (Ok text) is empty refused = subst (AreCandidates octets p) (sym empty) (unproved why is refused)
+
+-- the paths of a context, one after the other
+abbrev pub told : List (Bor (List ℕ)) → List (List ℕ)
+told paths = map (λ (p : Bor (List ℕ)). p.now) paths
+
+pub path_next : (keys : List (List ℕ)) (i : ℕ) (x : Bor (List ℕ)) (old new : List (Bor (List ℕ))) → slice_get keys i ≡ Some x.now → told old ≡ take i keys → new ≡ old ++ x ∷ [] → told new ≡ take (i + 1) keys
+path_next keys i x old new at so is =
+    ap told is ∙ map-append (λ (p : Bor (List ℕ)). p.now) old (x ∷ []) ∙ ap (λ ys. ys ++ x.now ∷ []) so ∙ sym (taken)
+  where
+    taken : take (i + 1) keys ≡ take i keys ++ x.now ∷ []
+    taken = take_more keys i x.now (slice_get_within keys i x.now at) ∙ ap (λ y. take i keys ++ y ∷ []) (get_or_from_slice_get keys i x.now x.now at)
+
+pub path_there : (keys : List (List ℕ)) (i : ℕ) → i < length keys → None ≡ slice_get keys i → ⊥
+path_there keys i lt none = let wrong : None ≡ Some (get_or keys i []) = none ∙ slice_get-get_or keys i [] lt in cc
+
+pub paths_all : (keys : List (List ℕ)) (i : ℕ) (found : List (Bor (List ℕ))) → length keys ≤ i → told found ≡ take i keys → told found ≡ keys
+paths_all keys i found over so = so ∙ take_all i keys over

@@ -1,6 +1,8 @@
 -- What `lint` prints: a line for each format by which nothing can be packed (docs/FORMATS.md).
 use Rattle.std.specs.Prelude.{◌≡◌, ℕ, List, ◌++◌, codes, decimal, flat_map, string_bytes}
+use Rattle.std.specs.Map.{keys_of}
 use Rattle.fn_source.specs.Places.{line_of, column_of}
+use Rattle.fn_context.specs.Entries.{Entries}
 use Rattle.fn_profile.specs.Resolved.{Resolved}
 use Rattle.fn_lint.specs.declared.formats.DeadFormat.{DeadFormat}
 use Rattle.fn_lint.specs.declared.obstacle.Obstacle.TheVariants as obstacle
@@ -24,7 +26,7 @@ lint_line octets p d =
 abbrev pub lint_text : List ℕ → Resolved → List DeadFormat → List ℕ
 lint_text octets p found = flat_map (lint_line octets p) found
 
--- the formats of a profile by which nothing can be packed, and warnings
-abbrev pub LintsProfile : List ℕ → Resolved → Answer → Type 0
-LintsProfile octets p a =
-    (found : List DeadFormat) × AreDead p 0 0 found × (a.status ≡ status.Done) × (warnings : List ℕ) × AreWarnings octets p warnings × (string_bytes a.output ≡ lint_text octets p found ++ warnings)
+-- the formats of a profile by which nothing can be packed, and warnings for a flow that begins with that context
+abbrev pub LintsProfile : List ℕ → Resolved → Entries → Answer → Type 0
+LintsProfile octets p ctx a =
+    (found : List DeadFormat) × AreDead p 0 0 found × (a.status ≡ status.Done) × (warnings : List ℕ) × AreWarnings octets p (keys_of ctx) warnings × (string_bytes a.output ≡ lint_text octets p found ++ warnings)

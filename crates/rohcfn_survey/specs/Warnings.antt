@@ -1,5 +1,5 @@
 -- What `lint` prints below the lines on formats by which nothing can be packed: warnings (docs/FORMATS.md).
-use Rattle.std.specs.Prelude.{◌≡◌, ℕ, Bool, true, false, List, [], ◌++◌, codes, decimal, flat_map, nat_eq, nat_lt, string_bytes, if◌then◌else◌}
+use Rattle.std.specs.Prelude.{◌≡◌, ℕ, ◌-◌, ◌^◌, Bool, true, false, List, [], ◌++◌, codes, decimal, flat_map, nat_eq, nat_lt, string_bytes, if◌then◌else◌}
 use Rattle.std.specs.List.{enumerate_from}
 use Rattle.fn_source.specs.Places.{line_of, column_of}
 use Rattle.fn_normal.specs.declared.profile.Format.{Format}
@@ -12,6 +12,9 @@ use Rattle.fn_prover.specs.declared.unproved.Unproved.{Unproved}
 use Rattle.fn_prover.specs.declared.unproved.Unproved.TheVariants.{OutOfMemory}
 use Rattle.fn_lint.specs.declared.needs.Needing.{Needing}
 use Rattle.fn_lint.specs.declared.spelled.Misspelled.{Misspelled}
+use Rattle.fn_lint.specs.Needs.{AreNeeding}
+use Rattle.fn_lint.specs.Paths.{AreThose, IsUnknown}
+use Rattle.fn_lint.specs.Spelled.{misspelled_names}
 use Rattle.rohcfn_names.specs.declared.candidates.Counts.{Counts}
 use Rattle.rohcfn_names.specs.declared.candidates.Factor.{Factor}
 use Rattle.rohcfn_names.specs.Candidates.{AreCounted, factors_of, format_count, method_count, write_steps}
@@ -30,7 +33,7 @@ method_head octets methods k = head_words (line_of octets (method_place methods 
 abbrev pub format_head : List ℕ → List Method → ℕ → ℕ → List ℕ
 format_head octets methods k n = method_head octets methods k ++ codes "." ++ format_name methods k n
 
--- ---- by rules, which are tested
+-- ---- what the rules find
 
 -- a format that needs an entry of the context
 abbrev pub needing_words : List ℕ → List ℕ → List ℕ
@@ -62,9 +65,13 @@ unknown_lines paths = flat_map unknown_line paths
 
 -- ---- candidates
 
+-- a number as far as 64 bits go: the greatest stands for all above it
+abbrev pub count_text : ℕ → List ℕ
+count_text count = if nat_eq count (2 ^ 64 - 1) then decimal count ++ codes " or more" else decimal count
+
 -- a method with more candidates than the limit
-abbrev pub crowded_words : List ℕ → ℕ → List ℕ
-crowded_words head count = head ++ codes ": " ++ decimal count ++ codes " candidates an item, and the limit is " ++ decimal candidate_limit ++ codes "\n"
+abbrev pub crowded_words : List ℕ → List ℕ → List ℕ
+crowded_words head count = head ++ codes ": " ++ count ++ codes " candidates an item, and the limit is " ++ decimal candidate_limit ++ codes "\n"
 
 abbrev pub candidate_word : ℕ → List ℕ
 candidate_word count = if nat_eq count 1 then codes " candidate" else codes " candidates"
@@ -73,22 +80,22 @@ candidate_word count = if nat_eq count 1 then codes " candidate" else codes " ca
 abbrev pub sign_at : ℕ → List ℕ
 sign_at place = if nat_eq place 0 then codes " = " else codes " x "
 
-abbrev pub factor_words : List ℕ → List ℕ → ℕ → List ℕ
-factor_words sign name count = sign ++ name ++ codes " " ++ decimal count
+abbrev pub factor_words : List ℕ → List ℕ → List ℕ → List ℕ
+factor_words sign name count = sign ++ name ++ codes " " ++ count
 
 abbrev pub factor_text : List Method → ℕ → ℕ → ℕ → Factor → List ℕ
-factor_text methods k n place f = factor_words (sign_at place) (field_name methods k n f.field) f.count
+factor_text methods k n place f = factor_words (sign_at place) (field_name methods k n f.field) (count_text f.count)
 
 abbrev pub factors_text : List Method → ℕ → ℕ → List Factor → List ℕ
 factors_text methods k n fs = flat_map (λ (f : ℕ × Factor). factor_text methods k n f.0 f.1) (enumerate_from 0 fs)
 
-abbrev pub ways_words : List ℕ → ℕ → List ℕ → List ℕ → List ℕ
-ways_words head count word factors = head ++ codes ": " ++ decimal count ++ word ++ factors ++ codes "\n"
+abbrev pub ways_words : List ℕ → List ℕ → List ℕ → List ℕ → List ℕ
+ways_words head count word factors = head ++ codes ": " ++ count ++ word ++ factors ++ codes "\n"
 
 -- the candidates of a format, with what multiplies in its write plan
 abbrev pub ways_line : List ℕ → List Method → Entries → Counts → ℕ → ℕ → Format → List ℕ
 ways_line octets methods cert counts k n format =
-    ways_words (format_head octets methods k n) (format_count counts k n) (candidate_word (format_count counts k n))
+    ways_words (format_head octets methods k n) (count_text (format_count counts k n)) (candidate_word (format_count counts k n))
     (factors_text methods k n (factors_of counts.methods format (write_steps cert k n)))
 
 abbrev pub ways_lines : List ℕ → List Method → Entries → Counts → ℕ → List Format → List ℕ
@@ -97,7 +104,7 @@ ways_lines octets methods cert counts k formats = flat_map (λ (f : ℕ × Forma
 -- a method, where it has more than the limit, and then each format of it
 abbrev pub crowded_lines : List ℕ → List Method → Entries → Counts → ℕ → Method → List ℕ
 crowded_lines octets methods cert counts k m =
-    if nat_lt candidate_limit (method_count counts k) then crowded_words (method_head octets methods k) (method_count counts k) ++ ways_lines octets methods cert counts k m.formats else []
+    if nat_lt candidate_limit (method_count counts k) then crowded_words (method_head octets methods k) (count_text (method_count counts k)) ++ ways_lines octets methods cert counts k m.formats else []
 
 abbrev pub candidates_text : List ℕ → List Method → Entries → Counts → List ℕ
 candidates_text octets methods cert counts = flat_map (λ (m : ℕ × Method). crowded_lines octets methods cert counts m.0 m.1) (enumerate_from 0 methods)
@@ -124,11 +131,13 @@ abbrev pub warning_lines : List ℕ → List Method → List Needing → List Mi
 warning_lines octets methods needing misspelled candidates unknown =
     needing_lines octets methods needing ++ misspelled_lines octets methods misspelled ++ candidates ++ unknown_lines unknown
 
--- The text is lines on formats that need an entry, on names, on candidates and on paths of the context. Which formats, names and paths these are is said by rules, which are tested.
-pub record AreWarnings (octets : List ℕ) (p : Resolved) (text : List ℕ) : Type 0 where
+-- The text is a line for each format that is never used in a flow that begins with entries at these paths, for each name that may be misspelled, for methods with too many
+-- candidates, and for each of the paths at which no format has a field.
+pub record AreWarnings (octets : List ℕ) (p : Resolved) (paths : List (List ℕ)) (text : List ℕ) : Type 0 where
   pub needing : List Needing
-  pub misspelled : List Misspelled
+  pub are_needing : AreNeeding p paths needing
   pub candidates : List ℕ
-  pub unknown : List (List ℕ)
   pub are_candidates : AreCandidates octets p candidates
-  pub text_is : text ≡ warning_lines octets p.methods needing misspelled candidates unknown
+  pub unknown : List (List ℕ)
+  pub are_unknown : AreThose (IsUnknown p) paths unknown
+  pub text_is : text ≡ warning_lines octets p.methods needing (misspelled_names p.methods) candidates unknown

@@ -4,6 +4,7 @@ ghost use Rattle.std.specs.Prelude.{◌≡◌, ◌++◌, IfOk, OnOk, string_byte
 ghost use Rattle.rohcfn_survey.specs.Lint as spec;
 
 use crate::warnings::warnings;
+use fn_context::Context;
 use fn_lint::{DeadFormat, dead_formats};
 use fn_profile::Profile;
 use fn_source::line_column;
@@ -13,15 +14,15 @@ use rohcfn_names::obstacles::{obstacle_words, place_of};
 use std::alloc::{AllocError, Global};
 
 /// A line for each format of the profile by which no header can ever be packed, whatever the context holds: where in the profile the reason stands, and what it is.
-/// Below them stand warnings: what the rules of fn_lint find, which are tested, and methods with too many candidates. The octets are those of the profile's text. Those
-/// of a context may be given, with which a flow begins. It fails only where memory is refused.
+/// Below them stand warnings: what the rules of fn_lint find, and methods with too many candidates. The octets are those of the profile's text. A flow
+/// begins with the context. It fails only where memory is refused.
 pub fn lint_profile(
     alloc: Global,
     octets: &[u8],
     profile: &Profile,
-    context: Option<&[u8]>,
+    context: &Context,
 ) -> Result<Answer, AllocError>
-    ensures { IfOk result (spec.LintsProfile octets.now profile.now) }
+    ensures { IfOk result (spec.LintsProfile octets.now profile.now context.now) }
 {
     let found = dead_formats(alloc, profile)?;
     let mut output = String::new(alloc);

@@ -1,10 +1,11 @@
-//! The warnings of `lint`: what the rules of fn_lint find, which are tested and not proved, and methods with too many candidates.
+//! The warnings of `lint`: what the rules of fn_lint find, and methods with too many candidates.
 
-ghost use Rattle.std.specs.Prelude.{◌≡◌, ◌++◌, [], IfOk, OnOk, codes, map, string_bytes, true};
+ghost use Rattle.std.specs.Prelude.{◌≡◌, ◌++◌, [], IfOk, OnOk, codes, decimal, map, string_bytes, true};
+ghost use Rattle.std.specs.Map.{keys_of};
 ghost use Rattle.rohcfn_survey.specs.Warnings as spec;
 
-use fn_bits::lines::lines;
 use fn_cert::{CANDIDATE_LIMIT, Certificate, MethodPlans, Version};
+use fn_context::Context;
 use fn_lint::{Misspelled, Needing, misspelled_names, needing_formats, unknown_paths};
 use fn_normal::{Format, Method};
 use fn_profile::Profile;
@@ -23,12 +24,12 @@ pub(crate) fn warnings(
     alloc: Global,
     octets: &[u8],
     profile: &Profile,
-    context: Option<&[u8]>,
+    context: &Context,
 ) -> Result<String, AllocError>
-    ensures { IfOk result (λ text. spec.AreWarnings octets.now profile.now (string_bytes text)) }
+    ensures { IfOk result (λ text. spec.AreWarnings octets.now profile.now (keys_of context.now) (string_bytes text)) }
 {
     let methods = profile.methods();
-    let given = given_paths(alloc, context)?;
+    let given = paths_of(alloc, context)?;
     let needing = needing_formats(alloc, profile, given.as_slice())?;
     let misspelled = misspelled_names(alloc, methods)?;
     let candidates = candidate_lines(alloc, octets, profile)?;
@@ -63,17 +64,13 @@ fn all_lines(
     Ok(text)
 }
 
-/// The paths of the lines of a context. None, where there is no context or its lines are no text.
-fn given_paths(alloc: Global, context: Option<&[u8]>) -> Result<Items<&str>, AllocError> {
+/// The paths of a context, in its order.
+fn paths_of(alloc: Global, context: &Context) -> Result<Items<&str>, AllocError>
+    ensures { IfOk result (λ paths. map (λ p. p.now) paths ≡ keys_of context.now) }
+{
     let mut paths = Items::new(alloc);
-    let Some(context) = context else {
-        return Ok(paths);
-    };
-    let Ok(lines) = lines(alloc, context) else {
-        return Ok(paths);
-    };
-    for line in lines.as_slice() {
-        if let Some((path, _)) = line.text.split_once(' ') {
+    for place in 0..context.len() {
+        if let Some(path) = context.path_at(place) {
             paths.push(path)?;
         }
     }
@@ -316,7 +313,8 @@ fn push_crowded(
         return Ok(());
     }
     let head = method_head(alloc, octets, methods, index)?;
-    let line = crowded_words(alloc, head.as_str(), count)?;
+    let shown = count_text(alloc, count)?;
+    let line = crowded_words(alloc, head.as_str(), shown.as_str())?;
     text.push_str(line.as_str())?;
     push_all_ways(
         alloc,
@@ -330,8 +328,24 @@ fn push_crowded(
     )
 }
 
-fn crowded_words(alloc: Global, head: &str, count: u64) -> Result<String, AllocError>
-    ensures { IfOk result (λ text. string_bytes text ≡ spec.crowded_words head.now count) }
+/// A number of candidates, as far as 64 bits go.
+fn count_text(alloc: Global, count: u64) -> Result<String, AllocError>
+    ensures { IfOk result (λ text. string_bytes text ≡ spec.count_text count) }
+{
+    if count == u64::MAX {
+        return or_more(alloc, count);
+    }
+    format!(in alloc; "{count}")
+}
+
+fn or_more(alloc: Global, count: u64) -> Result<String, AllocError>
+    ensures { IfOk result (λ text. string_bytes text ≡ decimal count ++ codes " or more") }
+{
+    format!(in alloc; "{count} or more")
+}
+
+fn crowded_words(alloc: Global, head: &str, count: &str) -> Result<String, AllocError>
+    ensures { IfOk result (λ text. string_bytes text ≡ spec.crowded_words head.now count.now) }
 {
     format!(in alloc; "{head}: {count} candidates an item, and the limit is {CANDIDATE_LIMIT}\n")
 }
@@ -375,10 +389,11 @@ fn push_ways(
     let head = format_head(alloc, octets, methods, method, index)?;
     let words = factors_text(alloc, methods, method, index, found.as_slice())?;
     let count = format_count(counts, method, index);
+    let shown = count_text(alloc, count)?;
     let line = ways_words(
         alloc,
         head.as_str(),
-        count,
+        shown.as_str(),
         candidate_word(count),
         words.as_str(),
     )?;
@@ -398,11 +413,11 @@ fn candidate_word(count: u64) -> &'static str
 fn ways_words(
     alloc: Global,
     head: &str,
-    count: u64,
+    count: &str,
     word: &str,
     factors: &str,
 ) -> Result<String, AllocError>
-    ensures { IfOk result (λ text. string_bytes text ≡ spec.ways_words head.now count word.now factors.now) }
+    ensures { IfOk result (λ text. string_bytes text ≡ spec.ways_words head.now count.now word.now factors.now) }
 {
     format!(in alloc; "{head}: {count}{word}{factors}\n")
 }
@@ -436,7 +451,8 @@ fn push_factor(
     ensures { OnOk result (string_bytes text.new ≡ string_bytes text.old ++ spec.factor_text methods.now method format place factor) }
 {
     let name = field_name(methods, method, format, factor.field);
-    let words = factor_words(alloc, sign_at(place), name, factor.count)?;
+    let shown = count_text(alloc, factor.count)?;
+    let words = factor_words(alloc, sign_at(place), name, shown.as_str())?;
     text.push_str(words.as_str())
 }
 
@@ -446,8 +462,8 @@ fn sign_at(place: usize) -> &'static str
     if place == 0 { " = " } else { " x " }
 }
 
-fn factor_words(alloc: Global, sign: &str, name: &str, count: u64) -> Result<String, AllocError>
-    ensures { IfOk result (λ text. string_bytes text ≡ spec.factor_words sign.now name.now count) }
+fn factor_words(alloc: Global, sign: &str, name: &str, count: &str) -> Result<String, AllocError>
+    ensures { IfOk result (λ text. string_bytes text ≡ spec.factor_words sign.now name.now count.now) }
 {
     format!(in alloc; "{sign}{name} {count}")
 }

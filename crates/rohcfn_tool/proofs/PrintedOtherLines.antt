@@ -5,7 +5,8 @@ use Rattle.rohcfn_words.specs.declared.words.Direction.TheVariants.{Pack, Unpack
 use Rattle.rohcfn_report.specs.Accepting.{RefusesProfile, at_fault, unaccepted}
 use Rattle.rohcfn_tool.specs.FaultLaws.{AreOneLine}
 use Rattle.rohcfn_input.specs.OneLine.{IsLine}
-use Rattle.rohcfn_tool.specs.Printed.{bad_line_text, context_line, input_name}
+use Rattle.rohcfn_tool.specs.Printed.{bad_line_text, input_name}
+use Rattle.rohcfn_input.specs.Refusals.{context_line}
 use Rattle.rohcfn_input.proofs.OneLineLemmas.{joined, number}
 use Rattle.rohcfn_tool.proofs.PacketLines.{bad_events, end_names, line_faults}
 use Rattle.rohcfn_report.proofs.CheckFaultLines.{profile_faults}

@@ -18,8 +18,8 @@ use Rattle.rohcfn_input.specs.declared.inputs.BadLine.TheVariants as bad
 use Rattle.rohcfn_words.specs.declared.words.Direction.{Direction}
 use Rattle.rohcfn_tool.specs.declared.packets.Shape.{Shape}
 use Rattle.rohcfn_input.specs.Inputs.{BlamesContext}
-use Rattle.rohcfn_tool.specs.Printed.{AnsweredFor, bad_context, context_line, IsBadInput, IsEnd, IsFinished, IsStep, AnsweredIn, Prints, bad_line, bad_line_text, done, line, fault}
-use Rattle.rohcfn_input.specs.Refusals.{Holds, IsRefusal}
+use Rattle.rohcfn_tool.specs.Printed.{AnsweredFor, bad_context, IsBadInput, IsEnd, IsFinished, IsStep, AnsweredIn, Prints, bad_line, bad_line_text, done, line, fault}
+use Rattle.rohcfn_input.specs.Refusals.{Holds, IsRefusal, context_line}
 use Rattle.rohcfn_input.proofs.RefusalsHeld.{refusal_is}
 
 -- ---- a line for each input

@@ -23,7 +23,7 @@ use Rattle.rohcfn_input.specs.OneLine.{IsLine}
 use Rattle.fn_reasons.specs.Reasons.{Verdicts}
 use Rattle.fn_reasons.specs.declared.line.Line as reasons
 use Rattle.rohcfn_items.specs.Why.{reasons_text}
-use Rattle.rohcfn_tool.specs.Printed.{ExplainsItem, ExplainsPacket, HasLine, IsItemFault, RefusesItem, RefusesPacket, head_of, item_setting, packet_setting, IsFoundText, IsItemStep, IsPacketFault, IsPacketStep, IsReadLine, IsRefusedItem, IsRefusedPacket, IsTaken, IsWrittenText, SaysItem, SaysPacket, tree_text}
+use Rattle.rohcfn_tool.specs.Printed.{ExplainsItem, ExplainsPacket, Follows, HasLine, IsItemFault, RefusesItem, RefusesPacket, head_of, packet_setting, IsFoundText, IsItemStep, IsPacketFault, IsPacketStep, IsReadLine, IsRefusedItem, IsRefusedPacket, IsTaken, IsWrittenText, SaysItem, SaysPacket, tree_text}
 use Rattle.rohcfn_tool.specs.declared.packets.Shape.{Shape}
 use Rattle.rohcfn_tool.specs.declared.packets.Shape.TheVariants.{Line, Tree, Why}
 
@@ -49,10 +49,10 @@ no_flow_blamed a ctx it e blames is = subst (λ (x : PackFault). writing.Blames 
 pub item_refused : (a : Accepting) (ctx : Entries) (before after : List ℕ) (n : ℕ) (it : Item) (e : PackFault) → writing.Blames e a ctx it → IsRefusedItem e n before after → HasLine (RefusesItem a ctx n it) before after
 item_refused a ctx before after n it e blames is = (is.0, (e, blames, is.1.0, is.1.1), is.2)
 
-pub item_explained : (profile : List ℕ) (a : Accepting) (ctx : Entries) (n : ℕ) (it : Item) (e : PackFault) → writing.Blames e a ctx it → (plain text : List ℕ) → IsItemFault e n plain → IsLine plain → (lines : List reasons.Line) → Verdicts (item_setting a ctx it) 0 lines
-    → text ≡ plain ++ reasons_text profile a.profile lines → ExplainsItem profile a ctx n it text
-item_explained profile a ctx n it e blames plain text is single lines told all =
-    record { fault = e; blames = blames; plain = plain; plain_is = is; one_line = single; lines = lines; reasons_are = told; text_is = all }
+pub item_explained : (profile : List ℕ) (a : Accepting) (ctx : Entries) (n : ℕ) (it : Item) (e : PackFault) → writing.Blames e a ctx it → (plain text : List ℕ) → IsItemFault e n plain → IsLine plain → (more : List ℕ) → Follows e profile a ctx it more
+    → text ≡ plain ++ more → ExplainsItem profile a ctx n it text
+item_explained profile a ctx n it e blames plain text is single more follows all =
+    record { fault = e; blames = blames; plain = plain; plain_is = is; one_line = single; more = more; follows = follows; text_is = all }
 
 -- ---- packets
 
@@ -76,7 +76,7 @@ pub packet_refused : (a : Accepting) (ctx : Entries) (before after : List ℕ) (
 packet_refused a ctx before after n packet e blames is = (is.0, (e, blames, is.1.0, is.1.1), is.2)
 
 pub packet_explained : (profile : List ℕ) (a : Accepting) (ctx : Entries) (n : ℕ) (packet : List Bool) (e : UnpackFault) → reading.Blames e a ctx packet → (methods : List Method) (p : Resolved) → p ≡ a.profile → methods ≡ p.methods → IsSound p → (plain text : List ℕ)
-    → IsPacketFault e methods n plain → (lines shown_lines : List reasons.Line) → Verdicts (packet_setting a ctx packet) 0 lines → shown_lines ≡ lines → text ≡ plain ++ reasons_text profile p shown_lines → ExplainsPacket profile a ctx n packet text
+    → IsPacketFault e methods n plain → (lines shown_lines : List reasons.Line) → Verdicts (packet_setting a ctx packet) 0 lines → shown_lines ≡ lines → text ≡ plain ++ reasons_text profile p [] shown_lines → ExplainsPacket profile a ctx n packet text
 packet_explained profile a ctx n packet e blames methods p same shown sound plain text is lines shown_lines told listed all =
     let words : AreWords methods = subst AreWords (sym shown) sound.words in
     record {
@@ -87,7 +87,7 @@ packet_explained profile a ctx n packet e blames methods p same shown sound plai
       one_line = packet_faults e methods n plain words is;
       lines = lines;
       reasons_are = told;
-      text_is = all ∙ ap (λ q. plain ++ reasons_text profile q shown_lines) same ∙ ap (λ ls. plain ++ reasons_text profile a.profile ls) listed;
+      text_is = all ∙ ap (λ q. plain ++ reasons_text profile q [] shown_lines) same ∙ ap (λ ls. plain ++ reasons_text profile a.profile [] ls) listed;
     }
 
 pub packet_blamed : (a : Accepting) (ctx : Entries) (packet : List Bool) (from : Place) (e : UnpackFault) → from ≡ record { used = []; left = packet } → reading.Blames e a ctx from.left → reading.Blames e a ctx packet

@@ -19,7 +19,7 @@ use Rattle.fn_stats.specs.Counts.{counted}
 use Rattle.fn_stats.specs.declared.counts.Count.{Count}
 use Rattle.rohcfn_input.specs.Inputs.{BlamesContext, IsBadLine, IsItem}
 use Rattle.rohcfn_input.specs.OneLine.{IsLine}
-use Rattle.rohcfn_input.specs.Refusals.{Holds, IsRefusal}
+use Rattle.rohcfn_input.specs.Refusals.{Holds, IsRefusal, context_line}
 use Rattle.rohcfn_input.specs.declared.inputs.BadLine.{BadLine}
 use Rattle.rohcfn_input.specs.declared.inputs.BadLine.TheVariants as bad
 use Rattle.rohcfn_input.specs.declared.status.Answer.{Answer}
@@ -27,7 +27,7 @@ use Rattle.rohcfn_input.specs.declared.status.Status.TheVariants as status
 use Rattle.rohcfn_input.proofs.RefusalsHeld.{refusal_is}
 use Rattle.rohcfn_items.specs.Stats.{stats_text}
 use Rattle.rohcfn_words.specs.declared.words.Direction.TheVariants.{Pack}
-use Rattle.rohcfn_tool.specs.Printed.{CountsItem, CountsItems, IsItemFault, IsPrintedStats, IsRefusedBelow, Packs, StatsBy, StatsFor, StatsIn, bad_entry, bad_item, bad_line_text, context_line, counted_by, counts_packed, counts_refused, packs_none, packs_one, refuses_one}
+use Rattle.rohcfn_tool.specs.Printed.{CountsItem, CountsItems, IsItemFault, IsPrintedStats, IsRefusedBelow, Packs, StatsBy, StatsFor, StatsIn, bad_entry, bad_item, bad_line_text, counted_by, counts_packed, counts_refused, packs_none, packs_one, refuses_one}
 
 -- the counts and the lines so far are those of the items so far: whatever comes of the others, all together come of all
 pub record CountedSoFar (a : Accepting) (start : Entries) (items : List Item) (i : ℕ) (ctx : Entries) (cs : List Count) (refused : List ℕ) : Type 0 where

@@ -27,8 +27,9 @@ use Rattle.rohcfn_report.specs.Explained.{Explained}
 use Rattle.rohcfn_report.specs.Explained.Explained.{explained as explained_plain}
 use Rattle.rohcfn_report.specs.Surveys.{DrawnBy}
 use Rattle.rohcfn_report.specs.Surveys.DrawnBy.{drawn_by as drawn_by_drawn, no_drawing as drawn_by_no_drawing}
-use Rattle.rohcfn_report.specs.Surveys.{LintedBy}
-use Rattle.rohcfn_report.specs.Surveys.LintedBy.{linted as linted_by_linted, no_lint as linted_by_no_lint}
+use Rattle.rohcfn_report.specs.Surveys.{LintedBy, LintedIn}
+use Rattle.rohcfn_report.specs.Surveys.LintedBy.{by_form as linted_by_by_form, no_lint as linted_by_no_lint}
+use Rattle.rohcfn_report.specs.Surveys.LintedIn.{linted as linted_in_linted, no_context as linted_in_no_context}
 use Rattle.rohcfn_report.specs.Reports.{ShownBy, CheckedOctets, ProvedOctets}
 use Rattle.rohcfn_report.specs.Reports.ShownBy.{listed as shown_by_listed, no_listing as shown_by_no_listing}
 use Rattle.rohcfn_report.specs.Reports.CheckedOctets.{accepted as checked_octets_accepted, refused as checked_octets_refused}
@@ -151,9 +152,13 @@ stated_ends : (order : Order) (profile : List ℕ) (parts : Parts) (s : Status) 
 stated_ends order profile parts _ _ (stated_no_items is) = tt
 stated_ends order profile parts s output (stated_with_items given is h) = stats_with_ends order profile parts given.now s output h
 
-linted_ends : (top octets : List ℕ) (s : Status) (output : List ℕ) → LintedBy top octets s output → MayPrint s
-linted_ends top octets _ _ (linted_by_no_lint text h) = tt
-linted_ends top octets _ _ (linted_by_linted p found warnings reads dead warned) = tt
+linted_in_ends : (octets : List ℕ) (p : Resolved) (context : Option (Bor (List ℕ))) (s : Status) (output : List ℕ) → LintedIn octets p context s output → MayPrint s
+linted_in_ends octets p context _ _ (linted_in_no_context given n is h) = tt
+linted_in_ends octets p context _ _ (linted_in_linted ctx found warnings starts dead warned) = tt
+
+linted_ends : (top octets : List ℕ) (context : Option (Bor (List ℕ))) (s : Status) (output : List ℕ) → LintedBy top octets context s output → MayPrint s
+linted_ends top octets context _ _ (linted_by_no_lint text h) = tt
+linted_ends top octets context s output (linted_by_by_form p reads h) = linted_in_ends octets p context s output h
 
 drawn_ends : (top octets : List ℕ) (s : Status) (output : List ℕ) → DrawnBy top octets s output → MayPrint s
 drawn_ends top octets _ _ (drawn_by_no_drawing text h) = tt
@@ -181,7 +186,7 @@ explained_ends Plain ends s _ (explained_plain {output = plain} notes h) = ends 
 answer_ends : (order : Order) (parts : Parts) (s : Status) (output : List ℕ) → Answered order parts s output → MayPrint s
 answer_ends order parts _ _ (answers_no_profile is) = tt
 answer_ends order parts s output (answers_shown profile is asks h) = shown_ends order.top.now profile.now s output h
-answer_ends order parts s output (answers_linted profile is asks h) = linted_ends order.top.now profile.now s output h
+answer_ends order parts s output (answers_linted profile is asks h) = linted_ends order.top.now profile.now parts.context s output h
 answer_ends order parts s output (answers_drawn profile is asks h) = drawn_ends order.top.now profile.now s output h
 answer_ends order parts s output (answers_checked profile is asks h) = checked_ends order.top.now profile.now (origin_of order.version parts.certificate) s output h
 answer_ends order parts s output (answers_proved profile is asks h) = proved_ends order profile.now s output h

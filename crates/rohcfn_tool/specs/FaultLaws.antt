@@ -9,7 +9,8 @@ use Rattle.rohcfn_report.specs.Accepting.{RefusesProfile}
 use Rattle.rohcfn_input.specs.Bundle.{BlamesPart, shown_name}
 use Rattle.rohcfn_tool.specs.Line.{IsLineFault, bad_event_text, bad_hex_text, line_part_name}
 use Rattle.rohcfn_input.specs.OneLine.{IsLine}
-use Rattle.rohcfn_tool.specs.Printed.{bad_line_text, context_line, input_name}
+use Rattle.rohcfn_tool.specs.Printed.{bad_line_text, input_name}
+use Rattle.rohcfn_input.specs.Refusals.{context_line}
 use Rattle.rohcfn_report.specs.ProfileLines.{IsFaultLine}
 
 -- Each fault line is one line: those of items, packets, events and `prove` are so where they are printed (`Prints`, `Packs`, `PrintsSent`, `ProvedBy`); these are the

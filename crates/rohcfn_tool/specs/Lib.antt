@@ -1,3 +1,4 @@
+pub mod Asked
 pub mod Events
 pub mod FaultLaws
 pub mod Line

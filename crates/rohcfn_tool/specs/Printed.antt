@@ -34,6 +34,7 @@ use Rattle.rohcfn_report.specs.Accepting.{AcceptsProfile, RefusesProfile, origin
 use Rattle.rohcfn_input.specs.Inputs.{HasLines, IsBadContext, IsBadLine, IsBits, IsItem, StartsAt}
 use Rattle.rohcfn_input.specs.OneLine.{IsLine}
 use Rattle.rohcfn_input.specs.ItemTexts.{IsItemText}
+use Rattle.rohcfn_tool.specs.Asked.{asked_words}
 use Rattle.rohcfn_tool.specs.Line.{Lined}
 use Rattle.rohcfn_tool.specs.declared.packets.Shape.{Shape}
 use Rattle.rohcfn_tool.specs.declared.packets.Shape.TheVariants.{Line, Tree, Why}
@@ -50,7 +51,7 @@ use Rattle.rohcfn_report.specs.Explained.{Explained}
 use Rattle.rohcfn_report.specs.Surveys.{DrawnBy}
 use Rattle.rohcfn_report.specs.Surveys.{LintedBy}
 use Rattle.rohcfn_report.specs.Reports.{ShownBy, CheckedOctets, ProvedOctets}
-use Rattle.rohcfn_input.specs.Refusals.{Holds}
+use Rattle.rohcfn_input.specs.Refusals.{Holds, context_line}
 
 -- ---- the line of an item or a packet
 
@@ -139,24 +140,37 @@ RefusesPacket a ctx n packet text = (e : UnpackFault) × reading.Blames e a ctx 
 
 -- ---- why an item or a packet is refused
 
--- the fillings of the top that have the header of the item, and those whose packed bits are at the front of the packet
+-- the fillings of the top that have the header and the asked values of the item, and those whose packed bits are at the front of the packet
 abbrev pub item_setting : Accepting → Entries → Item → Setting
-item_setting a ctx it = record { profile = a.profile; context = ctx; method = a.profile.top; parameters = []; path = []; side = Uncompressed; bits = it.header; is_whole = true }
+item_setting a ctx it = record { profile = a.profile; context = ctx; method = a.profile.top; parameters = []; path = []; side = Uncompressed; bits = it.header; is_whole = true; asked = it.asked }
 
 abbrev pub packet_setting : Accepting → Entries → List Bool → Setting
-packet_setting a ctx packet = record { profile = a.profile; context = ctx; method = a.profile.top; parameters = []; path = []; side = Compressed; bits = packet; is_whole = false }
+packet_setting a ctx packet = record { profile = a.profile; context = ctx; method = a.profile.top; parameters = []; path = []; side = Compressed; bits = packet; is_whole = false; asked = [] }
 
--- the line of a fault that is there, and then a line for each reason, by the text of the profile
+-- a line for each reason that stands against a format, by the text of the profile, after a line feed
+abbrev pub ReasonsFollow : List ℕ → Accepting → Entries → Item → List ℕ → Type 0
+ReasonsFollow profile a ctx it more = (lines : List reasons.Line) × Verdicts (item_setting a ctx it) 0 lines × (more ≡ reasons_text profile a.profile it.asked lines)
+
+-- what follows the line of an item's fault: what is wrong with the asked values, if it blames them, else the reasons
+abbrev pub Follows : PackFault → List ℕ → Accepting → Entries → Item → List ℕ → Type 0
+Follows writer.HeaderLength profile a ctx it more = ReasonsFollow profile a ctx it more
+Follows (writer.Asked name) profile a ctx it more = more ≡ codes "\n" ++ asked_words a.profile.asked it.asked name
+Follows writer.NoFormat profile a ctx it more = ReasonsFollow profile a ctx it more
+Follows writer.Flow profile a ctx it more = ReasonsFollow profile a ctx it more
+Follows writer.OutOfMemory profile a ctx it more = ReasonsFollow profile a ctx it more
+
+-- the line of a fault that is there, and then what follows it
 pub record ExplainsItem (profile : List ℕ) (a : Accepting) (ctx : Entries) (n : ℕ) (it : Item) (text : List ℕ) : Type 0 where
   pub fault : PackFault
   pub blames : writing.Blames fault a ctx it
   pub plain : List ℕ
   pub plain_is : IsItemFault fault n plain
   pub one_line : IsLine plain
-  pub lines : List reasons.Line
-  pub reasons_are : Verdicts (item_setting a ctx it) 0 lines
-  pub text_is : text ≡ plain ++ reasons_text profile a.profile lines
+  pub more : List ℕ
+  pub follows : Follows fault profile a ctx it more
+  pub text_is : text ≡ plain ++ more
 
+-- the line of a fault that is there, and then a line for each reason
 pub record ExplainsPacket (profile : List ℕ) (a : Accepting) (ctx : Entries) (n : ℕ) (packet : List Bool) (text : List ℕ) : Type 0 where
   pub fault : UnpackFault
   pub blames : reading.Blames fault a ctx packet
@@ -165,7 +179,7 @@ pub record ExplainsPacket (profile : List ℕ) (a : Accepting) (ctx : Entries) (
   pub one_line : IsLine plain
   pub lines : List reasons.Line
   pub reasons_are : Verdicts (packet_setting a ctx packet) 0 lines
-  pub text_is : text ≡ plain ++ reasons_text profile a.profile lines
+  pub text_is : text ≡ plain ++ reasons_text profile a.profile [] lines
 
 -- what is said of one that is refused: the line of its fault; for `why` the reasons, too
 abbrev pub FaultsItem : Shape → Accepting → Entries → ℕ → Item → List ℕ → Type 0
@@ -239,9 +253,6 @@ pub data AnsweredIn (direction : Direction) (shape : Shape) (shows : Bool) (a : 
   -- a line for each item or packet
   answered : {s : Status} {output : List ℕ} → PrintsInput direction shape shows a ctx input s output → AnsweredIn direction shape shows a ctx input s output
 
-abbrev pub context_line : ℕ → List ℕ
-context_line n = codes "context:" ++ decimal n ++ codes ": C1 bad line"
-
 -- What is answered in a direction, by the part of the context and the octets of items or packets.
 pub data AnsweredFor (direction : Direction) (shape : Shape) (shows : Bool) (a : Accepting) (context : Option (Bor (List ℕ))) (input : List ℕ) : Status → List ℕ → Type 0 where
   -- a line of the context can't be read
@@ -305,7 +316,7 @@ pub data Answered (order : Order) (parts : Parts) : Status → List ℕ → Type
   shown : {s : Status} {output : List ℕ} (profile : Bor (List ℕ)) → parts.profile ≡ Some profile → order.command ≡ Show
       → ShownBy order.top.now profile.now s output → Answered order parts s output
   linted : {s : Status} {output : List ℕ} (profile : Bor (List ℕ)) → parts.profile ≡ Some profile → order.command ≡ Lint
-      → LintedBy order.top.now profile.now s output → Answered order parts s output
+      → LintedBy order.top.now profile.now parts.context s output → Answered order parts s output
   drawn : {s : Status} {output : List ℕ} (profile : Bor (List ℕ)) → parts.profile ≡ Some profile → order.command ≡ Draw
       → DrawnBy order.top.now profile.now s output → Answered order parts s output
   checked : {s : Status} {output : List ℕ} (profile : Bor (List ℕ)) → parts.profile ≡ Some profile → order.command ≡ Check

@@ -11,7 +11,7 @@ use fn_accepted::Accepted;
 use fn_context::Context;
 use rohcfn_input::bundle::Parts;
 use rohcfn_input::inputs::{BadLine, read_context, read_items, read_packets};
-use rohcfn_input::refusals::refusal;
+use rohcfn_input::refusals::{context_line, refusal};
 use rohcfn_input::status::Answer;
 use rohcfn_report::check::answer_check;
 use rohcfn_report::explaining::{explain_check, explain_prove};
@@ -35,7 +35,7 @@ pub fn answer(alloc: Global, order: &Order<'_>, parts: &Parts<'_>) -> Result<Ans
     };
     match order.command {
         Command::Show => answer_listing(alloc, order.top, profile),
-        Command::Lint => answer_lint(alloc, order.top, profile, parts.context),
+        Command::Lint => answer_lint(alloc, order.top, profile, parts),
         Command::Draw => answer_draw(alloc, order.top, profile),
         Command::Check => {
             let origin = Origin::of(order.version, parts);
@@ -213,11 +213,4 @@ pub(crate) fn bad_line(
         Direction::Pack => format!(in alloc; "items:{number}: I1 bad item"),
         Direction::Unpack => format!(in alloc; "packets:{number}: I2 bad packet"),
     }
-}
-
-/// The line of a context that can't be read.
-pub(crate) fn context_line(alloc: Global, number: usize) -> Result<String, AllocError>
-    ensures { IfOk result (λ text. string_bytes text ≡ spec.context_line number) }
-{
-    format!(in alloc; "context:{number}: C1 bad line")
 }

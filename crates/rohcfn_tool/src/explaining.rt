@@ -1,11 +1,13 @@
 //! Why an item or a packet is refused.
 
-ghost use Rattle.std.specs.Prelude.{◌≡◌, ◌≢◌, ◌++◌, IfOk, OnOk, string_bytes};
+ghost use Rattle.std.specs.Prelude.{◌≡◌, ◌≢◌, ◌++◌, IfOk, OnOk, codes, string_bytes};
 ghost use Rattle.fn_engine.specs.Reading as reading;
 ghost use Rattle.fn_engine.specs.Writing as writing;
 ghost use Rattle.fn_reasons.specs.Reasons.{Verdicts};
+ghost use Rattle.rohcfn_tool.specs.Asked as words;
 ghost use Rattle.rohcfn_tool.specs.Printed as spec;
 
+use crate::asked::asked_words;
 use crate::packets::{item_fault, packet_fault};
 use fn_accepted::Accepted;
 use fn_bits::Bits;
@@ -13,13 +15,15 @@ use fn_context::Context;
 use fn_engine::{PackFault, UnpackFault};
 use fn_expr::Side;
 use fn_filling::Item;
+use fn_lint::Judged;
 use fn_reasons::{Line, Spot, reasons};
 use rohcfn_input::spelling::push_line;
 use rohcfn_items::why::push_reasons;
 use sqlite_items::Items;
 use std::alloc::{AllocError, Global};
 
-/// Adds the line of a refused item, whose number counts from 1, and then what stands against each format, by the octets of the profile.
+/// Adds the line of a refused item, whose number counts from 1, and then what is wrong with its asked values, or what stands against each format, by the octets of the
+/// profile.
 pub(crate) fn explain_item(
     alloc: Global,
     octets: &[u8],
@@ -51,13 +55,71 @@ fn item_text(
     requires blames { writing.Blames fault accepted.now context.now item.now }
     ensures { IfOk result (λ text. spec.ExplainsItem octets.now accepted.now context.now number item.now (string_bytes text)) }
 {
-    let lines = item_reasons(alloc, accepted, context, item)?;
+    let more = item_more(alloc, octets, accepted, context, item, &fault)?;
     let mut text = item_fault(alloc, number, fault)?;
+    text.push_str(more.as_str())?;
+    Ok(text)
+}
+
+/// What follows the line of the fault.
+fn item_more(
+    alloc: Global,
+    octets: &[u8],
+    accepted: &Accepted,
+    context: &Context,
+    item: &Item,
+    fault: &PackFault,
+) -> Result<String, AllocError>
+    ensures { IfOk result (λ text. spec.Follows fault.now octets.now accepted.now context.now item.now (string_bytes text)) }
+{
+    match fault {
+        PackFault::Asked(name) => asked_line(alloc, accepted, item, name.as_str()),
+        PackFault::HeaderLength => reason_lines(alloc, octets, accepted, context, item),
+        PackFault::NoFormat => reason_lines(alloc, octets, accepted, context, item),
+        PackFault::Flow => reason_lines(alloc, octets, accepted, context, item),
+        PackFault::OutOfMemory => reason_lines(alloc, octets, accepted, context, item),
+    }
+}
+
+/// What is wrong with the asked values, of which that name is blamed.
+fn asked_line(
+    alloc: Global,
+    accepted: &Accepted,
+    item: &Item,
+    name: &str,
+) -> Result<String, AllocError>
+    ensures { IfOk result (λ text. string_bytes text ≡ codes "\n" ++ words.asked_words accepted.now.profile.asked item.now.asked name.now) }
+{
+    let asked = accepted.profile().asked();
+    let words = asked_words(alloc, asked, item.asked.as_slice(), name)?;
+    below(alloc, words.as_str())
+}
+
+fn below(alloc: Global, words: &str) -> Result<String, AllocError>
+    ensures { IfOk result (λ text. string_bytes text ≡ codes "\n" ++ words.now) }
+{
+    format!(in alloc; "\n{words}")
+}
+
+/// The lines of what stands against each format.
+fn reason_lines(
+    alloc: Global,
+    octets: &[u8],
+    accepted: &Accepted,
+    context: &Context,
+    item: &Item,
+) -> Result<String, AllocError>
+    ensures { IfOk result (λ text. spec.ReasonsFollow octets.now accepted.now context.now item.now (string_bytes text)) }
+{
+    let lines = item_reasons(alloc, accepted, context, item)?;
+    let asked = item.asked.as_slice();
+    let mut text = String::new(alloc);
     push_reasons(
         alloc,
         &mut text,
         octets,
         accepted.profile(),
+        asked,
         lines.as_slice(),
     )?;
     Ok(text)
@@ -73,8 +135,9 @@ fn item_reasons(
     ensures { IfOk result (Verdicts (spec.item_setting accepted.now context.now item.now) 0) }
 {
     let profile = accepted.profile();
+    let judged = Judged::of(alloc, profile)?;
     let spot = Spot {
-        profile,
+        profile: &judged,
         context,
         method: profile.top(),
         parameters: &[],
@@ -82,6 +145,7 @@ fn item_reasons(
         side: Side::Uncompressed,
         bits: &item.header,
         is_whole: true,
+        asked: item.asked.as_slice(),
     };
     reasons(alloc, &spot)
 }
@@ -120,7 +184,7 @@ fn packet_text(
     profile.keeps();
     let lines = packet_reasons(alloc, accepted, context, packet)?;
     let mut text = packet_fault(alloc, profile.methods(), number, fault)?;
-    push_reasons(alloc, &mut text, octets, profile, lines.as_slice())?;
+    push_reasons(alloc, &mut text, octets, profile, &[], lines.as_slice())?;
     Ok(text)
 }
 
@@ -134,8 +198,9 @@ fn packet_reasons(
     ensures { IfOk result (Verdicts (spec.packet_setting accepted.now context.now packet.now) 0) }
 {
     let profile = accepted.profile();
+    let judged = Judged::of(alloc, profile)?;
     let spot = Spot {
-        profile,
+        profile: &judged,
         context,
         method: profile.top(),
         parameters: &[],
@@ -143,6 +208,7 @@ fn packet_reasons(
         side: Side::Compressed,
         bits: packet,
         is_whole: false,
+        asked: &[],
     };
     reasons(alloc, &spot)
 }

@@ -2,6 +2,7 @@
 #![tactic(auto)]
 
 pub mod answers;
+mod asked;
 pub mod events;
 mod explaining;
 pub mod line;

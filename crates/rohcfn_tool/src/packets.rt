@@ -11,7 +11,7 @@ use crate::explaining::{explain_item, explain_packet};
 use fn_accepted::Accepted;
 use fn_bits::{Bits, Cursor};
 use fn_context::Context;
-use fn_engine::{PackFault, Packed, UnpackFault, Unpacked, pack_filling, unpack_filling};
+use fn_engine::{PackFault, Packed, UnpackFault, Unpacked, pack, unpack};
 use fn_filling::{Filling, Item, advance};
 use fn_normal::Method;
 use fn_reader::Blamed;
@@ -156,7 +156,7 @@ fn pack_one(
 ) -> Result<bool, AllocError>
     ensures { IfOk result (spec.IsItemStep shape.entry accepted.now context.old context.new (string_bytes output.old) (string_bytes output.new) number item.now) }
 {
-    match pack_filling(alloc, accepted, context, item) {
+    match pack(alloc, accepted, context, item) {
         Ok(Packed { filling, packed }) => {
             push_written(alloc, shape, accepted, output, number, &packed, &filling)?;
             advance(alloc, context, &filling)?;
@@ -338,7 +338,7 @@ fn unpack_one(
     ensures { IfOk result (spec.IsPacketStep shape.entry accepted.now context.old context.new (string_bytes output.old) (string_bytes output.new) number packet.now) }
 {
     let mut cursor = Cursor::new(packet);
-    match unpack_filling(alloc, accepted, context, &mut cursor) {
+    match unpack(alloc, accepted, context, &mut cursor) {
         Ok(
             Unpacked {
                 header,

@@ -3,16 +3,16 @@
 ghost use Rattle.std.specs.Prelude.{◌≡◌, ◌≢◌, ◌++◌, IfOk, OnOk, string_bytes};
 ghost use Rattle.rohcfn_tool.specs.Printed as spec;
 
-use crate::answers::{bad_line, context_line};
+use crate::answers::bad_line;
 use crate::packets::item_fault;
 use fn_accepted::Accepted;
 use fn_context::Context;
-use fn_engine::{PackFault, Packed, pack_filling};
+use fn_engine::{PackFault, Packed, pack};
 use fn_filling::{Item, advance};
 use fn_stats::{Count, count_of};
 use rohcfn_input::bundle::Parts;
 use rohcfn_input::inputs::{BadLine, read_context, read_items};
-use rohcfn_input::refusals::refusal;
+use rohcfn_input::refusals::{context_line, refusal};
 use rohcfn_input::spelling::push_line;
 use rohcfn_input::status::{Answer, Status};
 use rohcfn_items::stats::stats_text;
@@ -130,7 +130,7 @@ fn count_one(
 ) -> Result<(), AllocError>
     ensures { OnOk result (spec.CountsItem accepted.now context.old context.new counts.old counts.new (string_bytes refused.old) (string_bytes refused.new) number item.now) }
 {
-    match pack_filling(alloc, accepted, context, item) {
+    match pack(alloc, accepted, context, item) {
         Ok(Packed { filling, packed: _ }) => {
             let count = count_of(alloc, &filling)?;
             counts.push(count)?;

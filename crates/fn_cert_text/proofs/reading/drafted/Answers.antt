@@ -1,7 +1,6 @@
 use Rattle.std.proofs.Common.{◌∙◌, sym, ap, subst, map}
 use Rattle.fn_cert_text.specs.Drafts.{next, when}
-use Rattle.fn_cert_text.specs.Faults.{Stops}
-use Rattle.fn_cert_text.specs.Shapes.{fault_told}
+use Rattle.fn_cert_text.specs.Shapes.{fault_told, Stops}
 use Rattle.fn_cert_text.proofs.DraftsMeaning.{some_is}
 use Rattle.fn_cert_text.proofs.DraftsOutcome.{drafted_more, stops_at}
 use Rattle.fn_cert_text.proofs.reading.drafted.Goals as goal

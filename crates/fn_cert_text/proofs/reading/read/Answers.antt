@@ -1,7 +1,8 @@
 use Rattle.std.proofs.Common.{◌∙◌, sym, ap, subst, refl, map, rules}
 use Rattle.std.proofs.lemmas.Result.{err_from_is_err_and}
 use Rattle.fn_cert_text.specs.Drafts.{read_lines, start}
-use Rattle.fn_cert_text.specs.Faults.{Stops, IsReading, too_long, cut_off}
+use Rattle.fn_cert_text.specs.Faults.{IsReading, too_long, cut_off}
+use Rattle.fn_cert_text.specs.Shapes.{Stops}
 use Rattle.fn_bits.specs.Lines.{numbered_lines}
 use Rattle.fn_cert_text.proofs.DraftsOutcome.{blamed, is_cut_off, is_reading, is_kept}
 use Rattle.fn_cert_text.proofs.reading.read.Goals as goal

@@ -5,12 +5,12 @@ use Rattle.fn_line.proofs.packet.try_packet.Goals as goal
 
 pub returns-then-not-is_zero-clause-err : goal.returns-then-not-is_zero-clause-err
 returns-then-not-is_zero-clause-err c =
-    badly_filled c.args.accepted.now c.args.context.now (drop 1 c.args.begun.now) c.bits.result.now c.in-Ok.read.filling c.new-cursor.result c.unpack_filling.new.cursor c.bits.ensures.value c.requires c.in-Ok.ensures.read.fits
+    badly_filled c.args.accepted.now c.args.context.now (drop 1 c.args.begun.now) c.bits.result.now c.in-Ok.read.filling c.new-cursor.result c.unpack.new.cursor c.bits.ensures.value c.requires c.in-Ok.ensures.read.fits
     c.new-cursor.ensures c.in-Ok.ensures.read.advances (λ z. let never : false ≡ true = c.if-not-is_zero.ensures.1 z in cc)
 
 pub returns-in_ok-advance-in-Ok-clause-ok : goal.returns-in_ok-advance-in-Ok-clause-ok
 returns-in_ok-advance-in-Ok-clause-ok c =
-    taken c.args.accepted.now c.args.context.now c.advance.new.context (drop 1 c.args.begun.now) c.bits.result.now c.in-Ok.read.filling c.new-cursor.result c.unpack_filling.new.cursor
+    taken c.args.accepted.now c.args.context.now c.advance.new.context (drop 1 c.args.begun.now) c.bits.result.now c.in-Ok.read.filling c.new-cursor.result c.unpack.new.cursor
     (entries c.in-Ok.read.filling) c.in_ok-item-in-Ok.item c.bits.ensures.fit c.bits.ensures.value c.requires c.in-Ok.ensures.read.fits
     c.new-cursor.ensures c.in-Ok.ensures.read.advances (c.if-not-is_zero.ensures.0 refl) refl c.in_ok-advance-in-Ok.ensures.ok c.in_ok-item-in-Ok.ensures
 

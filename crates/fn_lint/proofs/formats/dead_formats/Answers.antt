@@ -1,6 +1,11 @@
-use Rattle.std.proofs.Common.{ap, length, arith}
-use Rattle.fn_lint.proofs.Listed.{all_listed}
+use Rattle.std.proofs.Common.{◌∙◌, sym, ap, subst}
+use Rattle.std.specs.Prelude.{IfOk}
+use Rattle.fn_profile.specs.Resolved.{Resolved}
+use Rattle.fn_lint.specs.Listing.{AreDead}
 use Rattle.fn_lint.proofs.formats.dead_formats.Goals as goal
 
+pub dead_in-requires : goal.dead_in-requires
+dead_in-requires c = c.methods.ensures ∙ ap (λ (q : Resolved). q.methods) (sym c.in_ok-judged.ensures)
+
 pub returns : goal.returns
-returns c = record { found = all_listed c.args.profile.now c.loop-index.index c.loop-index.found (let past = c.loop-index-test.false in let same = ap length c.methods-method-items.ensures in omega arith) c.loop-index.invariant }
+returns c = record { found = subst (λ (q : Resolved). IfOk c.dead_in.result (AreDead q 0 0)) c.in_ok-judged.ensures c.dead_in.ensures }

@@ -1,19 +1,37 @@
-use Rattle.std.proofs.Common.{sym}
+use Rattle.std.proofs.Common.{subst}
+use Rattle.std.specs.Prelude.{MatchOption}
+use Rattle.fn_profile.specs.Resolved.{Resolved, IsSound}
+use Rattle.fn_lint.specs.Obstacles.{Stands, Hinders}
+use Rattle.fn_lint.specs.declared.obstacle.Obstacle.{Obstacle}
 use Rattle.fn_lint.proofs.ObstaclesDead.{none_dead}
-use Rattle.fn_lint.proofs.ObstaclesStanding.{one_hinders, none_hinders, by_ranges, each_ok}
+use Rattle.fn_lint.proofs.ObstaclesStanding.{own_hinders, some_hinders, none_hinders, there_is, there_is_none}
 use Rattle.fn_lint.proofs.obstacle.obstacle_of.Goals as goal
 
+own : (c : goal.Then-is_some) → MatchOption c.in_ok-own.own ((o : Obstacle) → Stands c.args.judged.now c.args.method c.args.format o → ⊥) (Stands c.args.judged.now c.args.method c.args.format)
+own c =
+    subst (λ (q : Resolved). MatchOption c.in_ok-own.own ((o : Obstacle) → Stands q c.args.method c.args.format o → ⊥) (Stands q c.args.method c.args.format)) c.profile-2.ensures c.in_ok-own.ensures
+
+pub returns-then-is_some-clause-found : goal.returns-then-is_some-clause-found
+returns-then-is_some-clause-found c = own_hinders c.args.judged.now c.args.method c.args.format c.in_ok-own.own (own c)
+
+pub returns-then-is_some-clause-dead : goal.returns-then-is_some-clause-dead
+returns-then-is_some-clause-dead c =
+    none_dead c.args.judged.now (subst IsSound c.profile.ensures c.keeps.ensures) c.args.method c.args.format c.in_ok-own.own (own_hinders c.args.judged.now c.args.method c.args.format c.in_ok-own.own (own c))
+
+pub returns-then-is_some-clause-none : goal.returns-then-is_some-clause-none
+returns-then-is_some-clause-none c = there_is ((o : Obstacle) → Hinders c.args.judged.now c.args.method c.args.format o → ⊥) c.in_ok-own.own c.if-is_some.ensures
+
 pub returns-clause-found : goal.returns-clause-found
-returns-clause-found c =
-    each_ok c.standing.result
-    (one_hinders c.args.profile.now c.args.method c.args.format c.in-Some.found.now c.in-Some-whole_of.whole.now c.in-Some-sizes_of.sizes.now (sym c.in-Some.ensures) (sym c.in-Some-whole_of.ensures) (sym c.in-Some-sizes_of.ensures))
-    (by_ranges c.standing.result c.in-Some.found.now c.in-Some-sizes_of.sizes.now c.as_slice.result.now c.in-Some-whole_of.whole.now.parameters c.as_slice.ensures c.standing.ensures)
+returns-clause-found c = some_hinders c.args.judged.now c.args.method c.args.format c.calls_dead.result c.calls_dead.ensures
 
 pub returns-clause-dead : goal.returns-clause-dead
-returns-clause-dead c = each_ok c.standing.result (none_dead c.args.profile.now c.keeps.ensures c.args.method c.args.format) (returns-clause-found c)
+returns-clause-dead c =
+    none_dead c.args.judged.now (subst IsSound c.profile.ensures c.keeps.ensures) c.args.method c.args.format c.calls_dead.result
+    (some_hinders c.args.judged.now c.args.method c.args.format c.calls_dead.result c.calls_dead.ensures)
 
 pub returns-clause-none : goal.returns-clause-none
 returns-clause-none c =
-    each_ok c.standing.result
-    (none_hinders c.args.profile.now c.args.method c.args.format c.in-Some.found.now c.in-Some-whole_of.whole.now c.in-Some-sizes_of.sizes.now (sym c.in-Some.ensures) (sym c.in-Some-whole_of.ensures) (sym c.in-Some-sizes_of.ensures))
-    (by_ranges c.standing.result c.in-Some.found.now c.in-Some-sizes_of.sizes.now c.as_slice.result.now c.in-Some-whole_of.whole.now.parameters c.as_slice.ensures c.standing.ensures)
+    none_hinders c.args.judged.now c.args.method c.args.format c.calls_dead.result
+    (there_is_none ((o : Obstacle) → Stands c.args.judged.now c.args.method c.args.format o → ⊥) (Stands c.args.judged.now c.args.method c.args.format) c.in_ok-own.own c.if-is_some.ensures
+    (subst (λ (q : Resolved). MatchOption c.in_ok-own.own ((o : Obstacle) → Stands q c.args.method c.args.format o → ⊥) (Stands q c.args.method c.args.format)) c.profile-2.ensures c.in_ok-own.ensures))
+    c.calls_dead.ensures

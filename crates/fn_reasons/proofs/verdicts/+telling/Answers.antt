@@ -19,7 +19,7 @@ told_by_call-returns t c =
     let d = c.args.field.now in
     let line = c.line.result in
     let begins = rw c.in-Some.is at c.begin_of.ensures in
-    let inner : Setting = record { profile = s.profile; context = s.context; method = c.args.method; parameters = c.as_slice.result.now; path = c.as_str-2.result.now; side = s.side; bits = c.in-Some-3.bits; is_whole = false } in
+    let inner : Setting = record { profile = s.profile; context = s.context; method = c.args.method; parameters = c.as_slice.result.now; path = c.as_str-2.result.now; side = s.side; bits = c.in-Some-3.bits; is_whole = false; asked = [] } in
     let inner_is = inner_same s d c.args.method c.in-Some-2.parameters c.as_slice.result.now c.in-Some.offset c.as_str-2.result.now c.in-Some-3.bits c.as_slice.ensures
     (c.as_str-2.ensures.value ∙ (c.in_ok-path.ensures ∙ ap (below s.path) c.as_str.ensures)) (rw c.in-Some-3.is at c.in_ok-bits.ensures) in
     let calls = calls_is k c.requires.sighted c.args.index d c.requires.at c.args.method c.args.arguments.now c.requires.call c.in-Some-2.parameters (rw c.in-Some-2.is at c.in_ok-parameters.ensures) c.in-Some.offset begins inner inner_is in

@@ -1,7 +1,7 @@
 use Rattle.std.proofs.Common.{ap, sym, ◌∙◌}
 use Rattle.fn_bounds.specs.Laws.{encoding_exprs}
 use Rattle.fn_expr.specs.Bounds.{bounding_of}
-use Rattle.fn_reasons.specs.Undefined.{first_undefined}
+use Rattle.fn_lint.specs.Undefined.{first_undefined}
 use Rattle.fn_reasons.proofs.ReasonsMaking.{no_argument_is}
 use Rattle.fn_reasons.proofs.verdicts.told_by_argument.Goals as goal
 

@@ -1,6 +1,6 @@
 use Rattle.std.proofs.Common.{ap, sym, ◌∙◌}
 use Rattle.fn_expr.specs.Bounds.{bounding_of}
-use Rattle.fn_reasons.specs.Undefined.{undefined_condition}
+use Rattle.fn_lint.specs.Undefined.{undefined_condition}
 use Rattle.fn_reasons.proofs.ReasonsMaking.{no_truth_is}
 use Rattle.fn_reasons.proofs.verdicts.told_by_truth.Goals as goal
 

@@ -18,7 +18,7 @@ returns-in-Show c =
 
 pub returns-in-Lint : goal.returns-in-Lint
 returns-in-Lint c =
-    passed_on (LintedBy c.args.order.now.top.now c.in-Some.profile.now) (Answered c.args.order.now c.args.parts.now) c.answer_lint.result (λ s out h. linted c.in-Some.profile c.in-Some.is c.in-Lint.is h) c.answer_lint.ensures
+    passed_on (LintedBy c.args.order.now.top.now c.in-Some.profile.now c.args.parts.now.context) (Answered c.args.order.now c.args.parts.now) c.answer_lint.result (λ s out h. linted c.in-Some.profile c.in-Some.is c.in-Lint.is h) c.answer_lint.ensures
 
 pub returns-in-Draw : goal.returns-in-Draw
 returns-in-Draw c =

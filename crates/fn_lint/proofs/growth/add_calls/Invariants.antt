@@ -1,0 +1,6 @@
+use Rattle.std.proofs.Common.{take}
+use Rattle.fn_lint.specs.NeedsSteps as steps
+use Rattle.fn_lint.proofs.growth.add_calls.Given as goal
+
+abbrev pub invariant-loop-field : goal.invariant-loop-field
+invariant-loop-field l = steps.AddsCalls l.ground l.path (take l.field-index l.fields) l.fn.flags l.flags l.changes
