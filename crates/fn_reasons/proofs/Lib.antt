@@ -5,5 +5,10 @@ pub mod ToldKnown
 pub mod Numbered
 pub mod ReasonsTrue
 pub mod ReasonsMaking
+pub mod MethodsValued
+pub mod PlacesFound
+pub mod FullSeen
+pub mod JoinedHeld
+pub mod FieldsClear
 pub mod AcrossArms
 pub mod ToldMeasured

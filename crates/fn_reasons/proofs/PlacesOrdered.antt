@@ -1,8 +1,8 @@
 -- Where the sides of fields stand in the side of the whole.
-use Rattle.std.proofs.Common.{◌≡◌, ◌∙◌, refl, sym, ap, ℕ, zero, suc, ◌+◌, ◌-◌, Bool, true, false, cond, List, [], ◌∷◌, ◌++◌, length, take, drop, map, flat_map, filter, arith, append_assoc}
-use Rattle.std.specs.Prelude.{Option, Some, slice_get}
-use Rattle.std.proofs.lemmas.List.{length-append}
-use Rattle.std.proofs.lemmas.Grind.{flat_map-append}
+use Rattle.std.proofs.Common.{◌≡◌, ◌∙◌, refl, sym, ap, ℕ, ◌+◌, ◌-◌, Bool, true, false, cond, List, [], ◌∷◌, ◌++◌, length, take, drop, map, flat_map, filter, arith, append_assoc}
+use Rattle.std.specs.Prelude.{Option, Some, None, nat_eq, nat_le, option_map, option_and_then, slice_get, slice_range}
+use Rattle.std.proofs.lemmas.Bool.Decides.{nat_tests}
+use Rattle.std.proofs.lemmas.List.{drop-drop, drop_at, length-append}
 use Rattle.fn_expr.specs.declared.expr.Side.{Side}
 use Rattle.fn_expr.specs.declared.expr.Side.TheVariants.{Uncompressed, Compressed}
 use Rattle.fn_normal.specs.declared.profile.Declared.{Declared}
@@ -12,7 +12,8 @@ use Rattle.fn_filling.specs.declared.filling.Filling.{Filling}
 use Rattle.fn_filling.specs.Fillings.{Sides, header_bits, is_header, packed_bits, level}
 use Rattle.fn_fits.specs.Fits.{IsShaped, field_side}
 use Rattle.fn_fits.proofs.FitsSides.{piece_is}
-use Rattle.fn_reasons.specs.Places.{header_order, order_of, HaveLength, none_before, one_more, BeginsAt, Holds}
+use Rattle.fn_fits.proofs.FitsSized.{and_then_some, map_some}
+use Rattle.fn_reasons.specs.Places.{begin_of, cut_of, header_order, order_of, BeginsAt, Holds}
 use Rattle.fn_reasons.specs.Settings.{whole_side}
 
 -- that side of the field i
@@ -60,55 +61,46 @@ whole_pieces format f shaped Compressed = ap (λ l. packed_bits l (level f)) sha
 
 -- ---- where a piece begins
 
-split_at : (order : List ℕ) (k i : ℕ) → slice_get order k ≡ Some i → order ≡ take k order ++ i ∷ drop (suc k) order
-split_at [] k i e = absurd (cc)
-split_at (x ∷ xs) zero i e = let one : x ≡ i = cc in λ j. one j ∷ xs
-split_at (x ∷ xs) (suc k) i e = ap (λ z. x ∷ z) (split_at xs k i e)
-
-one_longer : (order : List ℕ) (k i : ℕ) → slice_get order k ≡ Some i → take (suc k) order ≡ take k order ++ i ∷ []
-one_longer [] k i e = absurd (cc)
-one_longer (x ∷ xs) zero i e = let one : x ≡ i = cc in λ j. one j ∷ []
-one_longer (x ∷ xs) (suc k) i e = ap (λ z. x ∷ z) (one_longer xs k i e)
+taken : (own later : List Bool) → take (length own) (own ++ later) ≡ own
+taken [] later = refl
+taken (x ∷ own) later = ap (λ z. x ∷ z) (taken own later)
 
 module _ (xs : List Sides) (side : Side) (order : List ℕ) (only : ℕ → Option ℕ) (each : (i m : ℕ) → only i ≡ Some m → length (piece xs side i) ≡ m) where
-  pub counted : {k n : ℕ} → HaveLength order only k n → length (flat_map (piece xs side) (take k order)) ≡ n
-  counted none_before = refl
-  counted (one_more {k} {n} i m h at is) =
-      let before = counted h in
-      let own = each i m is in
-      let next : k + 1 ≡ suc k = omega arith in
-      let joined : flat_map (piece xs side) (take (k + 1) order) ≡ flat_map (piece xs side) (take k order) ++ flat_map (piece xs side) (i ∷ []) =
-      ap (flat_map (piece xs side)) ((λ j. take (next j) order) ∙ one_longer order k i at) ∙ flat_map-append (piece xs side) (take k order) (i ∷ []) in
-      let sum = length-append (flat_map (piece xs side) (take k order)) (flat_map (piece xs side) (i ∷ [])) in
-      let last = length-append (piece xs side i) [] in
-      let all = ap length joined in
-      omega (arith, before, own, all, sum, last)
-
-  passed : (front later : List Bool) → drop (length front) (front ++ later) ≡ later
-  passed [] later = refl
-  passed (x ∷ front) later = passed front later
-
-  taken : (own later : List Bool) → take (length own) (own ++ later) ≡ own
-  taken [] later = refl
-  taken (x ∷ own) later = ap (λ z. x ∷ z) (taken own later)
+  begins_on : (rest : List Bool) (i : ℕ) (js : List ℕ) (bits : List Bool) → bits ≡ flat_map (piece xs side) js ++ rest → (offset : ℕ) → BeginsAt js only i offset → (later : List Bool) × (drop offset bits ≡ piece xs side i ++ later)
+  begins_on rest i [] bits in_front offset b = absurd (cc)
+  begins_on rest i (j ∷ js) bits in_front offset b =
+      by (nat_eq i j) refl b (λ n m long begins. begins_on rest i js (drop n bits) ((λ k. drop n ((in_front ∙ append_assoc (piece xs side j) (flat_map (piece xs side) js) rest) k)) ∙ drop_at (piece xs side j) (flat_map (piece xs side) js ++ rest) n long) m begins)
+    where
+      by : (t : Bool) → nat_eq i j ≡ t → cond t (Some 0) (option_and_then (λ n. option_map (λ m. n + m) (begin_of only i js)) (only j)) ≡ Some offset
+          → ((n m : ℕ) → length (piece xs side j) ≡ n → begin_of only i js ≡ Some m → (later : List Bool) × (drop m (drop n bits) ≡ piece xs side i ++ later))
+          → (later : List Bool) × (drop offset bits ≡ piece xs side i ++ later)
+      by true same b next =
+          let here : i ≡ j = grind (arith, nat_tests) in
+          let none : 0 ≡ offset = cc in (
+            flat_map (piece xs side) js ++ rest,
+            (λ k. drop (sym none k) bits) ∙ (in_front ∙ (append_assoc (piece xs side j) (flat_map (piece xs side) js) rest ∙ ap (λ z. piece xs side z ++ (flat_map (piece xs side) js ++ rest)) (sym here))),
+          )
+      by false same b next =
+          let x = and_then_some (λ n. option_map (λ m. n + m) (begin_of only i js)) (only j) offset b in
+          let y = map_some (λ m. x.0 + m) (begin_of only i js) offset x.2 in
+          let t = next x.0 y.0 (each j x.0 x.1) y.1 in
+          (t.0, (λ k. drop (sym y.2 k) bits) ∙ (sym (drop-drop y.0 x.0 bits) ∙ t.1))
 
   module _ (bits rest : List Bool) (in_front : bits ≡ flat_map (piece xs side) order ++ rest) where
     -- the bits from where the field begins are its own, and then others
     pub begun : (i offset : ℕ) → BeginsAt order only i offset → (later : List Bool) × (drop offset bits ≡ piece xs side i ++ later)
-    begun i offset b =
-        let front = flat_map (piece xs side) (take b.place order) in
-        let after = flat_map (piece xs side) (drop (suc b.place) order) in
-        let whole : flat_map (piece xs side) order ≡ front ++ (piece xs side i ++ after) =
-        ap (flat_map (piece xs side)) (split_at order b.place i b.at_place) ∙ flat_map-append (piece xs side) (take b.place order) (i ∷ drop (suc b.place) order) in
-        let all : bits ≡ front ++ (piece xs side i ++ (after ++ rest)) =
-        in_front ∙ (ap (λ z. z ++ rest) whole ∙ (append_assoc front (piece xs side i ++ after) rest ∙ ap (λ z. front ++ z) (append_assoc (piece xs side i) after rest))) in
-        let long : length front ≡ offset = counted b.before in
-        (after ++ rest, (λ j. drop (sym long j) (all j)) ∙ passed front (piece xs side i ++ (after ++ rest)))
+    begun i offset b = begins_on rest i order bits in_front offset b
 
     -- the bits that are cut out are those of the field
     pub held : (i : ℕ) (own : List Bool) → Holds order only bits i own → piece xs side i ≡ own
     held i own h =
-        let b = begun i h.offset h.begins in
-        let long : length (piece xs side i) ≡ h.count = each i h.count h.count_is in
-        let count : (h.offset + h.count) - h.offset ≡ length (piece xs side i) = omega (arith, long) in
-        sym (h.cut.own_is ∙ ((λ j. take (count j) (b.1 j)) ∙ taken (piece xs side i) b.0))
+        let x = and_then_some (λ offset. option_and_then (λ count. cut_of bits offset count) (only i)) (begin_of only i order) own h in
+        let y = and_then_some (λ count. cut_of bits x.0 count) (only i) own x.2 in
+        let b = begun i x.0 x.1 in
+        let long : length (piece xs side i) ≡ y.0 = each i y.0 y.1 in
+        let count : (x.0 + y.0) - x.0 ≡ length (piece xs side i) = omega (arith, long) in
+        sym (sym (cut_out (nat_le (x.0 + y.0) (length bits)) x.0 y.0 y.2) ∙ ((λ j. take (count j) (b.1 j)) ∙ taken (piece xs side i) b.0))
+      where
+        cut_out : (t : Bool) (offset count : ℕ) → cond t (Some (slice_range bits offset (offset + count))) None ≡ Some own → slice_range bits offset (offset + count) ≡ own
+        cut_out true offset count e = cc
+        cut_out false offset count e = absurd (cc)

@@ -1,48 +1,41 @@
 -- What the look at a format finds, from its parts.
 use Rattle.std.proofs.Common.{◌≡◌, ◌≢◌, ◌∙◌, refl, sym, ap, subst, ℕ, zero, suc, ◌+◌, ◌≤◌, ◌<◌, Bool, true, false, cond, List, [], ◌∷◌, ◌++◌, length, drop, arith, append_assoc}
-use Rattle.std.specs.Prelude.{◌&&◌, is_none, Option, Some, None, MatchOption, Result, Ok, Err, IfOk, IfSome, OnOk, slice_get, string_bytes, ℤ, ◌⊎◌}
-use Rattle.std.specs.Option.{option_map, option_and_then, option_copied}
+use Rattle.std.specs.Prelude.{◌&&◌, is_none, Option, Some, None, MatchOption, Result, Ok, Err, IfOk, IfSome, OnOk, slice_get, string_bytes, ◌⊎◌}
+use Rattle.std.specs.Option.{option_copied}
 use Rattle.std.proofs.Common.{inl, inr, String, Global}
 use Rattle.std.proofs.lemmas.Result.{IfOk-weaker}
 use Rattle.std.proofs.lemmas.List.{append-nil, length-append}
 use Rattle.fn_expr.specs.declared.expr.Side.{Side}
-use Rattle.fn_expr.specs.declared.expr.Side.TheVariants.{Uncompressed}
+use Rattle.fn_expr.specs.declared.expr.Side.TheVariants.{Uncompressed, Compressed}
 use Rattle.fn_expr.specs.declared.expr.Expr.{Expr}
 use Rattle.fn_expr.specs.declared.interval.Interval.{Interval}
 use Rattle.fn_expr.specs.Bounds.{bounding_of}
-use Rattle.fn_expr.specs.Ranged.{Bounding}
-use Rattle.fn_fits.specs.Fits.{crc_values, format_at, two_values}
-use Rattle.fn_lib.specs.Methods as lib
+use Rattle.fn_fits.specs.Fits.{format_at}
 use Rattle.fn_lib.specs.Methods.{IsOnly}
 use Rattle.fn_normal.specs.declared.profile.Encoding.TheVariants as encoding
 use Rattle.fn_normal.specs.declared.profile.Field.{Field}
 use Rattle.fn_normal.specs.declared.profile.Format.{Format}
 use Rattle.fn_normal.specs.declared.profile.FormatSizes.{FormatSizes}
-use Rattle.fn_normal.specs.declared.profile.Library.{Library}
-use Rattle.fn_normal.specs.declared.profile.Library.TheVariants as library
-use Rattle.fn_normal.specs.declared.profile.CrcArguments.{CrcArguments}
 use Rattle.fn_source.specs.declared.span.Span.{Span}
 use Rattle.fn_bounds.specs.Faults.{side_bounds}
 use Rattle.fn_bounds.specs.Laws.{encoding_exprs}
-use Rattle.fn_filling.specs.declared.filling.AskedValue.{AskedValue}
 use Rattle.fn_filling.specs.Entries.{below}
 use Rattle.fn_fits.specs.Bounded.{sizes_at}
 use Rattle.fn_fits.proofs.FitsSized.{one_value}
 use Rattle.fn_lint.specs.Obstacles.{Hinders}
 use Rattle.fn_lint.specs.Never.{IsUntrue}
 use Rattle.fn_lint.specs.declared.obstacle.Obstacle.{Obstacle}
-use Rattle.fn_reasons.specs.Across.{with_values, crc_with_values, two_valued, method_of}
+use Rattle.fn_reasons.specs.Across.{with_values, method_of}
 use Rattle.fn_reasons.specs.Conflicts.{IsSighted, IsCoded, StandsIn, reference_of}
-use Rattle.fn_reasons.specs.Looks.{IsLook, ToldOf, SeenOf, SoFar}
-use Rattle.fn_reasons.specs.Places.{HaveLength, one_more, BeginsAt, Holds, length_in, order_of}
+use Rattle.fn_reasons.specs.Full.{AreInFull, IsFullView}
+use Rattle.fn_reasons.specs.Looks.{IsLook, SeenOf, SeenOn, SoFar}
+use Rattle.fn_reasons.specs.Places.{BeginsAt, held, length_in, order_of}
 use Rattle.fn_reasons.specs.Settings.{Setting, setting_of}
-use Rattle.fn_reasons.specs.Told.{placed, empty, asked_for, across, asked_before, Related, AreSeen, all_pinned, base_ranges, is_crc, leaves_empty, length_of, lengths_from, method_in, opposite, pinned, reference_in, seen_at}
-use Rattle.fn_reasons.specs.Reasons.{View, HasMethod, Stands, dead, short, long, cut, no_reference, differs, no_side, untrue, no_argument, no_truth, Calls, Tells, by_reason, by_call, TellAll, ends, next, HasReferences, HasRoom, IsOpen, Verdicts, lacking, lacks, no_more, out, open_still, all_ranged, formats_of, inside, line_of, ranges_in, wants_reference}
+use Rattle.fn_reasons.specs.Told.{Related, length_of, lengths_from, opposite, reference_in, seen_at, seen_side}
+use Rattle.fn_reasons.specs.Reasons.{HasMethod, Stands, dead, short, long, cut, no_reference, differs, no_side, untrue, no_argument, no_truth, Calls, Tells, by_reason, by_call, TellAll, ends, next, HasReferences, HasRoom, IsClear, IsOpen, Verdicts, lacking, lacks, no_more, out, open_still, all_ranged, formats_of, inside, line_of, ranges_in, wants_reference}
 use Rattle.fn_reasons.specs.Figures.{figures_at}
 use Rattle.fn_lint.specs.Undefined.{first_undefined, undefined_condition}
 use Rattle.fn_reasons.specs.Listing as listing
-use Rattle.fn_reasons.specs.declared.across.Valued.{Valued}
-use Rattle.fn_reasons.specs.declared.across.Valued.TheVariants as valued
 use Rattle.fn_reasons.specs.declared.conflict.Coded.{Coded}
 use Rattle.fn_reasons.specs.declared.conflict.Sighted.{Sighted}
 use Rattle.fn_reasons.specs.declared.figures.Figure.{Figure}
@@ -51,77 +44,16 @@ use Rattle.fn_reasons.specs.declared.reason.Reason.{Reason}
 use Rattle.fn_reasons.specs.declared.reason.Reason.TheVariants as reason
 use Rattle.fn_reasons.specs.declared.seeing.Look.{Look}
 use Rattle.fn_reasons.specs.declared.sight.Sight.{Sight}
-
--- ---- places
-
-pub longer : (order : List ℕ) (only : ℕ → Option ℕ) (place offset i m : ℕ) (o : Option ℕ) → slice_get order place ≡ Some i → only i ≡ Some m → IfSome o (λ z. z ≡ offset + m)
-    → IfSome o (λ z. HaveLength order only place offset → HaveLength order only (place + 1) z)
-longer order only place offset i m None at is sum = tt
-longer order only place offset i m (Some after) at is sum = λ before. subst (λ z. HaveLength order only (place + 1) z) (sym sum) (one_more i m before at is)
-
-pub begun : (order : List ℕ) (only : ℕ → Option ℕ) (i place offset : ℕ) → slice_get order place ≡ Some i → HaveLength order only place offset → BeginsAt order only i offset
-begun order only i place offset at before = record { place = place; at_place = at; before = before }
+use Rattle.fn_reasons.proofs.MethodsValued.{method_is}
 
 -- ---- what is told
 
 -- the lengths that a look goes by are those of its format
-lengths_same : (k : Look) (n : ℕ) → IsLook k n → length_in k.lengths.now ≡ length_of (setting_of k.spot) k.format.now k.sizes.now
+pub lengths_same : (k : Look) (n : ℕ) → IsLook k n → length_in k.lengths.now ≡ length_of (setting_of k.spot) k.format.now k.sizes.now
 lengths_same k n look = ap length_in (look.lengths_are ∙ ap (λ z. lengths_from (setting_of k.spot) z k.sizes.now 0 k.format.now.fields) look.base_is)
 
-begins_same : (k : Look) (n : ℕ) → IsLook k n → (i offset : ℕ) → BeginsAt k.order.now (length_in k.lengths.now) i offset → BeginsAt (order_of k.format.now k.spot.side) (length_of (setting_of k.spot) k.format.now k.sizes.now) i offset
+pub begins_same : (k : Look) (n : ℕ) → IsLook k n → (i offset : ℕ) → BeginsAt k.order.now (length_in k.lengths.now) i offset → BeginsAt (order_of k.format.now k.spot.side) (length_of (setting_of k.spot) k.format.now k.sizes.now) i offset
 begins_same k n look i offset b = subst (λ z. BeginsAt (order_of k.format.now k.spot.side) z i offset) (lengths_same k n look) (subst (λ z. BeginsAt z (length_in k.lengths.now) i offset) look.order_is b)
-
-pub placed_is : (k : Look) (n i : ℕ) → IsLook k n → (own : List Bool) → Holds k.order.now (length_in k.lengths.now) k.spot.bits.now i own → ToldOf k i k.spot.side own
-placed_is k n i look own h =
-    placed (subst (λ z. Holds (order_of k.format.now k.spot.side) z k.spot.bits.now i own) (lengths_same k n look) (subst (λ z. Holds z (length_in k.lengths.now) k.spot.bits.now i own) look.order_is h))
-
-pub empty_is : (k : Look) (i : ℕ) (side : Side) (d : Field) → slice_get k.format.now.fields i ≡ Some d → leaves_empty d.encoding side ≡ true → ToldOf k i side []
-empty_is k i side d at leaves = empty d at leaves
-
-pub asked_is : (k : Look) (i : ℕ) (d : Field) → slice_get k.format.now.fields i ≡ Some d → d.declared.asked ≡ true → (value : AskedValue) → slice_get k.spot.asked.now (asked_before k.format.now.fields i) ≡ Some value → (own : List Bool) → own ≡ value.bits
-    → ToldOf k i Uncompressed own
-asked_is k i d at is value given own same = subst (λ z. ToldOf k i Uncompressed z) (sym same) (asked_for d value at is given)
-
--- the method of the values is that of the arguments, of which each has one value
-two_is : (make : ℤ → ℤ → Valued) (made : ℤ → ℤ → lib.Method) (o q : Option ℤ) (v : Valued) (covered : List Bool) → ((x y : ℤ) → method_of (make x y) covered ≡ made x y) → two_valued make o q ≡ Some v → two_values made o q ≡ Some (method_of v covered)
-two_is make made (Some x) (Some y) v covered same e = let is : make x y ≡ v = cc in ap Some (sym (same x y) ∙ ap (λ z. method_of z covered) is)
-two_is make made (Some x) None v covered same e = absurd (cc)
-two_is make made None q v covered same e = absurd (cc)
-
-crc_is : (r : Bounding) (crc : CrcArguments) (v : Valued) (covered : List Bool) → crc_with_values r crc ≡ Some v → crc_values covered (all_pinned r (crc.bits ∷ crc.polynomial ∷ crc.initial ∷ crc.length ∷ [])) ≡ Some (method_of v covered)
-crc_is r crc v covered e = by (pinned r crc.bits) (pinned r crc.polynomial) (pinned r crc.initial) (pinned r crc.length) e
-  where
-    by : (n p i l : Option ℤ) → option_and_then (λ a. option_and_then (λ b. option_and_then (λ c. option_map (λ d. valued.Crc a b c d) l) i) p) n ≡ Some v
-        → crc_values covered (option_and_then (λ a. option_map (λ later. a ∷ later) (option_and_then (λ b. option_map (λ later. b ∷ later) (option_and_then (λ c. option_map (λ later. c ∷ later) (option_and_then (λ d. option_map (λ later. d ∷ later) (Some [])) l)) i)) p)) n) ≡ Some (method_of v covered)
-    by (Some a) (Some b) (Some c) (Some d) e = let is : valued.Crc a b c d ≡ v = cc in ap Some (ap (λ z. method_of z covered) is)
-    by (Some a) (Some b) (Some c) None e = absurd (cc)
-    by (Some a) (Some b) None l e = absurd (cc)
-    by (Some a) None i l e = absurd (cc)
-    by None p i l e = absurd (cc)
-
-pub method_is : (r : Bounding) (l : Library) (v : Valued) (covered : List Bool) → with_values r l ≡ Some v → method_in r covered l ≡ Some (method_of v covered)
-method_is r (library.UncompressedValue len x) v covered e = two_is valued.UncompressedValue lib.uncompressed_value (pinned r len) (pinned r x) v covered (λ a b. refl) e
-method_is r (library.CompressedValue len x) v covered e = two_is valued.CompressedValue lib.compressed_value (pinned r len) (pinned r x) v covered (λ a b. refl) e
-method_is r (library.Irregular len) v covered e = by (pinned r len) e
-  where
-    by : (o : Option ℤ) → option_map valued.Irregular o ≡ Some v → option_map lib.irregular o ≡ Some (method_of v covered)
-    by (Some x) e = let is : valued.Irregular x ≡ v = cc in ap Some (ap (λ z. method_of z covered) is)
-    by None e = absurd (cc)
-method_is r library.Static v covered e = let is : valued.Static ≡ v = cc in ap Some (ap (λ z. method_of z covered) is)
-method_is r (library.Lsb k offset) v covered e = two_is valued.Lsb lib.lsb (pinned r k) (pinned r offset) v covered (λ a b. refl) e
-method_is r (library.Crc crc) v covered e = crc_is r crc v covered e
-
-pub across_is : (k : Look) (n i : ℕ) → IsLook k n → (d : Field) → slice_get k.format.now.fields i ≡ Some d → (side : Side) (own : List Bool) → ToldOf k i side own → (l : Library) → d.encoding ≡ encoding.Library l → is_crc l ≡ false
-    → (v : Valued) → with_values (bounding_of k.base.now) l ≡ Some v → (other : List Bool) → IsOnly (Related (method_of v []) (reference_in (setting_of k.spot) d) side own) (Some other) → ToldOf k i (opposite side) other
-across_is k n i look d at side own told l is plain v values other only =
-    across d l (method_of v []) own told at is plain (method_is (bounding_of (base_ranges (setting_of k.spot) k.sizes.now)) l v [] (ap (λ z. with_values (bounding_of z) l) (sym look.base_is) ∙ values)) only
-
-pub across_from : (k : Look) (n i : ℕ) → IsLook k n → (d : Field) → slice_get k.format.now.fields i ≡ Some d → (side : Side) (own : List Bool) → ToldOf k i side own → (l : Library) → d.encoding ≡ encoding.Library l → is_crc l ≡ false
-    → (v : Valued) → with_values (bounding_of k.base.now) l ≡ Some v → (covered : List Bool) → covered ≡ [] → (ref : Option (List Bool)) → ref ≡ reference_in (setting_of k.spot) d
-    → (o : Option (List Bool)) → IsOnly (Related (method_of v covered) ref side own) o → IfSome o (ToldOf k i (opposite side))
-across_from k n i look d at side own told l is plain v values covered none ref ref_is None only = tt
-across_from k n i look d at side own told l is plain v values covered none ref ref_is (Some other) only =
-    across_is k n i look d at side own told l is plain v values other (subst (λ z. IsOnly (Related (method_of v z) (reference_in (setting_of k.spot) d) side own) (Some other)) none (subst (λ z. IsOnly (Related (method_of v covered) z side own) (Some other)) ref_is only))
 
 pub weaker : {X : Type 0} (o : Option X) (P Q : X → Type 0) → ((x : X) → P x → Q x) → IfSome o P → IfSome o Q
 weaker None P Q f h = tt
@@ -162,15 +94,31 @@ one_seen k i old new sight is seen so = record {
 pub none_seen : (k : Look) → SoFar k [] 0
 none_seen k = record { count = refl; each = λ j x at. absurd (cc) }
 
-pub all_seen : (k : Look) (n : ℕ) (sights : List Sight) → n ≡ length k.format.now.fields → SoFar k sights n → AreSeen (setting_of k.spot) k.format.now k.sizes.now sights
-all_seen k n sights is so = record { count = so.count ∙ is; each = so.each }
+pub all_seen : (k : Look) (n : ℕ) (sights : List Sight) → n ≡ length k.format.now.fields → SoFar k sights n → AreInFull (setting_of k.spot) k.format.now k.sizes.now sights
+all_seen k n sights is so = record { count = so.count ∙ is; each = λ i d sight at here. so.each i sight here d at }
+
+-- the two sides of a field
+pub both_seen : (k : Look) (i : ℕ) (d : Field) → slice_get k.format.now.fields i ≡ Some d → (sight : Sight) → SeenOn k i d Uncompressed sight.uncompressed → SeenOn k i d Compressed sight.compressed → SeenOf k i sight
+both_seen k i d at sight up down other there side = subst (λ z. SeenOn k i z side (seen_side sight side)) (one_value _ d other at there) (by side)
+  where
+    by : (z : Side) → SeenOn k i d z (seen_side sight z)
+    by Uncompressed = up
+    by Compressed = down
+
+-- no field has that number
+pub past_seen : (k : Look) (i : ℕ) (sight : Sight) → slice_get k.format.now.fields i ≡ None → SeenOf k i sight
+past_seen k i sight none d at = let wrong = sym none ∙ at in absurd (cc)
+
+-- the bits at a place, by the lengths that a look goes by
+pub placed_same : (k : Look) (n : ℕ) → IsLook k n → (i : ℕ) → held k.order.now (length_in k.lengths.now) k.spot.bits.now i ≡ held (order_of k.format.now k.spot.side) (length_of (setting_of k.spot) k.format.now k.sizes.now) k.spot.bits.now i
+placed_same k n look i = λ j. held (look.order_is j) (lengths_same k n look j) k.spot.bits.now i
 
 -- ---- what stands against a format
 
-view_is : (k : Sighted) → IsSighted k → View (setting_of k.look.spot) k.number k.look.format.now k.look.sizes.now k.seen.now
-view_is k h = record { format_is = h.look.format_is; sizes_are = h.look.sizes_are; is_seen = h.seen }
+view_is : (k : Sighted) → IsSighted k → IsFullView (setting_of k.look.spot) k.number k.look.format.now k.look.sizes.now k.seen.now
+view_is k h = h.seen
 
-has_method : (k : Sighted) (c : Coded) → IsSighted k → IsCoded k c → HasMethod (setting_of k.look.spot) k.look.format.now k.look.sizes.now k.seen.now c.index c.field.now (method_of c.method c.covered.now)
+pub has_method : (k : Sighted) (c : Coded) → IsSighted k → IsCoded k c → HasMethod (setting_of k.look.spot) k.look.format.now k.look.sizes.now k.seen.now c.index c.field.now (method_of c.method c.covered.now)
 has_method k c h coded = record {
   field_is = coded.at;
   library = c.library.now;
@@ -207,10 +155,10 @@ pub long_is : (s : Setting) (n : ℕ) (sizes : FormatSizes) → sizes_at s.profi
 long_is s n sizes at whole many most m l more =
     subst (λ z. Stands s n (reason.Long z most)) (sym m) (subst (λ z. Stands s n (reason.Long (length s.bits) z)) (sym l) (long sizes at whole (omega (arith, m, l, more))))
 
-pub cut_is : (k : Sighted) → IsSighted k → (i offset due left : ℕ) → BeginsAt k.look.order.now (length_in k.look.lengths.now) i offset → length_in k.look.lengths.now i ≡ Some due → left ≡ length (drop offset k.look.spot.bits.now) → left < due → StandsIn k (reason.Cut i left due)
-cut_is k h i offset due left begins is left_is few =
+pub cut_is : (k : Sighted) → IsSighted k → (i offset due left : ℕ) → offset ≤ length k.look.spot.bits.now → BeginsAt k.look.order.now (length_in k.look.lengths.now) i offset → length_in k.look.lengths.now i ≡ Some due → left ≡ length (drop offset k.look.spot.bits.now) → left < due → StandsIn k (reason.Cut i left due)
+cut_is k h i offset due left within begins is left_is few =
     subst (λ z. StandsIn k (reason.Cut i z due)) (sym left_is)
-    (cut offset k.look.format.now k.look.sizes.now h.look.format_is h.look.sizes_are (begins_same k.look k.number h.look i offset begins) (ap (λ z. z i) (sym (lengths_same k.look k.number h.look)) ∙ is) (subst (λ z. z < due) left_is few))
+    (cut offset k.look.format.now k.look.sizes.now h.look.format_is h.look.sizes_are within (begins_same k.look k.number h.look i offset begins) (ap (λ z. z i) (sym (lengths_same k.look k.number h.look)) ∙ is) (subst (λ z. z < due) left_is few))
 
 pub untrue_is : (k : Sighted) → IsSighted k → (j : ℕ) (figures : List Figure) → figures ≡ figures_at (bounding_of k.ranges.now) (slice_get k.look.format.now.constraints j) → IsUntrue k.look.format.now.constraints (bounding_of k.ranges.now) j
     → StandsIn k (reason.Untrue j figures)
@@ -271,9 +219,9 @@ all_end s depth n lines past so = subst (λ z. TellAll s depth 0 z) (append-nil 
 pub verdict_out : (s : Setting) (n : ℕ) (old new more : List Line) → n < formats_of s → Tells s 0 n more → new ≡ old ++ more → listing.SoFar s n old → listing.SoFar s (n + 1) new
 verdict_out s n old new more lt tells is so rest t = subst (λ z. Verdicts s 0 z) (sym (append_assoc old more rest) ∙ ap (λ z. z ++ rest) (sym is)) (so (more ++ rest) (out lt tells t))
 
-pub verdict_open : (s : Setting) (n : ℕ) (old new : List Line) (line : Line) → n < formats_of s → IsOpen s n → HasReferences s n → line ≡ line_of s 0 n reason.Nothing → new ≡ old ++ line ∷ [] → listing.SoFar s n old → listing.SoFar s (n + 1) new
-verdict_open s n old new line lt free referred is are so rest t =
-    let made : Verdicts s n (line ∷ rest) = subst (λ z. Verdicts s n (z ∷ rest)) (sym is) (open_still lt free referred t) in
+pub verdict_open : (s : Setting) (n : ℕ) (old new : List Line) (line : Line) → n < formats_of s → IsOpen s n → HasReferences s n → IsClear s n → line ≡ line_of s 0 n reason.Nothing → new ≡ old ++ line ∷ [] → listing.SoFar s n old → listing.SoFar s (n + 1) new
+verdict_open s n old new line lt free referred clear is are so rest t =
+    let made : Verdicts s n (line ∷ rest) = subst (λ z. Verdicts s n (z ∷ rest)) (sym is) (open_still lt free referred clear t) in
     subst (λ z. Verdicts s 0 z) (sym (append_assoc old (line ∷ []) rest) ∙ ap (λ z. z ++ rest) (sym are)) (so (line ∷ rest) made)
 
 pub verdicts_end : (s : Setting) (n : ℕ) (lines : List Line) → formats_of s ≤ n → listing.SoFar s n lines → Verdicts s 0 lines

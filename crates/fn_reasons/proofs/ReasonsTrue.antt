@@ -49,13 +49,15 @@ use Rattle.fn_lint.specs.Never.{is_untrue, IsUntrue}
 use Rattle.fn_lint.proofs.BracketsEmpty.{none_in_bracket}
 use Rattle.fn_lint.proofs.NeverApart.{not_true}
 use Rattle.fn_lint.proofs.ObstaclesDead.{obstacles-kill}
+use Rattle.fn_reasons.specs.Full.{IsFullView}
 use Rattle.fn_reasons.specs.Laws.{ReasonsAreTrue}
 use Rattle.fn_reasons.specs.Settings.{Setting, IsSought, IsOut, whole_side}
 use Rattle.fn_reasons.specs.Told.{Covers, Related, length_of, opposite, reference_in, seen_at, seen_subject}
-use Rattle.fn_reasons.specs.Reasons.{View, HasMethod, Stands, dead, short, long, cut, no_reference, differs, no_side, untrue, no_argument, no_truth, Tells, by_reason, by_call, TellAll, ends, next, all_ranged, formats_of, inside, ranges_in, range_of, wants_reference}
+use Rattle.fn_reasons.specs.Reasons.{HasMethod, Stands, dead, short, long, cut, no_reference, differs, no_side, untrue, no_argument, no_truth, Tells, by_reason, by_call, TellAll, ends, next, all_ranged, formats_of, inside, ranges_in, range_of, wants_reference}
 use Rattle.fn_reasons.specs.declared.line.Line.{Line}
 use Rattle.fn_reasons.specs.declared.reason.Reason.{Reason}
 use Rattle.fn_reasons.specs.declared.sight.Seen.{Seen}
+use Rattle.fn_reasons.proofs.FullSeen.{full_told}
 use Rattle.fn_reasons.proofs.ToldKnown as known
 use Rattle.fn_lint.specs.Undefined.{first_undefined, undefined_condition}
 use Rattle.fn_lint.proofs.UndefinedValueless as undefined
@@ -158,12 +160,12 @@ module _ (s : Setting) (sound : IsSound s.profile) (n : ℕ) (f : Filling) (h : 
 
   -- ---- by what is seen
 
-  module _ (format : Format) (sizes : FormatSizes) (seen : Seen) (v : View s n format sizes seen) where
+  module _ (format : Format) (sizes : FormatSizes) (seen : Seen) (v : IsFullView s n format sizes seen) where
     side_is : (i : ℕ) (side : Side) (own : List Bool) → seen_at seen.fields i side ≡ Some own → piece (level f) side i ≡ own
-    side_is = known.seen_is s sound n format v.format_is sizes v.sizes_are f h seen v.is_seen
+    side_is = known.seen_is s sound n format v.format_is sizes v.sizes_are f h seen (full_told s n format sizes seen v)
 
     lies : (e : Expr) → StandsIn format e → LiesIn (ranges_in s sizes seen) (assigned format.listing (level f) h.args) e
-    lies = known.lies_in s sound n format v.format_is sizes v.sizes_are f h (ranges_in s sizes seen) (known.all_lie s sound n format v.format_is sizes v.sizes_are f h seen v.is_seen)
+    lies = known.lies_in s sound n format v.format_is sizes v.sizes_are f h (ranges_in s sizes seen) (known.all_lie s sound n format v.format_is sizes v.sizes_are f h seen (full_told s n format sizes seen v))
 
     -- the sides of a field of which each argument has one value
     sides_go : (i : ℕ) (d : Field) (m : lib.Method) → HasMethod s format sizes seen i d m → (side : Side) → Related m (reference_in s d) side (piece (level f) side i) (piece (level f) (opposite side) i)
@@ -173,7 +175,7 @@ module _ (s : Setting) (sound : IsSound s.profile) (n : ℕ) (f : Filling) (h : 
         let same : c.0 ≡ m =
         same_method (ranges_in s sizes seen) (assigned format.listing (level f) h.args) (side_of format.listing (level f)) has.covered has.library
         (λ q e here. lies e (in_encoding i q has.field_is (ap (λ z. slice_get (encoding_exprs z) q) has.library_is ∙ here)))
-        (λ crc is. known.subject_is s sound n format v.format_is sizes v.sizes_are f h seen v.is_seen crc.subject crc.side has.covered (covered_at has.library crc is has.covers)) m c.0 has.method_is c.1 in
+        (λ crc is. known.subject_is s sound n format v.format_is sizes v.sizes_are f h seen (full_told s n format sizes seen v) crc.subject crc.side has.covered (covered_at has.library crc is has.covers)) m c.0 has.method_is c.1 in
         let holds : Lib m (reference_in s d) (sides_of g.field).uncompressed (sides_of g.field).compressed = subst (λ z. Lib z (reference_in s d) (sides_of g.field).uncompressed (sides_of g.field).compressed) same c.2 in
         let one = subst (λ z. Related m (reference_in s d) side z (field_side (Some (sides_of g.field)) (opposite side))) (sym (g.side_is side)) (known.related m (reference_in s d) (sides_of g.field) side holds) in
         subst (λ z. Related m (reference_in s d) side (piece (level f) side i) z) (sym (g.side_is (opposite side))) one
@@ -201,11 +203,11 @@ module _ (s : Setting) (sound : IsSound s.profile) (n : ℕ) (f : Filling) (h : 
         by : (c : Constraint) → slice_get format.constraints j ≡ Some c → is_untrue (ranges_in s sizes seen) c ≡ true → ⊥
         by (Bracket i side lengths place) at never =
             let t = known.bracket_is s sound n format v.format_is sizes v.sizes_are f h j i side lengths place at in
-            let lie = known.all_lie s sound n format v.format_is sizes v.sizes_are f h seen v.is_seen in
+            let lie = known.all_lie s sound n format v.format_is sizes v.sizes_are f h seen (full_told s n format sizes seen v) in
             none_in_bracket (assignment_of (known.numbers_of s sound n format v.format_is sizes v.sizes_are f h)) (ranges_in s sizes seen) lie (length_range (ranges_in s sizes seen) (subject.Field i) side) lengths never t.0 t.1 t.2
             (pos (length (side_of format.listing (level f) (subject.Field i) side))) t.3 (known.bracket_lies s sound n format v.format_is sizes v.sizes_are f h (ranges_in s sizes seen) lie j i side lengths place at)
         by (Enforce condition place) at never =
-            not_true lies-in-ranges (assignment_of (known.numbers_of s sound n format v.format_is sizes v.sizes_are f h)) (ranges_in s sizes seen) (known.all_lie s sound n format v.format_is sizes v.sizes_are f h seen v.is_seen) condition never
+            not_true lies-in-ranges (assignment_of (known.numbers_of s sound n format v.format_is sizes v.sizes_are f h)) (ranges_in s sizes seen) (known.all_lie s sound n format v.format_is sizes v.sizes_are f h seen (full_told s n format sizes seen v)) condition never
             (known.condition_is s sound n format v.format_is sizes v.sizes_are f h j condition place at)
 
     -- ---- values
@@ -224,13 +226,13 @@ module _ (s : Setting) (sound : IsSound s.profile) (n : ℕ) (f : Filling) (h : 
     no_undefined i d at field_at is =
         let t = undefined.one_undefined (ranges_in s sizes seen) (encoding_exprs d.encoding) at is in
         let has = argument_has i d field_at d.encoding refl t.0 t.1 t.2 in
-        undefined.no_value (assignment_of (known.numbers_of s sound n format v.format_is sizes v.sizes_are f h)) (ranges_in s sizes seen) (known.all_lie s sound n format v.format_is sizes v.sizes_are f h seen v.is_seen) t.1 at t.3 has.0
+        undefined.no_value (assignment_of (known.numbers_of s sound n format v.format_is sizes v.sizes_are f h)) (ranges_in s sizes seen) (known.all_lie s sound n format v.format_is sizes v.sizes_are f h seen (full_told s n format sizes seen v)) t.1 at t.3 has.0
         (known.known_is s sound n format v.format_is sizes v.sizes_are f h t.1 (in_encoding i t.0 field_at t.2) ∙ has.1)
 
     no_untold : (at : Span) → undefined_condition (ranges_in s sizes seen) format.constraints ≡ Some at → ⊥
     no_untold at is =
         let t = undefined.one_condition (ranges_in s sizes seen) format.constraints at is in
-        undefined.no_truth (assignment_of (known.numbers_of s sound n format v.format_is sizes v.sizes_are f h)) (ranges_in s sizes seen) (known.all_lie s sound n format v.format_is sizes v.sizes_are f h seen v.is_seen) t.1 at t.4 true
+        undefined.no_truth (assignment_of (known.numbers_of s sound n format v.format_is sizes v.sizes_are f h)) (ranges_in s sizes seen) (known.all_lie s sound n format v.format_is sizes v.sizes_are f h seen (full_told s n format sizes seen v)) t.1 at t.4 true
         (known.condition_is s sound n format v.format_is sizes v.sizes_are f h t.0 t.1 t.2 t.3)
 
     -- ---- a method inside
@@ -267,7 +269,7 @@ module _ (s : Setting) (sound : IsSound s.profile) (n : ℕ) (f : Filling) (h : 
       obstacles-kill s.profile sound s.method n o has (bits_at s.context) h.args s.path f t.whole t.whole_at (h.in_table t.whole t.whole_at) h.fits h.format_is
   no_stand r (short sizes at few) = no_short sizes at few
   no_stand r (long sizes at whole many) = no_long sizes at whole many
-  no_stand r (cut {i} {due} offset format sizes at sizes_are begins is few) = no_cut i offset due format sizes at sizes_are begins is few
+  no_stand r (cut {i} {due} offset format sizes at sizes_are within begins is few) = no_cut i offset due format sizes at sizes_are begins is few
   no_stand r (no_reference {i} format d at d_at wants none path_is) = none_unreferenced i format d at d_at wants none
   no_stand r (differs {i} {found} {due} side format sizes seen d m own v has own_is only found_is differ) = no_difference format sizes seen v i side found due own d m has own_is only found_is differ
   no_stand r (no_side {i} {side} {found} format sizes seen d m v has found_is none) = no_lack format sizes seen v i side found d m has found_is none

@@ -1,22 +1,30 @@
 -- What a look at a field goes by.
-use Rattle.std.specs.Prelude.{◌≡◌, List, Bool, Option, Some, slice_get}
+use Rattle.std.specs.Prelude.{◌≡◌, ℕ, ◌<◌, ◌≤◌, List, Bool, true, false, Option, Some, None, drop, length, slice_get}
 use Rattle.std.specs.Option.{option_copied}
+use Rattle.fn_expr.specs.declared.expr.Side.{Side}
 use Rattle.fn_expr.specs.Bounds.{bounding_of}
+use Rattle.fn_bounds.specs.Laws.{encoding_exprs}
+use Rattle.fn_lib.specs.Methods as lib
+use Rattle.fn_lib.specs.Methods.{IsOnly}
+use Rattle.fn_lint.specs.Undefined.{first_undefined}
 use Rattle.fn_normal.specs.declared.profile.Encoding.TheVariants as encoding
 use Rattle.fn_normal.specs.declared.profile.Field.{Field}
-use Rattle.fn_reasons.specs.Across.{with_values}
+use Rattle.fn_reasons.specs.Across.{method_of, with_values}
+use Rattle.fn_reasons.specs.Full.{IsFullView}
 use Rattle.fn_reasons.specs.Looks.{IsLook}
-use Rattle.fn_reasons.specs.Reasons.{Stands}
-use Rattle.fn_reasons.specs.Settings.{setting_of}
-use Rattle.fn_reasons.specs.Told.{AreAllSeen, Covers, base_ranges, ranges_seen, reference_in}
+use Rattle.fn_reasons.specs.Places.{BeginsAt, length_in}
+use Rattle.fn_reasons.specs.Reasons.{HasMethod, Stands}
+use Rattle.fn_reasons.specs.Settings.{Setting, setting_of}
+use Rattle.fn_reasons.specs.Told.{Covers, Related, base_ranges, opposite, ranges_seen, reference_in, seen_at}
 use Rattle.fn_reasons.specs.declared.conflict.Coded.{Coded}
 use Rattle.fn_reasons.specs.declared.conflict.Sighted.{Sighted}
 use Rattle.fn_reasons.specs.declared.reason.Reason.{Reason}
+use Rattle.fn_reasons.specs.declared.reason.Reason.TheVariants.{Dead, Short, Long, Cut, NoReference, Differs, NoSide, Untrue, Undefined, Inside, Nothing}
 
--- what is seen of the look's format, and the ranges by that
+-- all that is seen of the look's format, and the ranges by that
 pub record IsSighted (k : Sighted) : Type 0 where
   pub look : IsLook k.look k.number
-  pub seen : AreAllSeen (setting_of k.look.spot) k.look.format.now k.look.sizes.now k.seen.now
+  pub seen : IsFullView (setting_of k.look.spot) k.number k.look.format.now k.look.sizes.now k.seen.now
   pub ranges_are : k.ranges.now ≡ ranges_seen k.seen.now (base_ranges (setting_of k.look.spot) k.look.sizes.now)
 
 abbrev pub StandsIn : Sighted → Reason → Type 0
@@ -32,3 +40,61 @@ pub record IsCoded (k : Sighted) (c : Coded) : Type 0 where
   pub covers : Covers k.seen.now c.library.now c.covered.now
   pub method_is : with_values (bounding_of k.ranges.now) c.library.now ≡ Some c.method
   pub reference_is : option_copied c.reference ≡ reference_of k c.field.now
+
+-- ---- where nothing is wrong with a field
+
+-- to what is seen on that side the method relates no other bits than are seen on the other one
+abbrev pub GoesWith : Sighted → Coded → Side → Type 0
+GoesWith k c side = (own found due : List Bool) → seen_at k.seen.now.fields c.index side ≡ Some own → IsOnly (Related (method_of c.method c.covered.now) (option_copied c.reference) side own) (Some due)
+    → seen_at k.seen.now.fields c.index (opposite side) ≡ Some found → found ≡ due
+
+-- it relates some
+abbrev pub HasOther : Sighted → Coded → Side → Type 0
+HasOther k c side = (own : List Bool) → seen_at k.seen.now.fields c.index side ≡ Some own → IsOnly (Related (method_of c.method c.covered.now) (option_copied c.reference) side own) None → ⊥
+
+abbrev pub MethodAt : Sighted → ℕ → Field → lib.Method → Type 0
+MethodAt k i d m = HasMethod (setting_of k.look.spot) k.look.format.now k.look.sizes.now k.seen.now i d m
+
+-- so it is of each side of the field i
+pub record Agrees (k : Sighted) (i : ℕ) (d : Field) : Type 0 where
+  pub no_difference : (side : Side) (m : lib.Method) (own found due : List Bool) → MethodAt k i d m → seen_at k.seen.now.fields i side ≡ Some own → IsOnly (Related m (reference_of k d) side own) (Some due)
+      → seen_at k.seen.now.fields i (opposite side) ≡ Some found → found ≡ due
+  pub has_other : (side : Side) (m : lib.Method) (own : List Bool) → MethodAt k i d m → seen_at k.seen.now.fields i side ≡ Some own → IsOnly (Related m (reference_of k d) side own) None → ⊥
+
+-- where the field i begins within the bits, as many are left as are due
+abbrev pub IsUncut : Sighted → ℕ → Type 0
+IsUncut k i = (offset due : ℕ) → offset ≤ length k.look.spot.bits.now → BeginsAt k.look.order.now (length_in k.look.lengths.now) i offset → length_in k.look.lengths.now i ≡ Some due → length (drop offset k.look.spot.bits.now) < due → ⊥
+
+-- each argument of the field has a value
+abbrev pub HasValues : Sighted → Field → Type 0
+HasValues k d = first_undefined (bounding_of k.ranges.now) (encoding_exprs d.encoding) ≡ None
+
+-- nothing is wrong with the field i
+pub record IsClearAt (k : Sighted) (i : ℕ) : Type 0 where
+  pub uncut : IsUncut k i
+  pub has_values : (d : Field) → slice_get k.look.format.now.fields i ≡ Some d → HasValues k d
+  pub agrees : (d : Field) → slice_get k.look.format.now.fields i ≡ Some d → Agrees k i d
+
+-- nor with any
+abbrev pub AreClear : Sighted → Type 0
+AreClear k = (i : ℕ) → IsClearAt k i
+
+-- ---- where nothing that is seen stands against a format
+
+-- such a reason goes by what is seen of the fields
+abbrev pub goes_by_sight : Reason → Bool
+goes_by_sight (Dead o) = false
+goes_by_sight (Short length least) = false
+goes_by_sight (Long length most) = false
+goes_by_sight (Cut i left due) = true
+goes_by_sight (NoReference i path) = false
+goes_by_sight (Differs i side found due) = true
+goes_by_sight (NoSide i side found) = true
+goes_by_sight (Untrue j figures) = true
+goes_by_sight (Undefined at) = true
+goes_by_sight (Inside i) = false
+goes_by_sight Nothing = false
+
+-- no such reason stands against the format n
+abbrev pub SeesNone : Setting → ℕ → Type 0
+SeesNone s n = (r : Reason) → goes_by_sight r ≡ true → Stands s n r → ⊥

@@ -1,9 +1,10 @@
 pub mod Settings
 pub mod Places
 pub mod Told
+pub mod Figures
+pub mod Full
 pub mod Across
 pub mod Looks
-pub mod Figures
 pub mod Reasons
 pub mod Conflicts
 pub mod Laws

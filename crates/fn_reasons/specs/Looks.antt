@@ -1,11 +1,14 @@
 -- What a look at a format goes by.
-use Rattle.std.specs.Prelude.{◌≡◌, ℕ, List, Bool, length, slice_get, Some}
+use Rattle.std.specs.Prelude.{◌≡◌, ℕ, List, Bool, length, slice_get, Option, Some}
+use Rattle.fn_expr.specs.Bounds.{bounding_of}
 use Rattle.fn_expr.specs.declared.expr.Side.{Side}
 use Rattle.fn_fits.specs.Bounded.{sizes_at}
 use Rattle.fn_fits.specs.Fits.{format_at}
 use Rattle.fn_reasons.specs.Settings.{setting_of}
 use Rattle.fn_reasons.specs.Places.{order_of}
-use Rattle.fn_reasons.specs.Told.{Told, IsSeen, base_ranges, lengths_from}
+use Rattle.fn_normal.specs.declared.profile.Field.{Field}
+use Rattle.fn_reasons.specs.Full.{IsAcross, IsSeenOn, first_told, plain_method}
+use Rattle.fn_reasons.specs.Told.{base_ranges, lengths_from, reference_in, seen_side}
 use Rattle.fn_reasons.specs.declared.seeing.Look.{Look}
 use Rattle.fn_reasons.specs.declared.sight.Sight.{Sight}
 
@@ -17,12 +20,19 @@ pub record IsLook (k : Look) (n : ℕ) : Type 0 where
   pub lengths_are : k.lengths.now ≡ lengths_from (setting_of k.spot) k.base.now k.sizes.now 0 k.format.now.fields
   pub base_is : k.base.now ≡ base_ranges (setting_of k.spot) k.sizes.now
 
--- what is told of that side of the field i
-abbrev pub ToldOf : Look → ℕ → Side → List Bool → Type 0
-ToldOf k i side own = Told (setting_of k.spot) k.format.now k.sizes.now i side own
+-- what is told first of that side of the field i
+abbrev pub FirstOf : Look → ℕ → Field → Side → Option (List Bool)
+FirstOf k i d side = first_told (setting_of k.spot) k.format.now k.sizes.now i d side
+
+-- what its method relates to these bits
+abbrev pub AcrossOf : Look → Field → Side → List Bool → Option (List Bool) → Type 0
+AcrossOf k d side own o = IsAcross (plain_method (bounding_of (base_ranges (setting_of k.spot) k.sizes.now)) d.encoding) (reference_in (setting_of k.spot) d) side own o
+
+abbrev pub SeenOn : Look → ℕ → Field → Side → Option (List Bool) → Type 0
+SeenOn k i d side o = IsSeenOn (setting_of k.spot) k.format.now k.sizes.now i d side o
 
 abbrev pub SeenOf : Look → ℕ → Sight → Type 0
-SeenOf k i sight = IsSeen (setting_of k.spot) k.format.now k.sizes.now i sight
+SeenOf k i sight = (d : Field) → slice_get k.format.now.fields i ≡ Some d → (side : Side) → SeenOn k i d side (seen_side sight side)
 
 -- these are what is seen of the first fields
 pub record SoFar (k : Look) (sights : List Sight) (n : ℕ) : Type 0 where

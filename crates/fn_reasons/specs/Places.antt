@@ -1,5 +1,5 @@
 -- Where the sides of fields stand in the bits that they are joined to, by the bounds on lengths alone.
-use Rattle.std.specs.Prelude.{◌≡◌, ℕ, ◌+◌, ◌≤◌, nat_eq, Bool, List, [], ◌∷◌, length, slice_get, slice_range, Option, Some, None, option_and_then, if◌then◌else◌}
+use Rattle.std.specs.Prelude.{◌≡◌, ℕ, ◌+◌, ◌≤◌, nat_eq, nat_le, Bool, List, [], ◌∷◌, length, slice_get, slice_range, Option, Some, None, option_map, option_and_then, IfSome, if◌then◌else◌}
 use Rattle.std.specs.Option.{option_flatten}
 use Rattle.fn_expr.specs.declared.expr.Side.{Side}
 use Rattle.fn_expr.specs.declared.expr.Side.TheVariants.{Uncompressed, Compressed}
@@ -32,26 +32,29 @@ only_length sizes side i = option_and_then (λ b. only_within (side_bounds side 
 abbrev pub length_in : List (Option ℕ) → ℕ → Option ℕ
 length_in lengths i = option_flatten (slice_get lengths i)
 
--- the first k fields of the order have each one length, and n bits together
-pub data HaveLength (order : List ℕ) (only : ℕ → Option ℕ) : ℕ → ℕ → Type 0 where
-  none_before : HaveLength order only 0 0
-  one_more : {k n : ℕ} (i m : ℕ) → HaveLength order only k n → slice_get order k ≡ Some i → only i ≡ Some m → HaveLength order only (k + 1) (n + m)
+-- after how many bits the field i begins, where each field before it has one length
+abbrev pub begin_of : (ℕ → Option ℕ) → ℕ → List ℕ → Option ℕ
+begin_of only i [] = None
+begin_of only i (j ∷ js) = if nat_eq i j then Some 0 else option_and_then (λ n. option_map (λ m. n + m) (begin_of only i js)) (only j)
 
--- the field i begins after so many bits
-pub record BeginsAt (order : List ℕ) (only : ℕ → Option ℕ) (i offset : ℕ) : Type 0 where
-  pub place : ℕ
-  pub at_place : slice_get order place ≡ Some i
-  pub before : HaveLength order only place offset
+-- after so many bits, where a field of that length begins after the offset
+abbrev pub behind : ℕ → Option ℕ → Option ℕ
+behind offset o = option_map (λ n. offset + n) o
 
--- so many of the bits, from the offset on
-pub record IsCut (bits : List Bool) (offset count : ℕ) (own : List Bool) : Type 0 where
-  pub within : offset + count ≤ length bits
-  pub own_is : own ≡ slice_range bits offset (offset + count)
+-- more bits than can be held
+abbrev pub IsFar : Option ℕ → Type 0
+IsFar o = IfSome o (λ n. 2147483648 ≤ n)
 
--- these bits are those of the field i
-pub record Holds (order : List ℕ) (only : ℕ → Option ℕ) (bits : List Bool) (i : ℕ) (own : List Bool) : Type 0 where
-  pub offset : ℕ
-  pub count : ℕ
-  pub begins : BeginsAt order only i offset
-  pub count_is : only i ≡ Some count
-  pub cut : IsCut bits offset count own
+abbrev pub BeginsAt : List ℕ → (ℕ → Option ℕ) → ℕ → ℕ → Type 0
+BeginsAt order only i offset = begin_of only i order ≡ Some offset
+
+-- so many of the bits, from the offset on, where there are so many
+abbrev pub cut_of : List Bool → ℕ → ℕ → Option (List Bool)
+cut_of bits offset count = if nat_le (offset + count) (length bits) then Some (slice_range bits offset (offset + count)) else None
+
+-- the bits of the field i
+abbrev pub held : List ℕ → (ℕ → Option ℕ) → List Bool → ℕ → Option (List Bool)
+held order only bits i = option_and_then (λ offset. option_and_then (λ count. cut_of bits offset count) (only i)) (begin_of only i order)
+
+abbrev pub Holds : List ℕ → (ℕ → Option ℕ) → List Bool → ℕ → List Bool → Type 0
+Holds order only bits i own = held order only bits i ≡ Some own

@@ -27,22 +27,17 @@ use Rattle.fn_lint.specs.Never.{IsUntrue}
 use Rattle.fn_lint.specs.Obstacles.{Hinders}
 use Rattle.fn_lint.specs.declared.obstacle.Obstacle.{Obstacle}
 use Rattle.fn_reasons.specs.Figures.{figures_at}
+use Rattle.fn_reasons.specs.Full.{IsFullView}
 use Rattle.fn_reasons.specs.Settings.{Setting}
 use Rattle.fn_reasons.specs.Places.{BeginsAt, order_of}
-use Rattle.fn_reasons.specs.Told.{AreAllSeen, Covers, Related, base_ranges, length_of, method_in, opposite, ranges_seen, reference_in, seen_at}
+use Rattle.fn_reasons.specs.Told.{Covers, Related, base_ranges, length_of, method_in, opposite, ranges_seen, reference_in, seen_at}
 use Rattle.fn_lint.specs.Undefined.{first_undefined, undefined_condition}
 use Rattle.fn_reasons.specs.declared.line.Line.{Line}
 use Rattle.fn_reasons.specs.declared.reason.Reason.{Reason}
 use Rattle.fn_reasons.specs.declared.reason.Reason.TheVariants as reason
 use Rattle.fn_reasons.specs.declared.sight.Seen.{Seen}
 
--- a format of the method with its bounds, and what is seen of its fields
-pub record View (s : Setting) (n : ℕ) (format : Format) (sizes : FormatSizes) (seen : Seen) : Type 0 where
-  pub format_is : format_at s.profile.methods s.method n ≡ Some format
-  pub sizes_are : sizes_at s.profile.sizes s.method n ≡ Some sizes
-  pub is_seen : AreAllSeen s format sizes seen
-
--- the ranges of its numbers
+-- the ranges of a format's numbers, by what is seen
 abbrev pub ranges_in : Setting → FormatSizes → Seen → Bounding
 ranges_in s sizes seen = bounding_of (ranges_seen seen (base_ranges s sizes))
 
@@ -71,24 +66,24 @@ pub data Stands (s : Setting) (n : ℕ) : Reason → Type 0 where
   long : (sizes : FormatSizes) → sizes_at s.profile.sizes s.method n ≡ Some sizes → s.is_whole ≡ true → (side_bounds s.side sizes.whole).most < length s.bits → Stands s n (reason.Long (length s.bits) (side_bounds s.side sizes.whole).most)
   -- a field begins where fewer bits are left than it has
   cut : {i due : ℕ} (offset : ℕ) (format : Format) (sizes : FormatSizes) → format_at s.profile.methods s.method n ≡ Some format → sizes_at s.profile.sizes s.method n ≡ Some sizes
-      → BeginsAt (order_of format s.side) (length_of s format sizes) i offset → length_of s format sizes i ≡ Some due → length (drop offset s.bits) < due → Stands s n (reason.Cut i (length (drop offset s.bits)) due)
+      → offset ≤ length s.bits → BeginsAt (order_of format s.side) (length_of s format sizes) i offset → length_of s format sizes i ≡ Some due → length (drop offset s.bits) < due → Stands s n (reason.Cut i (length (drop offset s.bits)) due)
   -- a field wants a reference, and there is none at its path
   no_reference : {i : ℕ} {path : _} (format : Format) (d : Field) → format_at s.profile.methods s.method n ≡ Some format → slice_get format.fields i ≡ Some d → wants_reference d.encoding ≡ true → reference_in s d ≡ None
       → string_bytes path ≡ below s.path d.declared.name → Stands s n (reason.NoReference i path)
   -- one side of a field has these bits, and its method relates others to what the other side has
-  differs : {i : ℕ} {found due : List Bool} (side : Side) (format : Format) (sizes : FormatSizes) (seen : Seen) (d : Field) (m : lib.Method) (own : List Bool) → View s n format sizes seen → HasMethod s format sizes seen i d m
+  differs : {i : ℕ} {found due : List Bool} (side : Side) (format : Format) (sizes : FormatSizes) (seen : Seen) (d : Field) (m : lib.Method) (own : List Bool) → IsFullView s n format sizes seen → HasMethod s format sizes seen i d m
       → seen_at seen.fields i side ≡ Some own → IsOnly (Related m (reference_in s d) side own) (Some due) → seen_at seen.fields i (opposite side) ≡ Some found → found ≢ due → Stands s n (reason.Differs i (opposite side) found due)
   -- one side of a field has these bits, to which its method relates none
-  no_side : {i : ℕ} {side : Side} {found : List Bool} (format : Format) (sizes : FormatSizes) (seen : Seen) (d : Field) (m : lib.Method) → View s n format sizes seen → HasMethod s format sizes seen i d m
+  no_side : {i : ℕ} {side : Side} {found : List Bool} (format : Format) (sizes : FormatSizes) (seen : Seen) (d : Field) (m : lib.Method) → IsFullView s n format sizes seen → HasMethod s format sizes seen i d m
       → seen_at seen.fields i side ≡ Some found → IsOnly (Related m (reference_in s d) side found) None → Stands s n (reason.NoSide i side found)
   -- a condition is false by what is seen, with the numbers by which it goes
-  untrue : {j : ℕ} (format : Format) (sizes : FormatSizes) (seen : Seen) → View s n format sizes seen → IsUntrue format.constraints (ranges_in s sizes seen) j
+  untrue : {j : ℕ} (format : Format) (sizes : FormatSizes) (seen : Seen) → IsFullView s n format sizes seen → IsUntrue format.constraints (ranges_in s sizes seen) j
       → Stands s n (reason.Untrue j (figures_at (ranges_in s sizes seen) (slice_get format.constraints j)))
   -- an argument of a field's encoding has no value by what is seen
-  no_argument : {at : Span} (i : ℕ) (format : Format) (sizes : FormatSizes) (seen : Seen) (d : Field) → View s n format sizes seen → slice_get format.fields i ≡ Some d → first_undefined (ranges_in s sizes seen) (encoding_exprs d.encoding) ≡ Some at
+  no_argument : {at : Span} (i : ℕ) (format : Format) (sizes : FormatSizes) (seen : Seen) (d : Field) → IsFullView s n format sizes seen → slice_get format.fields i ≡ Some d → first_undefined (ranges_in s sizes seen) (encoding_exprs d.encoding) ≡ Some at
       → Stands s n (reason.Undefined at)
   -- nor has a condition
-  no_truth : {at : Span} (format : Format) (sizes : FormatSizes) (seen : Seen) → View s n format sizes seen → undefined_condition (ranges_in s sizes seen) format.constraints ≡ Some at → Stands s n (reason.Undefined at)
+  no_truth : {at : Span} (format : Format) (sizes : FormatSizes) (seen : Seen) → IsFullView s n format sizes seen → undefined_condition (ranges_in s sizes seen) format.constraints ≡ Some at → Stands s n (reason.Undefined at)
 
 -- ---- a method inside
 
@@ -120,7 +115,7 @@ pub record Calls (s : Setting) (n i : ℕ) (inner : Setting) : Type 0 where
   pub format : Format
   pub sizes : FormatSizes
   pub seen : Seen
-  pub view : View s n format sizes seen
+  pub view : IsFullView s n format sizes seen
   pub field : Field
   pub field_is : slice_get format.fields i ≡ Some field
   pub method : ℕ
@@ -176,9 +171,13 @@ lacking s k (d ∷ ds) = if lacks s d then Some k else lacking s (k + 1) ds
 abbrev pub HasReferences : Setting → ℕ → Type 0
 HasReferences s n = (format : Format) (i : ℕ) (d : Field) → format_at s.profile.methods s.method n ≡ Some format → slice_get format.fields i ≡ Some d → wants_reference d.encoding ≡ true → reference_in s d ≡ None → ⊥
 
--- What is told of each format from the number n on: why no filling of it is asked for, or that nothing simple stands against it. This is said where it is open alone,
--- and no field lacks its reference.
+-- Nothing stands against the format n.
+abbrev pub IsClear : Setting → ℕ → Type 0
+IsClear s n = (r : Reason) → Stands s n r → ⊥
+
+-- What is told of each format from the number n on: why no filling of it is asked for, or that nothing simple stands against it. This is said just where nothing stands
+-- against it, but for what may stand inside a call.
 pub data Verdicts (s : Setting) : ℕ → List Line → Type 0 where
   no_more : {n : ℕ} → formats_of s ≤ n → Verdicts s n []
   out : {n : ℕ} {first rest : List Line} → n < formats_of s → Tells s 0 n first → Verdicts s (n + 1) rest → Verdicts s n (first ++ rest)
-  open_still : {n : ℕ} {rest : List Line} → n < formats_of s → IsOpen s n → HasReferences s n → Verdicts s (n + 1) rest → Verdicts s n (line_of s 0 n reason.Nothing ∷ rest)
+  open_still : {n : ℕ} {rest : List Line} → n < formats_of s → IsOpen s n → HasReferences s n → IsClear s n → Verdicts s (n + 1) rest → Verdicts s n (line_of s 0 n reason.Nothing ∷ rest)

@@ -1,6 +1,6 @@
 //! Fields of which the method doesn't go with what is seen of them.
 
-ghost use Rattle.std.specs.Prelude.{◌≡◌, ◌↔◌, IsTrue, IfOk, IfSome, Some, None, true, slice_get};
+ghost use Rattle.std.specs.Prelude.{◌≡◌, ◌↔◌, IsTrue, IfOk, MatchOption, Some, None, true, slice_get};
 ghost use Rattle.std.specs.Option.{option_copied};
 ghost use Rattle.fn_expr.specs.Bounds.{bounding_of};
 ghost use Rattle.fn_lib.specs.Methods.{IsOnly};
@@ -40,16 +40,38 @@ pub(crate) fn conflict(
 ) -> Result<Option<Reason>, AllocError>
     requires sighted { spec.IsSighted sighted.now }
     requires at { slice_get sighted.now.look.format.now.fields index ≡ Some field.now }
-    ensures { IfOk result (λ o. IfSome o (spec.StandsIn sighted.now)) }
+    ensures { IfOk result (λ o. MatchOption o (spec.Agrees sighted.now index field.now) (spec.StandsIn sighted.now)) }
 {
     let spot = &sighted.look.spot;
     let reference = reference_below(alloc, spot.context, spot.path, field)?;
     if reference.is_none() && wants_reference(field.encoding.get()) {
-        return no_reference(alloc, sighted, index, field);
+        let reason = no_reference(alloc, sighted, index, field)?;
+        return Ok(Some(reason));
     }
-    let Encoding::Library(library) = field.encoding.get() else {
-        return Ok(None);
-    };
+    match field.encoding.get() {
+        Encoding::Library(library) => {
+            library_conflict(alloc, sighted, index, field, library, reference)
+        }
+        Encoding::Bare => Ok(None),
+        Encoding::Call { .. } => Ok(None),
+    }
+}
+
+/// The same of this library method.
+fn library_conflict(
+    alloc: Global,
+    sighted: &Sighted<'_>,
+    index: usize,
+    field: &Field,
+    library: &Library,
+    reference: Option<&Bits>,
+) -> Result<Option<Reason>, AllocError>
+    requires sighted { spec.IsSighted sighted.now }
+    requires at { slice_get sighted.now.look.format.now.fields index ≡ Some field.now }
+    requires library { field.now.encoding ≡ encoding.Library library.now }
+    requires reference { option_copied reference ≡ spec.reference_of sighted.now field.now }
+    ensures { IfOk result (λ o. MatchOption o (spec.Agrees sighted.now index field.now) (spec.StandsIn sighted.now)) }
+{
     let Some(method) = with_values(library, sighted.ranges) else {
         return Ok(None);
     };
@@ -87,21 +109,21 @@ fn first_conflict(
 ) -> Result<Option<Reason>, AllocError>
     requires sighted { spec.IsSighted sighted.now }
     requires coded { spec.IsCoded sighted.now coded.now }
-    ensures { IfOk result (λ o. IfSome o (spec.StandsIn sighted.now)) }
+    ensures { IfOk result (λ o. MatchOption o (spec.Agrees sighted.now coded.now.index coded.now.field.now) (spec.StandsIn sighted.now)) }
 {
-    let up = differs(alloc, sighted, coded, Side::Compressed)?;
-    if up.is_some() {
-        return Ok(up);
+    if let Some(reason) = differs(alloc, sighted, coded, Side::Compressed)? {
+        return Ok(Some(reason));
     }
-    let down = differs(alloc, sighted, coded, Side::Uncompressed)?;
-    if down.is_some() {
-        return Ok(down);
+    if let Some(reason) = differs(alloc, sighted, coded, Side::Uncompressed)? {
+        return Ok(Some(reason));
     }
-    let packed = no_side(alloc, sighted, coded, Side::Compressed)?;
-    if packed.is_some() {
-        return Ok(packed);
+    if let Some(reason) = no_side(alloc, sighted, coded, Side::Compressed)? {
+        return Ok(Some(reason));
     }
-    no_side(alloc, sighted, coded, Side::Uncompressed)
+    if let Some(reason) = no_side(alloc, sighted, coded, Side::Uncompressed)? {
+        return Ok(Some(reason));
+    }
+    Ok(None)
 }
 
 /// Whether the method asks for other bits on the other side than are seen there.
@@ -113,7 +135,7 @@ fn differs(
 ) -> Result<Option<Reason>, AllocError>
     requires sighted { spec.IsSighted sighted.now }
     requires coded { spec.IsCoded sighted.now coded.now }
-    ensures { IfOk result (λ o. IfSome o (spec.StandsIn sighted.now)) }
+    ensures { IfOk result (λ o. MatchOption o (spec.GoesWith sighted.now coded.now side) (spec.StandsIn sighted.now)) }
 {
     let sights = sighted.seen.fields.as_slice();
     let Some(own) = seen_at(sights, coded.index, side) else {
@@ -154,7 +176,7 @@ fn no_side(
 ) -> Result<Option<Reason>, AllocError>
     requires sighted { spec.IsSighted sighted.now }
     requires coded { spec.IsCoded sighted.now coded.now }
-    ensures { IfOk result (λ o. IfSome o (spec.StandsIn sighted.now)) }
+    ensures { IfOk result (λ o. MatchOption o (spec.HasOther sighted.now coded.now side) (spec.StandsIn sighted.now)) }
 {
     let Some(own) = seen_at(sighted.seen.fields.as_slice(), coded.index, side) else {
         return Ok(None);
@@ -169,7 +191,10 @@ fn no_side(
     )?;
     match due {
         Some(_) => Ok(None),
-        None => lacking(alloc, sighted, coded, side, own),
+        None => {
+            let reason = lacking(alloc, sighted, coded, side, own)?;
+            Ok(Some(reason))
+        }
     }
 }
 
@@ -180,19 +205,19 @@ fn lacking(
     coded: &Coded<'_>,
     side: Side,
     own: &Bits,
-) -> Result<Option<Reason>, AllocError>
+) -> Result<Reason, AllocError>
     requires sighted { spec.IsSighted sighted.now }
     requires coded { spec.IsCoded sighted.now coded.now }
     requires seen { told.seen_at sighted.now.seen.now.fields coded.now.index side ≡ Some own.now }
     requires none { IsOnly (told.Related (across.method_of coded.now.method coded.now.covered.now) (option_copied coded.now.reference) side own.now) None }
-    ensures { IfOk result (λ o. IfSome o (spec.StandsIn sighted.now)) }
+    ensures { IfOk result (spec.StandsIn sighted.now) }
 {
     let found = own.copy(alloc)?;
-    Ok(Some(Reason::NoSide {
+    Ok(Reason::NoSide {
         field: coded.index,
         side,
         found,
-    }))
+    })
 }
 
 /// The field has no reference.
@@ -201,20 +226,20 @@ fn no_reference(
     sighted: &Sighted<'_>,
     index: usize,
     field: &Field,
-) -> Result<Option<Reason>, AllocError>
+) -> Result<Reason, AllocError>
     requires sighted { spec.IsSighted sighted.now }
     requires at { slice_get sighted.now.look.format.now.fields index ≡ Some field.now }
     requires wants { wants_reference field.now.encoding ≡ true }
     requires none { spec.reference_of sighted.now field.now ≡ None }
-    ensures { IfOk result (λ o. IfSome o (spec.StandsIn sighted.now)) }
+    ensures { IfOk result (spec.StandsIn sighted.now) }
 {
     let path = below(alloc, sighted.look.spot.path, field.declared.name.as_str())?;
-    Ok(Some(Reason::NoReference { field: index, path }))
+    Ok(Reason::NoReference { field: index, path })
 }
 
 /// The bits that a crc covers, where they are seen, and nothing for another method.
 fn covered_by<'a>(seen: &'a Seen, library: &Library, nothing: &'a Bits) -> Option<&'a Bits>
-    ensures { IfSome result (λ bits. told.Covers seen.now library.now bits.now) }
+    ensures { MatchOption result ((bits : _) → told.Covers seen.now library.now bits → ⊥) (λ bits. told.Covers seen.now library.now bits.now) }
 {
     match library {
         Library::Crc(crc) => seen_subject(seen, crc.get().subject, crc.get().side),

@@ -131,7 +131,7 @@ fn is_same_subject(one: Subject, other: Subject) -> bool
     }
 }
 
-fn is_same_side(one: Side, other: Side) -> bool
+pub(crate) fn is_same_side(one: Side, other: Side) -> bool
     ensures { result ≡ spec.same_side one other }
 {
     matches!(

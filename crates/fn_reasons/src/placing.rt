@@ -1,6 +1,6 @@
 //! Where the sides of fields stand in the bits that they are joined to.
 
-ghost use Rattle.std.specs.Prelude.{◌≡◌, ◌+◌, IsTrue, IfOk, IfSome, Some, slice_get};
+ghost use Rattle.std.specs.Prelude.{◌≡◌, IfOk, MatchOption, Some, length};
 ghost use Rattle.fn_filling.specs.Fillings as fillings;
 ghost use Rattle.fn_reasons.specs.Places as spec;
 
@@ -53,68 +53,59 @@ pub(crate) fn held(
     bits: &Bits,
     field: usize,
 ) -> Result<Option<Bits>, AllocError>
-    ensures { IfOk result (λ o. IfSome o (spec.Holds order.now (spec.length_in lengths.now) bits.now field)) }
+    ensures { IfOk result (λ o. o ≡ spec.held order.now (spec.length_in lengths.now) bits.now field) }
 {
+    let many = bits.len();
     let Some(offset) = begin_of(order, lengths, field) else {
         return Ok(None);
     };
     let Some(count) = length_in(lengths, field) else {
         return Ok(None);
     };
-    cut(alloc, bits, offset, count)
+    cut(alloc, bits, many, offset, count)
 }
 
 /// So many of the bits, from the offset on. None where there are fewer. The error is want of memory.
-fn cut(alloc: Global, bits: &Bits, offset: usize, count: u128) -> Result<Option<Bits>, AllocError>
-    ensures { IfOk result (λ o. IfSome o (spec.IsCut bits.now offset count)) }
+fn cut(
+    alloc: Global,
+    bits: &Bits,
+    many: usize,
+    offset: usize,
+    count: u128,
+) -> Result<Option<Bits>, AllocError>
+    requires { many ≡ length bits.now }
+    ensures { IfOk result (λ o. o ≡ spec.cut_of bits.now offset count) }
 {
-    let left = bits.len().saturating_sub(offset);
-    if count > left as u128 || offset > bits.len() {
+    let left = many.saturating_sub(offset);
+    if count > left as u128 || offset > many {
         return Ok(None);
     }
     let end = offset + count as usize;
     bits.slice(alloc, offset, end)
 }
 
-/// After how many bits the field begins, where those before it have each one length.
+/// After how many bits the field begins, where those before it have each one length. None also where these are more than can be counted.
 pub(crate) fn begin_of(order: &[usize], lengths: &[Option<u128>], field: usize) -> Option<usize>
-    ensures { IfSome result (spec.BeginsAt order.now (spec.length_in lengths.now) field) }
+    ensures { MatchOption result (spec.IsFar (spec.begin_of (spec.length_in lengths.now) field order.now)) (spec.BeginsAt order.now (spec.length_in lengths.now) field) }
 {
     let mut offset = 0;
-    for place in 0..order.len() {
-        if is_at(order, place, field) {
+    for next in order {
+        if *next == field {
             return Some(offset);
         }
-        let Some(next) = next_offset(order, lengths, place, offset) else {
+        let Some(after) = next_offset(lengths, *next, offset) else {
             return None;
         };
-        offset = next;
+        offset = after;
     }
     None
 }
 
-fn is_at(order: &[usize], place: usize, field: usize) -> bool
-    ensures { IsTrue result → slice_get order.now place ≡ Some field }
+/// After how many bits the field behind this one begins, which begins after so many.
+fn next_offset(lengths: &[Option<u128>], field: usize, offset: usize) -> Option<usize>
+    ensures { MatchOption result (spec.IsFar (spec.behind offset (spec.length_in lengths.now field))) (λ next. spec.behind offset (spec.length_in lengths.now field) ≡ Some next) }
 {
-    match at(order, place) {
-        Some(found) => *found == field,
-        None => false,
-    }
-}
-
-/// After how many bits the next field of the order begins.
-fn next_offset(
-    order: &[usize],
-    lengths: &[Option<u128>],
-    place: usize,
-    offset: usize,
-) -> Option<usize>
-    ensures { IfSome result (λ next. spec.HaveLength order.now (spec.length_in lengths.now) place offset → spec.HaveLength order.now (spec.length_in lengths.now) (place + 1) next) }
-{
-    let Some(field) = at(order, place) else {
-        return None;
-    };
-    let Some(only) = length_in(lengths, *field) else {
+    let Some(only) = length_in(lengths, field) else {
         return None;
     };
     let Ok(count) = usize::try_from(only) else {

@@ -1,13 +1,14 @@
 //! What is seen of the fields of a format.
 
-ghost use Rattle.std.specs.Prelude.{◌≡◌, ◌+◌, ◌≤◌, IfOk, IfSome, OnOk, Some, None, true, filter, length, slice_get};
+ghost use Rattle.std.specs.Prelude.{◌≡◌, ◌+◌, ◌≤◌, IfOk, OnOk, Some, None, filter, length, slice_get};
 ghost use Rattle.fn_expr.specs.Bounds.{bounding_of};
-ghost use Rattle.fn_normal.specs.declared.profile.Encoding.TheVariants as encoding;
+ghost use Rattle.fn_reasons.specs.Full as full;
 ghost use Rattle.fn_reasons.specs.Looks as spec;
 ghost use Rattle.fn_reasons.specs.Settings.{setting_of};
 ghost use Rattle.fn_reasons.specs.Told as told;
 
 use crate::across::{other_side, with_values};
+use crate::figures::is_same_side;
 use crate::placing::held;
 use crate::sight::Sight;
 use crate::spot::Spot;
@@ -37,7 +38,7 @@ pub(crate) fn sights(
     format: usize,
 ) -> Result<Items<Sight>, AllocError>
     requires { spec.IsLook look.now format }
-    ensures { IfOk result (told.AreSeen (setting_of look.now.spot) look.now.format.now look.now.sizes.now) }
+    ensures { IfOk result (full.AreInFull (setting_of look.now.spot) look.now.format.now look.now.sizes.now) }
 {
     let mut found = Items::new(alloc);
     for index in 0..look.format.fields.len() {
@@ -92,24 +93,14 @@ fn sight_of(
     requires at { slice_get look.now.format.now.fields index ≡ Some field.now }
     ensures { IfOk result (spec.SeenOf look.now index) }
 {
-    let up = first_told(alloc, look, format, index, field, Side::Uncompressed)?;
-    let down = first_told(alloc, look, format, index, field, Side::Compressed)?;
-    match (up, down) {
-        (Some(up), Some(down)) => Ok(Sight {
-            uncompressed: Some(up),
-            compressed: Some(down),
-        }),
-        (Some(up), None) => with_packed(alloc, look, format, index, field, up),
-        (None, Some(down)) => with_header(alloc, look, format, index, field, down),
-        (None, None) => Ok(Sight {
-            uncompressed: None,
-            compressed: None,
-        }),
+    match first_told(alloc, look, format, index, field, Side::Uncompressed)? {
+        Some(up) => with_header(alloc, look, format, index, field, up),
+        None => without_header(alloc, look, format, index, field),
     }
 }
 
 /// What is seen where the uncompressed side is told.
-fn with_packed(
+fn with_header(
     alloc: Global,
     look: &Look<'_>,
     format: usize,
@@ -119,18 +110,60 @@ fn with_packed(
 ) -> Result<Sight, AllocError>
     requires look { spec.IsLook look.now format }
     requires at { slice_get look.now.format.now.fields index ≡ Some field.now }
-    requires told { spec.ToldOf look.now index Side.Uncompressed up }
+    requires told { spec.FirstOf look.now index field.now Side.Uncompressed ≡ Some up }
     ensures { IfOk result (spec.SeenOf look.now index) }
 {
-    let down = across(alloc, look, format, index, field, Side::Uncompressed, &up)?;
+    let down = packed_beside(alloc, look, format, index, field, &up)?;
     Ok(Sight {
         uncompressed: Some(up),
         compressed: down,
     })
 }
 
-/// What is seen where the compressed side is told.
-fn with_header(
+/// The compressed side, where the uncompressed one is told.
+fn packed_beside(
+    alloc: Global,
+    look: &Look<'_>,
+    format: usize,
+    index: usize,
+    field: &Field,
+    up: &Bits,
+) -> Result<Option<Bits>, AllocError>
+    requires look { spec.IsLook look.now format }
+    requires at { slice_get look.now.format.now.fields index ≡ Some field.now }
+    requires told { spec.FirstOf look.now index field.now Side.Uncompressed ≡ Some up.now }
+    ensures { IfOk result (spec.SeenOn look.now index field.now Side.Compressed) }
+{
+    match first_told(alloc, look, format, index, field, Side::Compressed)? {
+        Some(down) => Ok(Some(down)),
+        None => across(alloc, look, format, field, Side::Uncompressed, up),
+    }
+}
+
+/// What is seen where the uncompressed side is not told first.
+fn without_header(
+    alloc: Global,
+    look: &Look<'_>,
+    format: usize,
+    index: usize,
+    field: &Field,
+) -> Result<Sight, AllocError>
+    requires look { spec.IsLook look.now format }
+    requires at { slice_get look.now.format.now.fields index ≡ Some field.now }
+    requires none { spec.FirstOf look.now index field.now Side.Uncompressed ≡ None }
+    ensures { IfOk result (spec.SeenOf look.now index) }
+{
+    match first_told(alloc, look, format, index, field, Side::Compressed)? {
+        Some(down) => with_packed(alloc, look, format, index, field, down),
+        None => Ok(Sight {
+            uncompressed: None,
+            compressed: None,
+        }),
+    }
+}
+
+/// What is seen where the compressed side alone is told first.
+fn with_packed(
     alloc: Global,
     look: &Look<'_>,
     format: usize,
@@ -140,17 +173,18 @@ fn with_header(
 ) -> Result<Sight, AllocError>
     requires look { spec.IsLook look.now format }
     requires at { slice_get look.now.format.now.fields index ≡ Some field.now }
-    requires told { spec.ToldOf look.now index Side.Compressed down }
+    requires none { spec.FirstOf look.now index field.now Side.Uncompressed ≡ None }
+    requires told { spec.FirstOf look.now index field.now Side.Compressed ≡ Some down }
     ensures { IfOk result (spec.SeenOf look.now index) }
 {
-    let up = across(alloc, look, format, index, field, Side::Compressed, &down)?;
+    let up = across(alloc, look, format, field, Side::Compressed, &down)?;
     Ok(Sight {
         uncompressed: up,
         compressed: Some(down),
     })
 }
 
-/// A side that the field's method leaves empty, or the value that is asked for, or the bits at its place.
+/// What is told first of a side: no bits, where the field's method leaves it empty; else the value that is asked for; else the bits at its place.
 fn first_told(
     alloc: Global,
     look: &Look<'_>,
@@ -161,24 +195,19 @@ fn first_told(
 ) -> Result<Option<Bits>, AllocError>
     requires look { spec.IsLook look.now format }
     requires at { slice_get look.now.format.now.fields index ≡ Some field.now }
-    ensures { IfOk result (λ o. IfSome o (spec.ToldOf look.now index side)) }
+    ensures { IfOk result (λ o. o ≡ spec.FirstOf look.now index field.now side) }
 {
     if leaves_empty(field.encoding.get(), side) {
         return Ok(Some(Bits::new(alloc)));
     }
-    let asked = asked_told(alloc, look, index, field, side)?;
-    if asked.is_some() {
-        return Ok(asked);
-    }
-    if side == look.spot.side {
-        placed(alloc, look, format, index)
-    } else {
-        Ok(None)
+    match asked_side(alloc, look, index, field, side)? {
+        Some(asked) => Ok(Some(asked)),
+        None => placed_side(alloc, look, format, index, side),
     }
 }
 
 /// The value that is asked for, where the side is the one that has it.
-fn asked_told(
+fn asked_side(
     alloc: Global,
     look: &Look<'_>,
     index: usize,
@@ -186,7 +215,7 @@ fn asked_told(
     side: Side,
 ) -> Result<Option<Bits>, AllocError>
     requires at { slice_get look.now.format.now.fields index ≡ Some field.now }
-    ensures { IfOk result (λ o. IfSome o (spec.ToldOf look.now index side)) }
+    ensures { IfOk result (λ o. o ≡ full.asked_side (setting_of look.now.spot) look.now.format.now index field.now side) }
 {
     match side {
         Side::Uncompressed => asked_bits(alloc, look, index, field),
@@ -202,25 +231,19 @@ fn asked_bits(
     field: &Field,
 ) -> Result<Option<Bits>, AllocError>
     requires at { slice_get look.now.format.now.fields index ≡ Some field.now }
-    ensures { IfOk result (λ o. IfSome o (spec.ToldOf look.now index Side.Uncompressed)) }
+    ensures { IfOk result (λ o. o ≡ full.asked_side (setting_of look.now.spot) look.now.format.now index field.now Side.Uncompressed) }
 {
     if field.declared.asked {
-        value_bits(alloc, look, index, field)
+        asked_value(alloc, look, index)
     } else {
         Ok(None)
     }
 }
 
-/// The value that is asked for of an asked field.
-fn value_bits(
-    alloc: Global,
-    look: &Look<'_>,
-    index: usize,
-    field: &Field,
-) -> Result<Option<Bits>, AllocError>
-    requires at { slice_get look.now.format.now.fields index ≡ Some field.now }
-    requires asked { field.now.declared.asked ≡ true }
-    ensures { IfOk result (λ o. IfSome o (spec.ToldOf look.now index Side.Uncompressed)) }
+/// The value that is asked for of the asked field of that index.
+fn asked_value(alloc: Global, look: &Look<'_>, index: usize) -> Result<Option<Bits>, AllocError>
+    requires within { index ≤ length look.now.format.now.fields }
+    ensures { IfOk result (λ o. o ≡ full.asked_value (setting_of look.now.spot) look.now.format.now index) }
 {
     let before = asked_before(look.format.fields.as_slice(), index);
     let Some(value) = at(look.spot.asked, before) else {
@@ -251,17 +274,22 @@ fn asked_among(fields: &[Field]) -> usize
     count
 }
 
-/// The bits at the place of the field.
-fn placed(
+/// The bits at the place of the field, where the side is the one that is asked for.
+fn placed_side(
     alloc: Global,
     look: &Look<'_>,
     format: usize,
     index: usize,
+    side: Side,
 ) -> Result<Option<Bits>, AllocError>
     requires { spec.IsLook look.now format }
-    ensures { IfOk result (λ o. IfSome o (spec.ToldOf look.now index look.now.spot.side)) }
+    ensures { IfOk result (λ o. o ≡ full.placed_side (setting_of look.now.spot) look.now.format.now look.now.sizes.now index side) }
 {
-    held(alloc, look.order, look.lengths, look.spot.bits, index)
+    if is_same_side(side, look.spot.side) {
+        held(alloc, look.order, look.lengths, look.spot.bits, index)
+    } else {
+        Ok(None)
+    }
 }
 
 /// The other side, by this one.
@@ -269,19 +297,34 @@ fn across(
     alloc: Global,
     look: &Look<'_>,
     format: usize,
-    index: usize,
     field: &Field,
     side: Side,
     own: &Bits,
 ) -> Result<Option<Bits>, AllocError>
-    requires look { spec.IsLook look.now format }
-    requires at { slice_get look.now.format.now.fields index ≡ Some field.now }
-    requires told { spec.ToldOf look.now index side own.now }
-    ensures { IfOk result (λ o. IfSome o (spec.ToldOf look.now index (told.opposite side))) }
+    requires { spec.IsLook look.now format }
+    ensures { IfOk result (spec.AcrossOf look.now field.now side own.now) }
 {
-    let Encoding::Library(library) = field.encoding.get() else {
-        return Ok(None);
-    };
+    match field.encoding.get() {
+        Encoding::Library(library) => {
+            across_library(alloc, look, format, field, library, side, own)
+        }
+        Encoding::Bare | Encoding::Call { .. } => Ok(None),
+    }
+}
+
+/// The other side, by this one and a library method of which each argument has one value by the bounds.
+fn across_library(
+    alloc: Global,
+    look: &Look<'_>,
+    format: usize,
+    field: &Field,
+    library: &Library,
+    side: Side,
+    own: &Bits,
+) -> Result<Option<Bits>, AllocError>
+    requires { spec.IsLook look.now format }
+    ensures { IfOk result (full.IsAcross (full.plain_library (bounding_of (told.base_ranges (setting_of look.now.spot) look.now.sizes.now)) library.now) (told.reference_in (setting_of look.now.spot) field.now) side own.now) }
+{
     if is_crc(library) {
         return Ok(None);
     }

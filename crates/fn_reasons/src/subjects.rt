@@ -1,7 +1,8 @@
 //! What is seen of a field or of the whole.
 
-ghost use Rattle.std.specs.Prelude.{◌≡◌, ◌++◌, [], ◌∷◌, drop, IfOk, IfSome, Some, option_map};
+ghost use Rattle.std.specs.Prelude.{◌≡◌, IfOk, option_and_then};
 ghost use Rattle.std.specs.Option.{option_copied};
+ghost use Rattle.fn_reasons.specs.Full as full;
 ghost use Rattle.fn_reasons.specs.Told as spec;
 
 use crate::sight::{Seen, Sight};
@@ -40,14 +41,14 @@ pub(crate) fn seen_subject(seen: &Seen, subject: Subject, side: Side) -> Option<
     }
 }
 
-/// The sides of these fields joined, where each is seen. The error is want of memory.
+/// The sides of these fields joined, where each is seen and they can be held together. The error is want of memory.
 pub(crate) fn joined(
     alloc: Global,
     sights: &[Sight],
     side: Side,
     order: &[usize],
 ) -> Result<Option<Bits>, AllocError>
-    ensures { IfOk result (λ o. IfSome o (λ bits. spec.joined sights.now side order.now ≡ Some bits)) }
+    ensures { IfOk result (λ o. o ≡ option_and_then full.holdable (spec.joined sights.now side order.now)) }
 {
     let mut bits = Bits::new(alloc);
     for field in order {

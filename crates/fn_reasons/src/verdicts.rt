@@ -5,13 +5,14 @@ ghost use Rattle.std.specs.Option.{option_copied};
 ghost use Rattle.fn_expr.specs.Bounds.{bounding_of};
 ghost use Rattle.fn_fits.specs.Bounded.{sizes_at};
 ghost use Rattle.fn_fits.specs.Fits.{format_at};
+ghost use Rattle.fn_lint.specs.Never.{IsUntrue};
 ghost use Rattle.fn_normal.specs.declared.profile.Encoding.TheVariants as encoding;
-ghost use Rattle.fn_reasons.specs.Conflicts.{IsSighted, StandsIn};
+ghost use Rattle.fn_reasons.specs.Conflicts.{AreClear, HasValues, IsClearAt, IsSighted, IsUncut, SeesNone};
+ghost use Rattle.fn_reasons.specs.Full as full;
 ghost use Rattle.fn_reasons.specs.Listing as listing;
 ghost use Rattle.fn_reasons.specs.Places as places;
 ghost use Rattle.fn_reasons.specs.Reasons as spec;
 ghost use Rattle.fn_reasons.specs.Settings.{setting_of};
-ghost use Rattle.fn_reasons.specs.Told as told;
 
 use crate::conflict::{Sighted, conflict};
 use crate::figures::figures_at;
@@ -100,6 +101,7 @@ fn add_rest(
 ) -> Result<(), AllocError>
     requires within { format < spec.formats_of (setting_of spot.now) }
     requires is_open { spec.IsOpen (setting_of spot.now) format }
+    requires none { SeesNone (setting_of spot.now) format }
     ensures { OnOk result (listing.SoFar (setting_of spot.now) format lines.old → listing.SoFar (setting_of spot.now) (format + 1) lines.new) }
 {
     match rest_at(alloc, spot, format)? {
@@ -138,7 +140,7 @@ fn told(
     depth: usize,
     format: usize,
 ) -> Result<Option<Items<Line>>, AllocError>
-    ensures { IfOk result (λ o. IfSome o (spec.Tells (setting_of spot.now) depth format)) }
+    ensures { IfOk result (λ o. MatchOption o (SeesNone (setting_of spot.now) format) (spec.Tells (setting_of spot.now) depth format)) }
 {
     if let Some(reason) = at_once(alloc, spot, format)? {
         return Ok(Some(alone(alloc, spot, depth, format, reason)?));
@@ -230,10 +232,10 @@ fn whole_bounds(sizes: &FormatSizes, side: Side) -> Bounds
     }
 }
 
-/// What is seen of the format's fields and of the whole.
+/// All that is seen of the format: of its fields and of the whole.
 fn seen_of(alloc: Global, look: &Look<'_>, format: usize) -> Result<Seen, AllocError>
     requires { listing.IsLook look.now format }
-    ensures { IfOk result (told.AreAllSeen (setting_of look.now.spot) look.now.format.now look.now.sizes.now) }
+    ensures { IfOk result (full.IsFullView (setting_of look.now.spot) format look.now.format.now look.now.sizes.now) }
 {
     let fields = sights(alloc, look, format)?;
     let header = whole_side(alloc, fields.as_slice(), look.format, Side::Uncompressed)?;
@@ -253,7 +255,7 @@ fn whole_side(
     format: &Format,
     side: Side,
 ) -> Result<Option<Bits>, AllocError>
-    ensures { IfOk result (λ o. IfSome o (λ bits. told.joined sights.now side (places.order_of format.now side) ≡ Some bits)) }
+    ensures { IfOk result (λ o. o ≡ full.whole_seen sights.now side format.now) }
 {
     let order = order_of(alloc, format, side)?;
     joined(alloc, sights, side, order.as_slice())
@@ -269,23 +271,38 @@ fn told_by(
     depth: usize,
 ) -> Result<Option<Items<Line>>, AllocError>
     requires { IsSighted sighted.now }
-    ensures { IfOk result (λ o. IfSome o (spec.Tells (setting_of sighted.now.look.spot) depth sighted.now.number)) }
+    ensures { IfOk result (λ o. MatchOption o (SeesNone (setting_of sighted.now.look.spot) sighted.now.number) (spec.Tells (setting_of sighted.now.look.spot) depth sighted.now.number)) }
 {
-    for index in sighted.look.order {
-        let found = told_by_field(left, alloc, sighted, depth, *index)?;
-        if found.is_some() {
-            return Ok(found);
+    match told_by_fields(left, alloc, sighted, depth)? {
+        Some(lines) => Ok(Some(lines)),
+        None => told_by_condition(alloc, sighted, depth),
+    }
+}
+
+/// The same by the first field with which something is wrong.
+#[cycle(telling)]
+fn told_by_fields(
+    left: usize,
+    alloc: Global,
+    sighted: &Sighted<'_>,
+    depth: usize,
+) -> Result<Option<Items<Line>>, AllocError>
+    requires { IsSighted sighted.now }
+    ensures { IfOk result (λ o. MatchOption o (AreClear sighted.now) (spec.Tells (setting_of sighted.now.look.spot) depth sighted.now.number)) }
+{
+    for next in sighted.look.order {
+        if let Some(lines) = told_by_field(left, alloc, sighted, depth, *next)? {
+            return Ok(Some(lines));
         }
     }
     for index in 0..sighted.look.format.fields.len() {
         if !sighted.look.order.contains(&index) {
-            let found = told_by_field(left, alloc, sighted, depth, index)?;
-            if found.is_some() {
-                return Ok(found);
+            if let Some(lines) = told_by_field(left, alloc, sighted, depth, index)? {
+                return Ok(Some(lines));
             }
         }
     }
-    told_by_condition(alloc, sighted, depth)
+    Ok(None)
 }
 
 /// The same by the first condition that is false, else by the first that has no value.
@@ -294,8 +311,9 @@ fn told_by_condition(
     sighted: &Sighted<'_>,
     depth: usize,
 ) -> Result<Option<Items<Line>>, AllocError>
-    requires { IsSighted sighted.now }
-    ensures { IfOk result (λ o. IfSome o (spec.Tells (setting_of sighted.now.look.spot) depth sighted.now.number)) }
+    requires sighted { IsSighted sighted.now }
+    requires clear { AreClear sighted.now }
+    ensures { IfOk result (λ o. MatchOption o (SeesNone (setting_of sighted.now.look.spot) sighted.now.number) (spec.Tells (setting_of sighted.now.look.spot) depth sighted.now.number)) }
 {
     let constraints = sighted.look.format.constraints.as_slice();
     let Some(constraint) = first_untrue(constraints, sighted.ranges) else {
@@ -310,14 +328,16 @@ fn told_by_condition(
     Ok(Some(lines))
 }
 
-/// The same by the first condition that has no value.
+/// The same by the first condition that has no value, where none is false.
 fn told_by_truth(
     alloc: Global,
     sighted: &Sighted<'_>,
     depth: usize,
 ) -> Result<Option<Items<Line>>, AllocError>
-    requires { IsSighted sighted.now }
-    ensures { IfOk result (λ o. IfSome o (spec.Tells (setting_of sighted.now.look.spot) depth sighted.now.number)) }
+    requires sighted { IsSighted sighted.now }
+    requires clear { AreClear sighted.now }
+    requires none { (j : _) → IsUntrue sighted.now.look.format.now.constraints (bounding_of sighted.now.ranges.now) j → ⊥ }
+    ensures { IfOk result (λ o. MatchOption o (SeesNone (setting_of sighted.now.look.spot) sighted.now.number) (spec.Tells (setting_of sighted.now.look.spot) depth sighted.now.number)) }
 {
     let constraints = sighted.look.format.constraints.as_slice();
     let Some(at) = undefined_condition(constraints, sighted.ranges) else {
@@ -336,16 +356,20 @@ fn told_by_length(
     index: usize,
 ) -> Result<Option<Items<Line>>, AllocError>
     requires { IsSighted sighted.now }
-    ensures { IfOk result (λ o. IfSome o (spec.Tells (setting_of sighted.now.look.spot) depth sighted.now.number)) }
+    ensures { IfOk result (λ o. MatchOption o (IsUncut sighted.now index) (spec.Tells (setting_of sighted.now.look.spot) depth sighted.now.number)) }
 {
     let look = &sighted.look;
+    let many = look.spot.bits.len();
     let Some(offset) = begin_of(look.order, look.lengths, index) else {
         return Ok(None);
     };
     let Some(due) = length_in(look.lengths, index) else {
         return Ok(None);
     };
-    let left = look.spot.bits.len().saturating_sub(offset);
+    if offset > many {
+        return Ok(None);
+    }
+    let left = many - offset;
     if left as u128 >= due {
         return Ok(None);
     }
@@ -368,7 +392,7 @@ fn told_by_argument(
 ) -> Result<Option<Items<Line>>, AllocError>
     requires sighted { IsSighted sighted.now }
     requires at { slice_get sighted.now.look.format.now.fields index ≡ Some field.now }
-    ensures { IfOk result (λ o. IfSome o (spec.Tells (setting_of sighted.now.look.spot) depth sighted.now.number)) }
+    ensures { IfOk result (λ o. MatchOption o (HasValues sighted.now field.now) (spec.Tells (setting_of sighted.now.look.spot) depth sighted.now.number)) }
 {
     let Some(at) = undefined_argument(field.encoding.get(), sighted.ranges) else {
         return Ok(None);
@@ -388,25 +412,38 @@ fn told_by_field(
     index: usize,
 ) -> Result<Option<Items<Line>>, AllocError>
     requires { IsSighted sighted.now }
-    ensures { IfOk result (λ o. IfSome o (spec.Tells (setting_of sighted.now.look.spot) depth sighted.now.number)) }
+    ensures { IfOk result (λ o. MatchOption o (IsClearAt sighted.now index) (spec.Tells (setting_of sighted.now.look.spot) depth sighted.now.number)) }
 {
-    let Some(field) = sighted.look.format.fields.get(index) else {
-        return Ok(None);
-    };
-    let cut = told_by_length(alloc, sighted, depth, index)?;
-    if cut.is_some() {
-        return Ok(cut);
+    if let Some(lines) = told_by_length(alloc, sighted, depth, index)? {
+        return Ok(Some(lines));
     }
-    let found = told_by_argument(alloc, sighted, depth, index, field)?;
-    if found.is_some() {
-        return Ok(found);
+    match sighted.look.format.fields.get(index) {
+        Some(field) => told_by_encoding(left, alloc, sighted, depth, index, field),
+        None => Ok(None),
     }
-    match field.encoding.get() {
-        Encoding::Call { method, arguments } => {
-            if left == 0 {
-                return Ok(None);
-            }
-            told_by_call(
+}
+
+/// The same by what encodes a field, to which its length is no contradiction.
+#[cycle(telling)]
+fn told_by_encoding(
+    left: usize,
+    alloc: Global,
+    sighted: &Sighted<'_>,
+    depth: usize,
+    index: usize,
+    field: &Field,
+) -> Result<Option<Items<Line>>, AllocError>
+    requires sighted { IsSighted sighted.now }
+    requires at { slice_get sighted.now.look.format.now.fields index ≡ Some field.now }
+    requires uncut { IsUncut sighted.now index }
+    ensures { IfOk result (λ o. MatchOption o (IsClearAt sighted.now index) (spec.Tells (setting_of sighted.now.look.spot) depth sighted.now.number)) }
+{
+    if let Some(lines) = told_by_argument(alloc, sighted, depth, index, field)? {
+        return Ok(Some(lines));
+    }
+    if let Encoding::Call { method, arguments } = field.encoding.get() {
+        if left > 0 {
+            if let Some(lines) = told_by_call(
                 left - 1,
                 alloc,
                 sighted,
@@ -415,16 +452,33 @@ fn told_by_field(
                 field,
                 *method,
                 arguments.as_slice(),
-            )
-        }
-        _ => {
-            let Some(reason) = conflict(alloc, sighted, index, field)? else {
-                return Ok(None);
-            };
-            let lines = alone(alloc, &sighted.look.spot, depth, sighted.number, reason)?;
-            Ok(Some(lines))
+            )? {
+                return Ok(Some(lines));
+            }
         }
     }
+    told_by_conflict(alloc, sighted, depth, index, field)
+}
+
+/// The same by what its library method relates, where each of its arguments has a value.
+fn told_by_conflict(
+    alloc: Global,
+    sighted: &Sighted<'_>,
+    depth: usize,
+    index: usize,
+    field: &Field,
+) -> Result<Option<Items<Line>>, AllocError>
+    requires sighted { IsSighted sighted.now }
+    requires at { slice_get sighted.now.look.format.now.fields index ≡ Some field.now }
+    requires uncut { IsUncut sighted.now index }
+    requires values { HasValues sighted.now field.now }
+    ensures { IfOk result (λ o. MatchOption o (IsClearAt sighted.now index) (spec.Tells (setting_of sighted.now.look.spot) depth sighted.now.number)) }
+{
+    let Some(reason) = conflict(alloc, sighted, index, field)? else {
+        return Ok(None);
+    };
+    let lines = alone(alloc, &sighted.look.spot, depth, sighted.number, reason)?;
+    Ok(Some(lines))
 }
 
 /// The same by a field that calls a method, where something stands against each format of that.

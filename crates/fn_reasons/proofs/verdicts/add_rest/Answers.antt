@@ -1,4 +1,5 @@
 use Rattle.fn_reasons.specs.Settings.{setting_of}
+use Rattle.fn_reasons.proofs.FieldsClear.{clear_is}
 use Rattle.fn_reasons.proofs.ReasonsMaking.{if_ok, verdict_at_once, verdict_open}
 use Rattle.fn_reasons.proofs.verdicts.add_rest.Goals as goal
 
@@ -9,5 +10,7 @@ returns-in-Some c =
 
 pub returns-in-None : goal.returns-in-None
 returns-in-None c =
+    let referred = rw c.in-None.is at c.in_ok-reason.ensures in
+    let clear = clear_is (setting_of c.args.spot.now) c.args.format c.requires.is_open referred c.requires.none in
     if_ok c.push-in-None.result _ _
-    (λ is. verdict_open (setting_of c.args.spot.now) c.args.format c.args.lines.now c.push-in-None.new.self c.line-in-None.result c.requires.within c.requires.is_open (rw c.in-None.is at c.in_ok-reason.ensures) c.line-in-None.ensures is) c.push-in-None.ensures.ok
+    (λ is. verdict_open (setting_of c.args.spot.now) c.args.format c.args.lines.now c.push-in-None.new.self c.line-in-None.result c.requires.within c.requires.is_open referred clear c.line-in-None.ensures is) c.push-in-None.ensures.ok
