@@ -2,16 +2,18 @@
 use Rattle.std.proofs.Common.{◌≡◌, ◌∙◌, refl, sym, ap, subst, ℕ, zero, suc, ◌+◌, ◌<◌, ◌≤◌, Bool, true, false, List, [], ◌∷◌, length, drop, arith}
 use Rattle.std.specs.Prelude.{◌||◌, Option, Some, None, slice_get, nat_eq}
 use Rattle.std.specs.List.{list_any}
-use Rattle.std.specs.Option.{option_copied}
+use Rattle.std.specs.Option.{option_and_then, option_copied}
 use Rattle.std.proofs.lemmas.Bool.Decides.{nat_tests}
 use Rattle.std.proofs.lemmas.Option.{slice_get_within}
 use Rattle.fn_expr.specs.declared.expr.Side.{Side}
 use Rattle.fn_expr.specs.declared.expr.Side.TheVariants.{Uncompressed, Compressed}
 use Rattle.fn_expr.specs.Bounds.{bounding_of}
 use Rattle.fn_expr.specs.Ranged.{Bounding}
+use Rattle.fn_source.specs.declared.span.Span.{Span}
 use Rattle.fn_bounds.specs.Laws.{encoding_exprs}
 use Rattle.fn_lib.specs.Methods as lib
 use Rattle.fn_lib.specs.Methods.{IsOnly}
+use Rattle.fn_normal.specs.declared.profile.Constraint.{Constraint}
 use Rattle.fn_normal.specs.declared.profile.Encoding.TheVariants as encoding
 use Rattle.fn_normal.specs.declared.profile.Field.{Field}
 use Rattle.fn_normal.specs.declared.profile.Format.{Format}
@@ -22,12 +24,12 @@ use Rattle.fn_fits.specs.Bounded.{sizes_at}
 use Rattle.fn_fits.specs.Fits.{format_at}
 use Rattle.fn_fits.proofs.FitsSized.{one_value}
 use Rattle.fn_lint.specs.Never.{IsUntrue}
-use Rattle.fn_lint.specs.Undefined.{first_undefined, undefined_condition}
+use Rattle.fn_lint.specs.Undefined.{first_of, first_undefined, undefined_condition, undefined_constraint}
 use Rattle.fn_reasons.specs.Across.{method_of, with_values}
 use Rattle.fn_reasons.specs.Conflicts.{AreClear, Agrees, GoesWith, HasOther, HasValues, IsClearAt, IsCoded, IsSighted, IsUncut, MethodAt, SeesNone, goes_by_sight, reference_of}
 use Rattle.fn_reasons.specs.Full.{IsFullView}
 use Rattle.fn_reasons.specs.Places.{BeginsAt, IsFar, begin_of, length_in, order_of}
-use Rattle.fn_reasons.specs.Reasons.{HasMethod, HasReferences, IsClear, IsOpen, Stands, dead, short, long, cut, no_reference, differs, no_side, untrue, no_argument, no_truth, ranges_in}
+use Rattle.fn_reasons.specs.Reasons.{HasMethod, HasReferences, IsClear, IsOpen, Stands, dead, short, long, cut, no_reference, differs, no_side, untrue, no_argument, no_truth, ranges_in, undefined_at}
 use Rattle.fn_reasons.specs.Settings.{Setting, setting_of}
 use Rattle.fn_reasons.specs.Told.{Covers, Related, length_of, method_in, opposite, seen_at}
 use Rattle.fn_reasons.specs.declared.conflict.Coded.{Coded}
@@ -216,9 +218,33 @@ listed_clear k n i any all before =
     let within : t.0 < length k.look.order.now = slice_get_within k.look.order.now t.0 i t.1 in
     before t.0 i (omega (arith, within, all)) t.1
 
+-- ---- conditions
+
+-- that of one constraint
+pub lone_condition : (r : Bounding) (c : Constraint) → undefined_condition r (c ∷ []) ≡ undefined_constraint r c
+lone_condition r c = by (undefined_constraint r c)
+  where
+    by : (o : Option Span) → first_of o None ≡ o
+    by (Some s) = refl
+    by None = refl
+
+pub next_valued : (r : Bounding) (cs : List Constraint) (n : ℕ) → undefined_at r cs n ≡ None → ((j : ℕ) → j < n → undefined_at r cs j ≡ None) → (j : ℕ) → j < n + 1 → undefined_at r cs j ≡ None
+next_valued r cs n here before j lt = by (nat_eq j n) refl
+  where
+    by : (b : Bool) → nat_eq j n ≡ b → undefined_at r cs j ≡ None
+    by true same = let e : n ≡ j = grind (arith, nat_tests) in subst (λ z. undefined_at r cs z ≡ None) e here
+    by false other = before j (grind (arith, nat_tests))
+
+pub all_valued : (r : Bounding) (cs : List Constraint) (n : ℕ) → length cs ≤ n → ((j : ℕ) → j < n → undefined_at r cs j ≡ None) → (j : ℕ) → undefined_at r cs j ≡ None
+all_valued r cs n past each j = by (slice_get cs j) refl
+  where
+    by : (o : Option Constraint) → slice_get cs j ≡ o → undefined_at r cs j ≡ None
+    by (Some c) at = let within : j < length cs = slice_get_within cs j c at in each j (omega (arith, within, past))
+    by None none = ap (option_and_then (undefined_constraint r)) none
+
 -- ---- a format
 
-module _ (k : Sighted) (h : IsSighted k) (clear : AreClear k) (none : (j : ℕ) → IsUntrue k.look.format.now.constraints (bounding_of k.ranges.now) j → ⊥) (valued : undefined_condition (bounding_of k.ranges.now) k.look.format.now.constraints ≡ None) where
+module _ (k : Sighted) (h : IsSighted k) (clear : AreClear k) (none : (j : ℕ) → IsUntrue k.look.format.now.constraints (bounding_of k.ranges.now) j → ⊥) (valued : (j : ℕ) → undefined_at (bounding_of k.ranges.now) k.look.format.now.constraints j ≡ None) where
   abbrev s : Setting
   s = setting_of k.look.spot
 
@@ -256,9 +282,9 @@ module _ (k : Sighted) (h : IsSighted k) (clear : AreClear k) (none : (j : ℕ) 
   go r (no_argument {at} i format sizes seen d v field_at is) e =
       each (λ format sizes seen. slice_get format.fields i ≡ Some d → first_undefined (ranges_in s sizes seen) (encoding_exprs d.encoding) ≡ Some at → ⊥)
       (λ field_at is. let wrong = sym ((clear i).has_values d field_at) ∙ (ap (λ z. first_undefined z (encoding_exprs d.encoding)) ranges ∙ is) in absurd (cc)) format sizes seen v field_at is
-  go r (no_truth {at} format sizes seen v is) e =
-      each (λ format sizes seen. undefined_condition (ranges_in s sizes seen) format.constraints ≡ Some at → ⊥)
-      (λ is. let wrong = sym valued ∙ (ap (λ z. undefined_condition z k.look.format.now.constraints) ranges ∙ is) in absurd (cc)) format sizes seen v is
+  go r (no_truth {j} {at} format sizes seen v is) e =
+      each (λ format sizes seen. undefined_at (ranges_in s sizes seen) format.constraints j ≡ Some at → ⊥)
+      (λ is. let wrong = sym (valued j) ∙ (ap (λ z. undefined_at z k.look.format.now.constraints j) ranges ∙ is) in absurd (cc)) format sizes seen v is
 
   -- no reason by what is seen of the format stands against it
   pub sees_none : SeesNone (setting_of k.look.spot) k.number

@@ -32,9 +32,9 @@ use Rattle.fn_reasons.specs.Looks.{IsLook, SeenOf, SeenOn, SoFar}
 use Rattle.fn_reasons.specs.Places.{BeginsAt, held, length_in, order_of}
 use Rattle.fn_reasons.specs.Settings.{Setting, setting_of}
 use Rattle.fn_reasons.specs.Told.{Related, length_of, lengths_from, opposite, reference_in, seen_at, seen_side}
-use Rattle.fn_reasons.specs.Reasons.{HasMethod, Stands, dead, short, long, cut, no_reference, differs, no_side, untrue, no_argument, no_truth, Calls, Tells, by_reason, by_call, TellAll, ends, next, HasReferences, HasRoom, IsClear, IsOpen, Verdicts, lacking, lacks, no_more, out, open_still, all_ranged, formats_of, inside, line_of, ranges_in, wants_reference}
+use Rattle.fn_reasons.specs.Reasons.{HasMethod, Stands, dead, short, long, cut, no_reference, differs, no_side, untrue, no_argument, no_truth, Calls, Tells, by_reason, by_call, TellAll, ends, next, HasReferences, HasRoom, IsClear, IsOpen, Verdicts, lacking, lacks, no_more, out, open_still, all_ranged, formats_of, inside, line_of, ranges_in, undefined_at, wants_reference}
 use Rattle.fn_reasons.specs.Figures.{figures_at}
-use Rattle.fn_lint.specs.Undefined.{first_undefined, undefined_condition}
+use Rattle.fn_lint.specs.Undefined.{first_undefined}
 use Rattle.fn_reasons.specs.Listing as listing
 use Rattle.fn_reasons.specs.declared.conflict.Coded.{Coded}
 use Rattle.fn_reasons.specs.declared.conflict.Sighted.{Sighted}
@@ -42,6 +42,7 @@ use Rattle.fn_reasons.specs.declared.figures.Figure.{Figure}
 use Rattle.fn_reasons.specs.declared.line.Line.{Line}
 use Rattle.fn_reasons.specs.declared.reason.Reason.{Reason}
 use Rattle.fn_reasons.specs.declared.reason.Reason.TheVariants as reason
+use Rattle.fn_reasons.specs.declared.reason.Within.TheVariants as part
 use Rattle.fn_reasons.specs.declared.seeing.Look.{Look}
 use Rattle.fn_reasons.specs.declared.sight.Sight.{Sight}
 use Rattle.fn_reasons.proofs.MethodsValued.{method_is}
@@ -166,13 +167,13 @@ untrue_is k h j figures is u =
     subst (λ z. StandsIn k (reason.Untrue j z)) (sym (is ∙ ap (λ z. figures_at (bounding_of z) (slice_get k.look.format.now.constraints j)) h.ranges_are))
     (untrue k.look.format.now k.look.sizes.now k.seen.now (view_is k h) (subst (λ z. IsUntrue k.look.format.now.constraints (bounding_of z) j) h.ranges_are u))
 
-pub no_argument_is : (k : Sighted) → IsSighted k → (i : ℕ) (d : Field) → slice_get k.look.format.now.fields i ≡ Some d → (at : Span) → first_undefined (bounding_of k.ranges.now) (encoding_exprs d.encoding) ≡ Some at → StandsIn k (reason.Undefined at)
+pub no_argument_is : (k : Sighted) → IsSighted k → (i : ℕ) (d : Field) → slice_get k.look.format.now.fields i ≡ Some d → (at : Span) → first_undefined (bounding_of k.ranges.now) (encoding_exprs d.encoding) ≡ Some at → StandsIn k (reason.Undefined at (part.Argument i))
 no_argument_is k h i d field_at at is =
     no_argument i k.look.format.now k.look.sizes.now k.seen.now d (view_is k h) field_at (ap (λ z. first_undefined (bounding_of z) (encoding_exprs d.encoding)) (sym h.ranges_are) ∙ is)
 
-pub no_truth_is : (k : Sighted) → IsSighted k → (at : Span) → undefined_condition (bounding_of k.ranges.now) k.look.format.now.constraints ≡ Some at → StandsIn k (reason.Undefined at)
-no_truth_is k h at is =
-    no_truth k.look.format.now k.look.sizes.now k.seen.now (view_is k h) (ap (λ z. undefined_condition (bounding_of z) k.look.format.now.constraints) (sym h.ranges_are) ∙ is)
+pub no_truth_is : (k : Sighted) → IsSighted k → (j : ℕ) (at : Span) → undefined_at (bounding_of k.ranges.now) k.look.format.now.constraints j ≡ Some at → StandsIn k (reason.Undefined at (part.Condition j))
+no_truth_is k h j at is =
+    no_truth k.look.format.now k.look.sizes.now k.seen.now (view_is k h) (ap (λ z. undefined_at (bounding_of z) k.look.format.now.constraints j) (sym h.ranges_are) ∙ is)
 
 -- ---- lines
 

@@ -53,13 +53,13 @@ use Rattle.fn_reasons.specs.Full.{IsFullView}
 use Rattle.fn_reasons.specs.Laws.{ReasonsAreTrue}
 use Rattle.fn_reasons.specs.Settings.{Setting, IsSought, IsOut, whole_side}
 use Rattle.fn_reasons.specs.Told.{Covers, Related, length_of, opposite, reference_in, seen_at, seen_subject}
-use Rattle.fn_reasons.specs.Reasons.{HasMethod, Stands, dead, short, long, cut, no_reference, differs, no_side, untrue, no_argument, no_truth, Tells, by_reason, by_call, TellAll, ends, next, all_ranged, formats_of, inside, ranges_in, range_of, wants_reference}
+use Rattle.fn_reasons.specs.Reasons.{HasMethod, Stands, dead, short, long, cut, no_reference, differs, no_side, untrue, no_argument, no_truth, Tells, by_reason, by_call, TellAll, ends, next, all_ranged, formats_of, inside, ranges_in, range_of, undefined_at, wants_reference}
 use Rattle.fn_reasons.specs.declared.line.Line.{Line}
 use Rattle.fn_reasons.specs.declared.reason.Reason.{Reason}
 use Rattle.fn_reasons.specs.declared.sight.Seen.{Seen}
 use Rattle.fn_reasons.proofs.FullSeen.{full_told}
 use Rattle.fn_reasons.proofs.ToldKnown as known
-use Rattle.fn_lint.specs.Undefined.{first_undefined, undefined_condition}
+use Rattle.fn_lint.specs.Undefined.{first_undefined, undefined_constraint}
 use Rattle.fn_lint.proofs.UndefinedValueless as undefined
 use Rattle.fn_reasons.proofs.PlacesOrdered.{piece}
 use Rattle.fn_reasons.proofs.ToldPinned.{LiesIn, same_method}
@@ -229,11 +229,15 @@ module _ (s : Setting) (sound : IsSound s.profile) (n : ℕ) (f : Filling) (h : 
         undefined.no_value (assignment_of (known.numbers_of s sound n format v.format_is sizes v.sizes_are f h)) (ranges_in s sizes seen) (known.all_lie s sound n format v.format_is sizes v.sizes_are f h seen (full_told s n format sizes seen v)) t.1 at t.3 has.0
         (known.known_is s sound n format v.format_is sizes v.sizes_are f h t.1 (in_encoding i t.0 field_at t.2) ∙ has.1)
 
-    no_untold : (at : Span) → undefined_condition (ranges_in s sizes seen) format.constraints ≡ Some at → ⊥
-    no_untold at is =
-        let t = undefined.one_condition (ranges_in s sizes seen) format.constraints at is in
-        undefined.no_truth (assignment_of (known.numbers_of s sound n format v.format_is sizes v.sizes_are f h)) (ranges_in s sizes seen) (known.all_lie s sound n format v.format_is sizes v.sizes_are f h seen (full_told s n format sizes seen v)) t.1 at t.4 true
-        (known.condition_is s sound n format v.format_is sizes v.sizes_are f h t.0 t.1 t.2 t.3)
+    no_untold : (j : ℕ) (at : Span) → undefined_at (ranges_in s sizes seen) format.constraints j ≡ Some at → ⊥
+    no_untold j at is = let t = and_then_some (undefined_constraint (ranges_in s sizes seen)) (slice_get format.constraints j) at is in by t.0 t.1 t.2
+      where
+        by : (c : Constraint) → slice_get format.constraints j ≡ Some c → undefined_constraint (ranges_in s sizes seen) c ≡ Some at → ⊥
+        by (Bracket i side lengths place) there none = absurd (cc)
+        by (Enforce condition place) there none =
+            undefined.no_truth (assignment_of (known.numbers_of s sound n format v.format_is sizes v.sizes_are f h)) (ranges_in s sizes seen)
+            (known.all_lie s sound n format v.format_is sizes v.sizes_are f h seen (full_told s n format sizes seen v)) condition at none true
+            (known.condition_is s sound n format v.format_is sizes v.sizes_are f h j condition place there)
 
     -- ---- a method inside
 
@@ -275,7 +279,7 @@ module _ (s : Setting) (sound : IsSound s.profile) (n : ℕ) (f : Filling) (h : 
   no_stand r (no_side {i} {side} {found} format sizes seen d m v has found_is none) = no_lack format sizes seen v i side found d m has found_is none
   no_stand r (untrue {j} format sizes seen v u) = no_untrue format sizes seen v j u
   no_stand r (no_argument {at} i format sizes seen d v field_at is) = no_undefined format sizes seen v i d at field_at is
-  no_stand r (no_truth {at} format sizes seen v is) = no_untold format sizes seen v at is
+  no_stand r (no_truth {j} {at} format sizes seen v is) = no_untold format sizes seen v j at is
 
 -- ---- together
 

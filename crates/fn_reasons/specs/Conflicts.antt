@@ -91,7 +91,7 @@ goes_by_sight (NoReference i path) = false
 goes_by_sight (Differs i side found due) = true
 goes_by_sight (NoSide i side found) = true
 goes_by_sight (Untrue j figures) = true
-goes_by_sight (Undefined at) = true
+goes_by_sight (Undefined at part) = true
 goes_by_sight (Inside i) = false
 goes_by_sight Nothing = false
 

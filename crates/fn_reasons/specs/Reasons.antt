@@ -9,6 +9,7 @@ use Rattle.fn_expr.specs.Bounds.{bounding_of}
 use Rattle.fn_expr.specs.Ranged.{Bounding, ranged}
 use Rattle.fn_lib.specs.Methods as lib
 use Rattle.fn_lib.specs.Methods.{IsOnly}
+use Rattle.fn_normal.specs.declared.profile.Constraint.{Constraint}
 use Rattle.fn_normal.specs.declared.profile.Encoding.{Encoding}
 use Rattle.fn_normal.specs.declared.profile.Encoding.TheVariants as encoding
 use Rattle.fn_normal.specs.declared.profile.Field.{Field}
@@ -31,10 +32,11 @@ use Rattle.fn_reasons.specs.Full.{IsFullView}
 use Rattle.fn_reasons.specs.Settings.{Setting}
 use Rattle.fn_reasons.specs.Places.{BeginsAt, order_of}
 use Rattle.fn_reasons.specs.Told.{Covers, Related, base_ranges, length_of, method_in, opposite, ranges_seen, reference_in, seen_at}
-use Rattle.fn_lint.specs.Undefined.{first_undefined, undefined_condition}
+use Rattle.fn_lint.specs.Undefined.{first_undefined, undefined_constraint}
 use Rattle.fn_reasons.specs.declared.line.Line.{Line}
 use Rattle.fn_reasons.specs.declared.reason.Reason.{Reason}
 use Rattle.fn_reasons.specs.declared.reason.Reason.TheVariants as reason
+use Rattle.fn_reasons.specs.declared.reason.Within.TheVariants as part
 use Rattle.fn_reasons.specs.declared.sight.Seen.{Seen}
 
 -- the ranges of a format's numbers, by what is seen
@@ -46,6 +48,10 @@ abbrev pub wants_reference : Encoding → Bool
 wants_reference (encoding.Library library.Static) = true
 wants_reference (encoding.Library (library.Lsb k offset)) = true
 wants_reference _ = false
+
+-- the part of the constraint j that has no value, where that is a condition
+abbrev pub undefined_at : Bounding → List Constraint → ℕ → Option Span
+undefined_at r constraints j = option_and_then (undefined_constraint r) (slice_get constraints j)
 
 -- the library method of the field i, with arguments of which each has one value
 pub record HasMethod (s : Setting) (format : Format) (sizes : FormatSizes) (seen : Seen) (i : ℕ) (d : Field) (m : lib.Method) : Type 0 where
@@ -81,9 +87,10 @@ pub data Stands (s : Setting) (n : ℕ) : Reason → Type 0 where
       → Stands s n (reason.Untrue j (figures_at (ranges_in s sizes seen) (slice_get format.constraints j)))
   -- an argument of a field's encoding has no value by what is seen
   no_argument : {at : Span} (i : ℕ) (format : Format) (sizes : FormatSizes) (seen : Seen) (d : Field) → IsFullView s n format sizes seen → slice_get format.fields i ≡ Some d → first_undefined (ranges_in s sizes seen) (encoding_exprs d.encoding) ≡ Some at
-      → Stands s n (reason.Undefined at)
+      → Stands s n (reason.Undefined at (part.Argument i))
   -- nor has a condition
-  no_truth : {at : Span} (format : Format) (sizes : FormatSizes) (seen : Seen) → IsFullView s n format sizes seen → undefined_condition (ranges_in s sizes seen) format.constraints ≡ Some at → Stands s n (reason.Undefined at)
+  no_truth : {j : ℕ} {at : Span} (format : Format) (sizes : FormatSizes) (seen : Seen) → IsFullView s n format sizes seen → undefined_at (ranges_in s sizes seen) format.constraints j ≡ Some at
+      → Stands s n (reason.Undefined at (part.Condition j))
 
 -- ---- a method inside
 

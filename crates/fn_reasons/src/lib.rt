@@ -3,7 +3,7 @@
 
 pub use figures::Figure;
 pub use line::Line;
-pub use reason::Reason;
+pub use reason::{Reason, Within};
 pub use spot::Spot;
 pub use verdicts::reasons;
 

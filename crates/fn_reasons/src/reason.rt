@@ -7,6 +7,13 @@ use fn_lint::Obstacle;
 use fn_source::Span;
 use sqlite_items::Items;
 
+/// What has no value, by its index: an argument of what encodes this field, or this constraint, which is a condition.
+#[derive(Clone, Copy)]
+pub enum Within {
+    Argument(usize),
+    Condition(usize),
+}
+
 /// What stands against a format, so that no filling of it is asked for. Fields and constraints go by their indices, lengths are in bits.
 #[derive(Drop)]
 pub enum Reason {
@@ -54,6 +61,7 @@ pub enum Reason {
     /// An argument or a condition has no value: the part of it at this place divides by 0.
     Undefined {
         at: Span,
+        within: Within,
     },
     /// Something stands against each format of the method that the field calls.
     Inside {

@@ -20,7 +20,7 @@ use crate::lengths::lengths;
 use crate::line::Line;
 use crate::numbers::ranges_seen;
 use crate::placing::{begin_of, length_in, order_of};
-use crate::reason::Reason;
+use crate::reason::{Reason, Within};
 use crate::references::unreferenced;
 use crate::seeing::{Look, sights};
 use crate::sight::{Seen, Sight};
@@ -31,11 +31,13 @@ use fn_expr::{Expr, Interval, Ranges, Side, range};
 use fn_filling::below;
 use fn_lint::undefined::{undefined_argument, undefined_condition};
 use fn_lint::{Judged, first_untrue, obstacle_of};
-use fn_normal::{Bounds, Encoding, Field, Format, FormatSizes};
+use fn_normal::{Bounds, Constraint, Encoding, Field, Format, FormatSizes, Shared};
 use fn_profile::DEPTH_LIMIT;
 use fn_sizes::ranging::format_ranges;
+use fn_source::Span;
 use sqlite_items::Items;
 use std::alloc::{AllocError, Global};
+use std::slice::from_ref;
 
 /// For each format of the spot's method, in the order of the text, what stands against it: a line, or several where that is in the methods that a field calls, or
 /// that nothing is found. The error is want of memory.
@@ -340,12 +342,27 @@ fn told_by_truth(
     ensures { IfOk result (λ o. MatchOption o (SeesNone (setting_of sighted.now.look.spot) sighted.now.number) (spec.Tells (setting_of sighted.now.look.spot) depth sighted.now.number)) }
 {
     let constraints = sighted.look.format.constraints.as_slice();
-    let Some(at) = undefined_condition(constraints, sighted.ranges) else {
-        return Ok(None);
-    };
-    let reason = Reason::Undefined { at };
-    let lines = alone(alloc, &sighted.look.spot, depth, sighted.number, reason)?;
-    Ok(Some(lines))
+    for number in 0..constraints.len() {
+        if let Some(at) = undefined_at(constraints, number, sighted.ranges) {
+            let reason = Reason::Undefined {
+                at,
+                within: Within::Condition(number),
+            };
+            let lines = alone(alloc, &sighted.look.spot, depth, sighted.number, reason)?;
+            return Ok(Some(lines));
+        }
+    }
+    Ok(None)
+}
+
+/// The part of this constraint that can have no value by the ranges, where it is a condition.
+fn undefined_at(constraints: &[Shared<Constraint>], number: usize, ranges: &Ranges) -> Option<Span>
+    ensures { result ≡ spec.undefined_at (bounding_of ranges.now) constraints.now number }
+{
+    match constraints.get(number) {
+        Some(constraint) => undefined_condition(from_ref(constraint), ranges),
+        None => None,
+    }
 }
 
 /// The same by the length of a field that begins where fewer bits are left.
@@ -397,7 +414,10 @@ fn told_by_argument(
     let Some(at) = undefined_argument(field.encoding.get(), sighted.ranges) else {
         return Ok(None);
     };
-    let reason = Reason::Undefined { at };
+    let reason = Reason::Undefined {
+        at,
+        within: Within::Argument(index),
+    };
     let lines = alone(alloc, &sighted.look.spot, depth, sighted.number, reason)?;
     Ok(Some(lines))
 }

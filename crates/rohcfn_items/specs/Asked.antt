@@ -1,5 +1,5 @@
 -- What `why` prints of the asked values of an item in front of a reason: those that it goes by (docs/FORMATS.md).
-use Rattle.std.specs.Prelude.{ℕ, zero, suc, nat_eq, Bool, false, ◌&&◌, List, [], ◌∷◌, ◌++◌, Option, Some, None, codes, flat_map, slice_get, if◌then◌else◌}
+use Rattle.std.specs.Prelude.{ℕ, zero, suc, Bool, false, List, [], ◌∷◌, ◌++◌, Option, Some, None, codes, flat_map, slice_get, if◌then◌else◌}
 use Rattle.std.specs.List.{list_any}
 use Rattle.std.specs.Str.{bytes_eq}
 use Rattle.fn_expr.specs.Inputs.{inputs_of, condition_inputs_of}
@@ -21,6 +21,8 @@ use Rattle.fn_normal.specs.declared.profile.Library.TheVariants as library
 use Rattle.fn_normal.specs.declared.profile.Method.{Method}
 use Rattle.fn_reasons.specs.declared.reason.Reason.{Reason}
 use Rattle.fn_reasons.specs.declared.reason.Reason.TheVariants.{Dead, Short, Long, Cut, NoReference, Differs, NoSide, Untrue, Undefined, Inside, Nothing}
+use Rattle.fn_reasons.specs.declared.reason.Within.{Within}
+use Rattle.fn_reasons.specs.declared.reason.Within.TheVariants.{Argument, Condition}
 use Rattle.rohcfn_items.specs.BitTexts.{bits_text}
 use Rattle.rohcfn_items.specs.Fields.{encoding_at}
 use Rattle.rohcfn_names.specs.Names.{constraints_at, field_name}
@@ -53,6 +55,11 @@ constraint_inputs (Some (Enforce condition place)) = condition_inputs_of conditi
 abbrev pub field_inputs : List Method → ℕ → ℕ → ℕ → List Input
 field_inputs methods k n i = input.Attribute (record { subject = subject.Field i; side = Uncompressed; measure = Value }) ∷ encoding_inputs (encoding_at methods k n i)
 
+-- what an argument of what encodes a field goes by, or a condition
+abbrev pub within_inputs : List Method → ℕ → ℕ → Within → List Input
+within_inputs methods k n (Argument i) = encoding_inputs (encoding_at methods k n i)
+within_inputs methods k n (Condition j) = constraint_inputs (slice_get (constraints_at methods k n) j)
+
 abbrev pub reason_inputs : List Method → ℕ → ℕ → Reason → List Input
 reason_inputs methods k n (Dead o) = []
 reason_inputs methods k n (Short length least) = []
@@ -61,7 +68,7 @@ reason_inputs methods k n (Cut i left due) = []
 reason_inputs methods k n (NoReference i path) = []
 reason_inputs methods k n (Differs i side found due) = field_inputs methods k n i
 reason_inputs methods k n (NoSide i side found) = field_inputs methods k n i
-reason_inputs methods k n (Undefined at) = []
+reason_inputs methods k n (Undefined at within) = within_inputs methods k n within
 reason_inputs methods k n (Untrue j figures) = constraint_inputs (slice_get (constraints_at methods k n) j)
 reason_inputs methods k n (Inside i) = field_inputs methods k n i
 reason_inputs methods k n Nothing = []

@@ -44,7 +44,7 @@ reason_place methods k n (Cut i left due) = field_place methods k n i
 reason_place methods k n (NoReference i path) = field_place methods k n i
 reason_place methods k n (Differs i side found due) = field_place methods k n i
 reason_place methods k n (NoSide i side found) = field_place methods k n i
-reason_place methods k n (Undefined at) = at
+reason_place methods k n (Undefined at within) = at
 reason_place methods k n (Untrue j figures) = place_of methods (record { method = k; format = n; obstacle = obstacle.NeverTrue j })
 reason_place methods k n (Inside i) = field_place methods k n i
 reason_place methods k n Nothing = method_place methods k
@@ -102,7 +102,7 @@ reason_words p k n (NoReference i path) = coded_words p.methods k n i ++ codes "
 reason_words p k n (Differs i side found due) = coded_words p.methods k n i ++ codes ": the " ++ side_word side ++ codes " has " ++ bits_text found ++ codes ", and " ++ bits_text due ++ codes " is due"
 reason_words p k n (NoSide i side found) = coded_words p.methods k n i ++ codes ": the " ++ side_word side ++ codes " has " ++ bits_text found ++ codes ", with which nothing goes"
 reason_words p k n (Untrue j figures) = untrue_words p.methods k n (slice_get (constraints_at p.methods k n) j) figures
-reason_words p k n (Undefined at) = codes "this has no value: it divides by 0, or its exponent is below 0"
+reason_words p k n (Undefined at within) = codes "this has no value: it divides by 0, or its exponent is below 0"
 reason_words p k n (Inside i) = codes "nothing goes in " ++ field_name p.methods k n i ++ codes ", by no format of " ++ method_word p.methods (encoding_at p.methods k n i) None
 reason_words p k n Nothing = codes "nothing simple stands against it"
 

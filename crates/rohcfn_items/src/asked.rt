@@ -12,7 +12,7 @@ use crate::fields::{bits_cell, encoding_at};
 use fn_expr::{Attribute, Expr, Input, Measure, Side, Subject, condition_inputs, expr_inputs};
 use fn_filling::AskedValue;
 use fn_normal::{Constraint, CrcArguments, Encoding, Library, Method};
-use fn_reasons::Reason;
+use fn_reasons::{Reason, Within};
 use rohcfn_names::names::{constraints_at, field_name};
 use sqlite_items::Items;
 use std::alloc::{AllocError, Global};
@@ -144,13 +144,35 @@ fn reason_inputs(
         Reason::Untrue { constraint, .. } => {
             untrue_inputs(alloc, methods, method, format, *constraint)
         }
+        Reason::Undefined { within, .. } => {
+            within_inputs(alloc, methods, method, format, *within)
+        }
         Reason::Dead(_)
         | Reason::Short { .. }
         | Reason::Long { .. }
         | Reason::Cut { .. }
         | Reason::NoReference { .. }
-        | Reason::Undefined { .. }
         | Reason::Nothing => Ok(Items::new(alloc)),
+    }
+}
+
+/// What an argument of what encodes a field goes by, or a condition.
+fn within_inputs(
+    alloc: Global,
+    methods: &[Method],
+    method: usize,
+    format: usize,
+    within: Within,
+) -> Result<Items<Input>, AllocError>
+    ensures { IfOk result (λ found. found ≡ spec.within_inputs methods.now method format within) }
+{
+    match within {
+        Within::Argument(field) => {
+            encoding_inputs(alloc, encoding_at(methods, method, format, field))
+        }
+        Within::Condition(constraint) => {
+            untrue_inputs(alloc, methods, method, format, constraint)
+        }
     }
 }
 

@@ -140,7 +140,7 @@ fn reason_place(methods: &[Method], method: usize, format: usize, reason: &Reaso
         Reason::Differs { field, .. } => field_place(methods, method, format, *field),
         Reason::NoSide { field, .. } => field_place(methods, method, format, *field),
         Reason::Inside { field } => field_place(methods, method, format, *field),
-        Reason::Undefined { at } => *at,
+        Reason::Undefined { at, .. } => *at,
         Reason::Untrue { constraint, .. } => {
             let obstacle = Obstacle::NeverTrue {
                 constraint: *constraint,
