@@ -20,6 +20,7 @@ INPUTS = {
     "fields": ("item", "items", "packet", "packets", "from_context", "certificate", "pcap", "flow"),
     "why": ("item", "items", "packet", "packets", "from_context", "certificate", "pcap", "flow"),
     "stats": ("item", "items", "from_context", "certificate", "pcap", "flow"),
+    "loss": ("item", "items", "from_context", "certificate", "pcap", "flow"),
     "show": (),
     "lint": ("from_context",),
     "draw": (),
@@ -28,13 +29,15 @@ INPUTS = {
     "line": ("events", "octets", "certificate", "pcap"),
 }
 TOLD = ("v2", "context")
-FLAGS = {"pack": TOLD, "unpack": TOLD, "fields": TOLD, "why": TOLD, "stats": ("v2",), "show": (), "lint": (), "draw": (), "check": ("v2", "explain"), "prove": ("v2", "explain"), "line": ("v2", "receive", "wide")}
+FLAGS = {"pack": TOLD, "unpack": TOLD, "fields": TOLD, "why": TOLD, "stats": ("v2",), "loss": ("v2", "lost"), "show": (), "lint": (), "draw": (), "check": ("v2", "explain"), "prove": ("v2", "explain"), "line": ("v2", "receive", "wide")}
 PACKED, READ = ("item", "items", "pcap"), ("packet", "packets")
 # One of these at least is needed.
-NEEDED = {"pack": PACKED, "unpack": READ, "fields": PACKED + READ, "why": PACKED + READ, "stats": PACKED, "line": ("events", "octets", "pcap")}
-VALUED = ("top", "item", "items", "packet", "packets", "from_context", "certificate", "events", "octets", "pcap", "flow")
+NEEDED = {"pack": PACKED, "unpack": READ, "fields": PACKED + READ, "why": PACKED + READ, "stats": PACKED, "loss": PACKED, "line": ("events", "octets", "pcap")}
+OWN = ("top", "lost")  # options of the program that have a value
+VALUED = (*OWN, "item", "items", "packet", "packets", "from_context", "certificate", "events", "octets", "pcap", "flow")
 PLAIN = ("v2", "context", "explain", "receive", "wide", "diagnose")
 LINES = {"item": "items", "items": "items", "packet": "packets", "packets": "packets"}
+LOST = re.compile("[0-9]|[1-5][0-9]|6[0-3]")  # what --lost takes
 TOP = re.compile(rb"(?:^| )--top[ =](\w+)")
 
 
@@ -63,7 +66,7 @@ class Order:
 
     def takes_bundle(self):
         """Whether the bundle is on standard input: no file is named, and a fault of its profile is to be shown."""
-        others = [it for it in VALUED if it != "top" and self.has(it)]
+        others = [it for it in VALUED if it not in OWN and self.has(it)]
         return self.has("diagnose") and self.profile is None and not others and (self.command is None or self.has("top"))
 
 
@@ -103,6 +106,8 @@ def judge(order):
     for name in sorted({it for every in (*INPUTS.values(), *FLAGS.values()) for it in every}):
         if order.has(name) and name not in known:
             raise Usage("%s is no option of %s" % (option(name), order.command))
+    if order.has("lost") and not LOST.fullmatch(order.lost):
+        raise Usage("invalid value '%s' for '--lost <N>': a number from 0 to 63 is needed" % order.lost)
     if order.takes_bundle():
         return
     if order.profile is None:
@@ -200,7 +205,8 @@ def events(order, kind, asked, flows, found):
 def flags_of(order):
     """The flags that go to the program. Which part there is tells that items are meant, or octets."""
     meant = ["--items"] if order.command in ("fields", "why") and any(order.has(it) for it in PACKED) else []
-    return [option(it) for it in FLAGS[order.command] if order.has(it) or it == "receive" and order.octets is not None] + meant
+    given = [it for it in FLAGS[order.command] if order.has(it) or it == "receive" and order.octets is not None]
+    return ["%s=%s" % (option(it), getattr(order, it)) if it in OWN else option(it) for it in given] + meant
 
 
 def call_of(order):

@@ -18,7 +18,7 @@ _rohcfn_has_profile() {
   for ((at = 2; at < COMP_CWORD; at++)); do
     case ${COMP_WORDS[at]} in
       = | : | [\<\>]*) at=$((at + 1)) ;;
-      --top | --item | --items | --packet | --packets | --from-context | --certificate | --events | --octets | --pcap | --flow)
+      --top | --lost | --item | --items | --packet | --packets | --from-context | --certificate | --events | --octets | --pcap | --flow)
         at=$((at + 1))
         if [[ ${COMP_WORDS[at]} == = ]]; then at=$((at + 1)); fi
         ;;
@@ -30,7 +30,7 @@ _rohcfn_has_profile() {
 
 _rohcfn() {
   local word=${COMP_WORDS[COMP_CWORD]} before=${COMP_WORDS[COMP_CWORD - 1]} options=''
-  local commands='pack unpack fields why stats show lint draw check prove line help'
+  local commands='pack unpack fields why stats loss show lint draw check prove line help'
   COMPREPLY=()
   if [[ $before == = ]]; then before=${COMP_WORDS[COMP_CWORD - 2]}; fi
   case $word in
@@ -47,7 +47,7 @@ _rohcfn() {
       _rohcfn_files "$word"
       return
       ;;
-    : | --top | --item | --packet | --flow) return ;;
+    : | --top | --lost | --item | --packet | --flow) return ;;
   esac
   case ${COMP_WORDS[1]} in
     pack) options='--top --v2 --context --help --item --items --from-context --certificate --pcap --flow --diagnose' ;;
@@ -55,6 +55,7 @@ _rohcfn() {
     fields) options='--top --v2 --context --help --items --item --packet --packets --from-context --certificate --pcap --flow --diagnose' ;;
     why) options='--top --v2 --context --help --items --item --packet --packets --from-context --certificate --pcap --flow --diagnose' ;;
     stats) options='--top --v2 --help --item --items --from-context --certificate --pcap --flow --diagnose' ;;
+    loss) options='--top --v2 --help --lost --item --items --from-context --certificate --pcap --flow --diagnose' ;;
     show) options='--top --help --diagnose' ;;
     lint) options='--top --help --from-context --diagnose' ;;
     draw) options='--top --help --diagnose' ;;

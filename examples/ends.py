@@ -1,6 +1,6 @@
 #!/usr/bin/env python3
-"""Tries what the program itself does with its words and its streams, before and after a run: words and a name that aren't UTF-8, texts that can't be written, and control
-characters of words in the text for the person who called. ends.py PROGRAM
+"""Tries what the program itself does with its words and its streams, before and after a run: words and a name that aren't UTF-8, texts that can't be written, control
+characters of words in the text for the person who called, and what --lost doesn't take. ends.py PROGRAM
 
 What is due is written by hand here, by docs/FORMATS.md and docs/USAGE.md."""
 import os
@@ -73,9 +73,21 @@ def escapes(program):
     check("a top with a control character is no method", seen == (1, b"profile:1:1: E27 no such top method without parameters\n", b""), seen)
 
 
+def numbers(program):
+    """Texts that `--lost` doesn't take: what is told names them, and says what is needed."""
+    for shown, word in (("64", "64"), ("100", "100"), ("257", "257"), ("+1", "+1"), ("-1", "-1"), ("01", "01"), ("", ""), ("1x", "1x"), ("\u0661", "\u0661"), ("1\\u{1b}", "1\x1b")):
+        for words in (["--lost=" + word], ["--lost", word]):
+            seen = call(program, "loss", "--top", "plain", *words, given=PARTS)
+            due = "error: invalid value '%s' for '--lost <N>': a number from 0 to 63 is needed\n\nFor more information, try '--help'.\n\nA bundle is read" % shown
+            due = "error: unexpected argument '-1' found\n" if words == ["--lost", "-1"] else due
+            check("a number that is none: %s" % words, seen[:2] == (2, b"") and seen[2].decode().startswith(due), seen)
+    seen = call(program, given=b"=== words\nloss --top plain --lost 064\n" + PARTS)
+    check("a number of a bundle that is none", seen[:2] == (2, b"") and b"'064'" in seen[2], seen)
+
+
 def main():
     program = os.path.abspath(sys.argv[1])
-    for trial in (words_of_octets, full, escapes):
+    for trial in (words_of_octets, full, escapes, numbers):
         trial(program)
     print("ends: %d passed, %d failed" % (passed, failed))
     return 1 if failed or not passed else 0

@@ -14,7 +14,7 @@ import time
 
 ROOT = pathlib.Path(__file__).resolve().parent.parent
 HEADING = re.compile(r"^=== (\w+)\n", re.MULTILINE)
-COMMANDS = "pack unpack fields why stats show lint draw check prove line".split()
+COMMANDS = "pack unpack fields why stats loss show lint draw check prove line".split()
 SIGNALS = (signal.SIGINT, signal.SIGTERM, signal.SIGHUP)
 TOOLS = "bash env sh dirname readlink awk grep sed head tail cat tee mktemp rm nproc sleep touch chmod mkdir".split()
 CALL = "try|--seconds|3600|--"
@@ -206,13 +206,19 @@ def at_once(place, texts):
     due += [(["help", "foo"], 2, "error: 'foo' is no command\n\n", "rohcfn"), (["help", "pack", "x"], 2, "error: 'x' is no command\n\n", "rohcfn")]
     due += [([it, "--help"], 0, "", it) for it in COMMANDS]
     due += [(words, 0, "", "pack") for words in (["help", "pack"], ["pack", "-h", "foo"], ["pack", "foo", "--help"], ["pack", "--top", "plain", "--help"])]
-    due += [(words, 2, "error: --top NAME is needed\n\n", words[0]) for words in (["unpack"], ["check", "--v2"], ["line", "--receive", "--v2"], ["line", "--wide"])]
+    due += [(words, 2, "error: --top NAME is needed\n\n", words[0]) for words in (["unpack"], ["check", "--v2"], ["line", "--receive", "--v2"], ["line", "--wide"], ["loss", "--lost", "3"])]
     no_value = "error: a value is required for '--top <NAME>' but none was supplied\n\n"
     due += [(["pack", "--top", *rest], 2, no_value, "pack") for rest in ([], ["--help"], ["--v2", "--help"])]
+    due += [(["loss", "--lost", *rest], 2, no_value.replace("--top <NAME>", "--lost <N>"), "loss") for rest in ([], ["--help"], ["-1"])]
+    no_number = "error: invalid value '%s' for '--lost <N>': a number from 0 to 63 is needed\n\n"
+    due += [(["loss", *words], 2, no_number % it, "loss") for it in ("64", "+1", "01", "", "1x", "100", "\u0661") for words in (["--lost", it], ["--top", "x", "--lost=" + it])]
+    due += [(["loss", "--top", "x", "--lost=-1"], 2, no_number % "-1", "loss")]
     due += [(words, 2, "error: the argument '%s' cannot be used multiple times\n\n" % words[1].partition("=")[0], "pack")
             for words in (["pack", "--v2", "--v2", "--top", "x"], ["pack", "--top=x", "--top", "y"])]
+    due += [(["loss", "--lost=1", "--lost", "1"], 2, "error: the argument '--lost' cannot be used multiple times\n\n", "loss")]
     due += [(words, 2, "error: unexpected argument '%s' found\n\n" % words[-1], words[0])
-            for words in (["show", "--top", "x", "--v2"], ["line", "--context"], ["pack", "--receive"], ["unpack", "--wide"], ["prove", "--top=x", "-v"], ["pack", "--v2=3"])]
+            for words in (["show", "--top", "x", "--v2"], ["line", "--context"], ["pack", "--receive"], ["unpack", "--wide"], ["prove", "--top=x", "-v"], ["pack", "--v2=3"], ["stats", "--top", "x", "--lost=3"],
+                          ["pack", "--top", "x", "--lost"], ["loss", "--lost", "3", "--context"])]
     for words, status, error, name in due:
         seen = place.call(place.program, *words, given=b"junk")
         more = "" if status else texts["files"]
@@ -223,7 +229,8 @@ def at_once(place, texts):
     os.close(above)
     os.close(below)
     check("no words and a terminal: it says what it waits for, and goes on", seen[2].startswith("rohcfn: a bundle is awaited") and seen[3] == [CALL], seen)
-    for words in map(str.split, ["pack --top=plain", "pack --top -", "pack --top plain --", "show --top plain -- x"]):
+    numbers = ["loss --top plain --lost %d" % it for it in range(64)]
+    for words in map(str.split, ["pack --top=plain", "pack --top -", "pack --top plain --", "show --top plain -- x", "loss --lost=8 --v2 --top plain", *numbers]):
         seen = place.call(place.program, *words)
         check("left to the program: %s" % words, seen[3] == [CALL + "|" + "|".join(words)], seen)
     seen = place.call(place.program, "--", "pack", "foo", "--help")

@@ -12,7 +12,7 @@ import headers
 
 HERE = pathlib.Path(__file__).parent
 PROGRAM = HERE.parent / "bin" / "rohcfn"
-IN_STEP = 32  # bits that a header may take on average in a flow of one length whose identification counts
+IN_STEP = 33  # bits that a header may take on average in a flow of one length whose identification counts
 ALL = 48  # and over all flows
 
 

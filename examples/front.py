@@ -124,6 +124,9 @@ def composed(place):
         (["fields", "a profile.fn", "--items", "items", "--item", "8:03", "--from-context", "context"], ["fields", *top, "--items"],
          {"items": "8:01\n8:03\n", "context": "x 8:07\n"}),
         (["stats", "a profile.fn", "--items", "items", "--item", "8:03", "--v2", "--from-context", "context"], ["stats", *top, "--v2"], {"items": "8:01\n8:03\n", "context": FILES["context"]}),
+        (["loss", "a profile.fn", "--items", "items", "--lost", "3", "--v2", "--from-context", "context"], ["loss", *top, "--v2", "--lost=3"], {"items": "8:01\n", "context": FILES["context"]}),
+        (["loss", "--lost=63", "a profile.fn", "--item", "8:03", "--certificate", "certificate"], ["loss", *top, "--lost=63"], {"items": "8:03\n", **certificate}),
+        (["loss", "a profile.fn", "--item", "8:03"], ["loss", *top], {"items": "8:03\n"}),
         (["fields", "--item=8:02", "a profile.fn", "--v2", "--certificate", "certificate"], ["fields", *top, "--v2", "--items"], {"items": "8:02\n", **certificate}),
         (["show", "a profile.fn"], ["show", *top], {}),
         (["lint", "a profile.fn", "--from-context", "context"], ["lint", *top], {"context": "x 8:07\n"}),
@@ -171,12 +174,13 @@ def paths(place):
 def untouched(place):
     """Calls that are the filter's, and words after `--`."""
     for words in (["pack", "--top", "two"], ["pack", "--top", "two", "--context", "--v2"], ["show", "--top=two"], [], ["line", "--top", "two", "--receive"],
-                  ["fields", "--top", "two", "--items", "--context"], ["fields", "--items", "--top=two", "--v2"]):
+                  ["fields", "--top", "two", "--items", "--context"], ["fields", "--items", "--top=two", "--v2"],
+                  ["loss", "--top", "two"], ["loss", "--lost", "3", "--top", "two", "--v2"], ["loss", "--top=two", "--lost=63"]):
         seen = place.call(*words, given=b"\x00 any\n")
         check("the filter: %s" % words, seen == (7, "%s\n\x00 any\n" % ("".join("[%s]" % it for it in words) or "[]"), ""), seen)
-    for words in (["pack", "--top", "two"], ["show", "--top=two"], ["line", "--top", "two", "--receive", "--wide"], []):
+    for words in (["pack", "--top", "two"], ["show", "--top=two"], ["line", "--top", "two", "--receive", "--wide"], ["loss", "--top", "two", "--lost=0"], []):
         seen = place.call(*words, "--diagnose", given=b"\x00 any\n")
-        due = "".join("[%s]" % it for it in words).replace("=", "][") or "[]"
+        due = "".join("[%s]" % it for it in words).replace("--top=", "--top][") or "[]"
         check("a bundle, a fault of which would be shown: %s" % words, seen == (7, due + "\n\x00 any\n", ""), seen)
     due = {("--", "pack", "x", "--item"): "[pack][x][--item]", ("pack", "x", "--", "--item"): "[pack][x][--][--item]", ("--", "--help"): "[--help]"}
     for words, due in due.items():
@@ -197,6 +201,12 @@ def usage(place):
         ("stats", "a profile.fn"): "stats needs one of --item, --items, --pcap",
         ("stats", "a profile.fn", "--packet", "8:01"): "--packet is no option of stats",
         ("stats", "a profile.fn", "--item", "8:01", "--context"): "--context is no option of stats",
+        ("loss", "a profile.fn", "--lost", "3"): "loss needs one of --item, --items, --pcap",
+        ("loss", "a profile.fn", "--packet", "8:01"): "--packet is no option of loss",
+        ("loss", "a profile.fn", "--item", "8:01", "--context"): "--context is no option of loss",
+        ("loss", "a profile.fn", "--item", "8:01", "--lost"): "--lost needs a value",
+        ("loss", "a profile.fn", "--item", "8:01", "--lost", "1", "--lost=2"): "--lost stands twice",
+        ("stats", "a profile.fn", "--item", "8:01", "--lost", "1"): "--lost is no option of stats",
         ("line", "a profile.fn"): "line needs one of --events, --octets, --pcap",
         ("line", "a profile.fn", "--octets", "x", "--events", "y"): "--events and --octets don't go together",
         ("line", "a profile.fn", "--events", "x", "--receive"): "--receive needs --octets",
@@ -216,8 +226,10 @@ def usage(place):
         "unexpected argument 'items' found; --context has no value, --from-context FILE gives the context to begin with",
         ("show", "a profile.fn", "--tip"): "unexpected argument '--tip' found",
     }
+    for value in ("64", "+1", "-1", "01", "", "1x", " 1", "100", "\u0661"):
+        due["loss", "a profile.fn", "--item", "8:01", "--lost", value] = "invalid value '%s' for '--lost <N>': a number from 0 to 63 is needed" % value
     for command, names in (("pack", "item items from-context certificate pcap flow"), ("unpack", "packet packets"), ("line", "events octets"),
-                           ("fields", "item items packet packets from-context certificate pcap flow"), ("stats", "item items from-context certificate pcap flow")):
+                           ("fields", "item items packet packets from-context certificate pcap flow"), *((it, "item items from-context certificate pcap flow") for it in ("stats", "loss"))):
         due.update({(command, "--%s=1" % name): "the file of a profile is needed" for name in names.split()})
     due["show", "--diagnose"] = "the file of a profile is needed"
     with open("/dev/zero", "rb") as endless:

@@ -16,7 +16,7 @@ ROOT = pathlib.Path(__file__).resolve().parent.parent
 sys.path.insert(0, str(ROOT / "bin"))  # (before this folder, which has files of the same names)
 manual, front = importlib.import_module("manual"), importlib.import_module("front")
 PAGE, BASH, ZSH = (ROOT / it for it in ("man/rohcfn.1", "completion/rohcfn.bash", "completion/_rohcfn"))
-COMMANDS = "pack unpack fields why stats show lint draw check prove line help".split()
+COMMANDS = "pack unpack fields why stats loss show lint draw check prove line help".split()
 EACH = ["--top", "--help", "--diagnose"]  # options of each command
 HERE = ["a file", "folder", "probe.fn"]
 MACRO = re.compile(r'\.(TH ROHCFN 1 "" Tuxabelo "User Commands"|SH [A-Z ]+|TP|PP|nf|fi|br|\\".*)')
@@ -124,6 +124,7 @@ def in_bash(folder):
     due += [(["pack", "--item", "24", ":", "0140", *rest], HERE) for rest in ([""], ["--v2", ""])]
     due += [(["pack", "probe.fn", "--item", *rest], []) for rest in ([""], ["="], ["24", ":"], ["24", ":", "01"])]
     due += [(["pack", "--item", "=", "24", ":", "0140", "f"], ["folder"]), (["pack", "-", "--it"], ["--item", "--items"]), (["show", "nothing"], [])]
+    due += [(["loss", "--lost", *rest], offers) for rest, offers in (([""], []), (["="], []), (["3", ""], HERE), (["=", "3", ""], HERE), (["3", "--top", "plain", "f"], ["folder"]))]
     due += [(["show", "--top", "plain", *rest], HERE) for rest in (["<"], ["<", ""])] + [(["show", "probe.fn", it, "a"], ["a file"]) for it in (">", ">>")]
     found, said = offered(folder, [words for words, _ in due])
     check("bash", (len(found), said) == (len(due), ""), said)

@@ -117,6 +117,7 @@ def rows():
     yield "opt told", bundle("fields --top opt", OPT, context="ttl.field 8:40\n", packets="1:00\n"), told, 0, 2
     counted = "items 1 bits 9 mean 9.0\n  format  items  bits  mean\n  short   0      0     -\n  full    1      9     9.0\n    d     1      1     1.0\n    sn    1      8     8.0\n"
     yield "tick counted", bundle("stats --top tick", TICK, items="8:01\n9:0000\n"), counted + "item 2: F3 NoFormat\n", 0, 4
+    yield from lost()
     yield "seq packed", bundle("pack --top seq", SEQ, items="8:06 msn=8:03\n"), "4:30\n", 0, 1
     yield "seq unpacked", bundle("unpack --top seq", SEQ, packets="4:30\n"), "8:06 msn=8:03 took 4\n", 0, 1
     yield "seq without what is asked", bundle("pack --top seq", SEQ, items="8:06\n"), "item 1: F2 Asked msn\n", 1, 0
@@ -135,6 +136,19 @@ def rows():
     yield from of_surveys()
     yield from explained()
     yield from named()
+
+
+def lost():
+    """Rows of `loss`: all is right, and a packet is wrong."""
+    heads = "  lost  packets  right  refused  wrong\n"
+    told = "items 3 bits 25 mean 8.3\n" + heads + "  0     3        3      0        0\n  1     1        1      0        0\n"
+    told += "  format  packets  right  refused  wrong  reach\n  short   1        1      0        0      1\n"
+    yield "tick after a loss", bundle("loss --lost 1 --top tick", TICK, items="8:01\n8:02\n8:03\n"), told, 0, 8
+    bare = "bare { UNCOMPRESSED { sn [8]; } COMPRESSED near { d =:= '0' [1]; sn =:= lsb(2, 0) [2]; } COMPRESSED full { d =:= '1' [1]; sn =:= irregular(8) [8]; } }\n"
+    told = "items 3 bits 15 mean 5.0\n" + heads + "  0     3        3      0        0\n  1     1        0      0        1\n"
+    told += "  format  packets  right  refused  wrong  reach\n  near    1        0      0        1      0\n"
+    told += "lost 1 item 3 near wrong\n  sn lsb(2, 0) has 8:01 needs 8:06: step 5, takes 0 to 3\n"
+    yield "a wrong reading after a loss", bundle("loss --lost 1 --top bare", bare, items="8:01\n8:03\n8:06\n"), told, 0, 8
 
 
 def of_surveys():
@@ -193,6 +207,8 @@ def usages():
     yield "a command that is misspelled", ["pakc", "--top", "plain"], "", "'pakc'", 2, True
     yield "a flag that is misspelled in a bundle", [], "=== words\npack --tip plain\n", "'--tip'", 2, True
     yield "no top in a bundle", [], "=== words\npack\n", "Usage: rohcfn pack --top <NAME>", 2, False
+    yield "a number that is none", ["loss", "--top", "plain", "--lost", "64"], "", "'64' for '--lost <N>': a number from 0 to 63 is needed", 2, False
+    yield "a number of a bundle that is none", [], "=== words\nloss --top plain --lost=01\n", "'01'", 2, False
     yield "help", ["--help"], "", "Usage: rohcfn", 0, False
     yield "help of a command", ["lint", "--help"], "", "Usage: rohcfn lint", 0, False
 

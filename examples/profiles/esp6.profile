@@ -1,18 +1,19 @@
 // The headers of IPv6 (40 octets: no extension headers) and ESP (8 octets: the index and the sequence number), in the manner of the ESP profile of RFC
 // 5225. An address is two halves of 64 bits. ESP's sequence number counts the headers of a flow, so the packer is given nothing besides the header. A
-// flow's first header goes as `ir`, with all that the others leave out; each format has a CRC over the whole header.
+// flow's first header goes as `ir`, with all that the others leave out; each format has a CRC over the whole header. It has 8 bits: a receiver that
+// lost packets goes by an older context, and nothing but the CRC tells it so (docs/LOSS.md).
 //
 // Headers and their packets, one after the other from an empty context on:
 // 384:600000000058324020010db800000000000000000000000120010db80000000000000000000000020000123400000001
 //   -> 392:fdef20010db800000000000000000000000120010db8000000000000000000000002000012340000000100000004000058
 // 384:600000000058324020010db800000000000000000000000120010db80000000000000000000000020000123400000002
-//   -> 8:17
+//   -> 13:14e8
 // 384:600000000058324020010db800000000000000000000000120010db80000000000000000000000020000123400000022
-//   -> 16:9145
+//   -> 17:d15280
 // 384:600000000068324020010db800000000000000000000000120010db80000000000000000000000020000123400000023
-//   -> 32:d18a0068
+//   -> 32:a34c0068
 // 384:610000000068324020010db800000000000000000000000120010db80000000000000000000000020000123400000024
-//   -> 56:fa720124400068
+//   -> 56:fa010124400068
 
 IP_VERSION = 6;
 PROTOCOL_ESP = 50;
@@ -60,35 +61,33 @@ esp_ip6
     destination_network =:= static [0];
     destination_node =:= static [0];
     index =:= static [0];
-    crc3 =:= crc(3, 0x06, 0x07, THIS.UVALUE, THIS.ULENGTH) [3];
-    crc7 =:= crc(7, 0x79, 0x7f, THIS.UVALUE, THIS.ULENGTH) [7];
     crc8 =:= crc(8, 0xe0, 0xff, THIS.UVALUE, THIS.ULENGTH) [8];
   }
 
-  COMPRESSED pt_0_crc3 // nothing changes but the sequence number, which goes on by up to 14
+  COMPRESSED pt_0 // nothing changes but the sequence number, which goes on by up to 14
   {
     discriminator =:= '0' [1];
     sequence_number =:= lsb(4, 1) [4];
-    crc3;
+    crc8;
   }
-  COMPRESSED pt_0_crc7 // the same after a longer gap
-  {
-    discriminator =:= '100' [3];
-    sequence_number =:= lsb(6, 1) [6];
-    crc7;
-  }
-  COMPRESSED pt_2_length // another length
+  COMPRESSED pt_0_far // the same after a longer gap
   {
     discriminator =:= '110' [3];
     sequence_number =:= lsb(6, 1) [6];
-    crc7;
+    crc8;
+  }
+  COMPRESSED pt_2_length // another length
+  {
+    discriminator =:= '10' [2];
+    sequence_number =:= lsb(6, 1) [6];
+    crc8;
     payload_length =:= irregular(16) [16];
   }
   COMPRESSED co_common // what changes now and then
   {
     discriminator =:= '11111010' [8];
-    crc7;
-    sequence_number =:= lsb(14, 1) [14];
+    crc8;
+    sequence_number =:= lsb(13, 1) [13];
     traffic_class =:= flagged(8) [1, 9];
     flow_label =:= flagged(20) [1, 21];
     hop_limit =:= flagged(8) [1, 9];

@@ -2,6 +2,9 @@
 // the manner of the RTP profile of RFC 5225. It is the profile of udp.profile with RTP's fields: the master sequence number is RTP's, and the
 // timestamp, in units of its stride, goes on in step with it. The packer is given four values: the sequence number, what the identification
 // does, whether there is a UDP checksum, and the stride, which is above 0 (1 where the timestamp has none).
+//
+// The CRC has 8 bits in each format, as in udp.profile: a receiver that lost packets goes by older values for what is left out, the units of
+// the timestamp among them, and nothing but the CRC tells it so (docs/LOSS.md).
 
 IP_VERSION = 4;
 IP_WORDS = 5; // the header's length in words of 32 bits
@@ -142,24 +145,22 @@ rtp_udp_ip
     ip_id_behaviour =:= static [0];
     udp_checksum_used =:= static [0];
     ts_stride =:= static [0];
-    crc3 =:= crc(3, 0x06, 0x07, THIS.UVALUE, THIS.ULENGTH) [3];
-    crc7 =:= crc(7, 0x79, 0x7f, THIS.UVALUE, THIS.ULENGTH) [7];
-    crc8 =:= crc(8, 0xe0, 0xff, THIS.UVALUE, THIS.ULENGTH) [8];
+    crc8 =:= crc(8, 0xe0, msn.UVALUE % 256, THIS.UVALUE, THIS.ULENGTH) [8];
   }
 
-  COMPRESSED pt_0_crc3 // nothing changes but what goes on in step
+  COMPRESSED pt_0 // nothing changes but what goes on in step
   {
     discriminator =:= '0' [1];
     msn =:= lsb(4, 1) [4];
-    crc3;
+    crc8;
     id;
     udp_checksum;
   }
-  COMPRESSED pt_0_crc7 // the same after a longer gap
+  COMPRESSED pt_0_far // the same after a longer gap
   {
     discriminator =:= '1000' [4];
     msn =:= lsb(5, 1) [5];
-    crc7;
+    crc8;
     id;
     udp_checksum;
   }
@@ -167,7 +168,7 @@ rtp_udp_ip
   {
     discriminator =:= '1001' [4];
     ENFORCE(ip_id_behaviour.UVALUE <= SWAPPED);
-    crc3;
+    crc8;
     msn =:= lsb(5, 1) [5];
     id =:= ip_id(ip_id_behaviour.UVALUE, 4, 2, msn.UVALUE) [4];
     udp_checksum;
@@ -176,7 +177,7 @@ rtp_udp_ip
   {
     discriminator =:= '101' [3];
     marker =:= irregular(1) [1];
-    crc3;
+    crc8;
     msn =:= lsb(4, 1) [4];
     timestamp =:= scaled_timestamp(0, ts_stride.UVALUE, 5, 8, msn.UVALUE) [5];
     id;
@@ -186,8 +187,8 @@ rtp_udp_ip
   {
     discriminator =:= '110' [3];
     marker =:= irregular(1) [1];
-    crc7;
-    msn =:= lsb(6, 1) [6];
+    crc8;
+    msn =:= lsb(5, 1) [5];
     timestamp =:= scaled_timestamp(0, ts_stride.UVALUE, 11, 63, msn.UVALUE) [11];
     id =:= ip_id(ip_id_behaviour.UVALUE, 4, 2, msn.UVALUE) [0, 4, 16];
     udp_checksum;
@@ -196,8 +197,8 @@ rtp_udp_ip
   {
     discriminator =:= '1110' [4];
     marker =:= irregular(1) [1];
-    crc7;
-    msn =:= lsb(6, 1) [6];
+    crc8;
+    msn =:= lsb(5, 1) [5];
     timestamp =:= scaled_timestamp(0, ts_stride.UVALUE, 6, 15, msn.UVALUE) [6];
     id =:= ip_id(ip_id_behaviour.UVALUE, 4, 2, msn.UVALUE) [0, 4, 16];
     total_length =:= lsb(12, 2047) [12];
@@ -207,13 +208,13 @@ rtp_udp_ip
   {
     discriminator =:= '11111010' [8];
     marker =:= irregular(1) [1];
-    crc7;
+    crc8;
     tos_indicator =:= irregular(1) [1];
     ttl_indicator =:= irregular(1) [1];
     dont_fragment =:= irregular(1) [1];
     ip_id_behaviour =:= irregular(2) [2];
     udp_checksum_used =:= irregular(1) [1];
-    padding =:= '00' [2];
+    padding =:= '0' [1];
     msn =:= lsb(8, 1) [8];
     tos =:= static_or_irreg(tos_indicator.CVALUE, 8) [0, 8];
     total_length =:= irregular(16) [16];

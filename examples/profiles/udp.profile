@@ -2,6 +2,10 @@
 // what its addresses and ports name. Its first header goes as `ir`, with all that the others leave out; then a master sequence number
 // counts the headers, and each format sends its low bits and a CRC over the whole header, which says whether what was read is what
 // was sent. The packer is given three values: the sequence number, what the identification does, and whether there is a UDP checksum.
+//
+// A receiver that lost packets goes by an older context (docs/LOSS.md). The bits of the sequence number that are sent reach over 13 headers
+// that are lost in a row. All else that is left out the CRC has to guard, so it has 8 bits in each format: one of 3 lets an eighth of the
+// wrong readings pass. The sequence number is in no header: its low 8 bits are what the CRC's register begins with, so it is guarded, too.
 
 IP_VERSION = 4;
 IP_WORDS = 5; // the header's length in words of 32 bits
@@ -105,50 +109,48 @@ udp_ip
     udp_checksum =:= udp_sum(udp_checksum_used.UVALUE) [0, 16];
     ip_id_behaviour =:= static [0];
     udp_checksum_used =:= static [0];
-    crc3 =:= crc(3, 0x06, 0x07, THIS.UVALUE, THIS.ULENGTH) [3];
-    crc7 =:= crc(7, 0x79, 0x7f, THIS.UVALUE, THIS.ULENGTH) [7];
-    crc8 =:= crc(8, 0xe0, 0xff, THIS.UVALUE, THIS.ULENGTH) [8];
+    crc8 =:= crc(8, 0xe0, msn.UVALUE % 256, THIS.UVALUE, THIS.ULENGTH) [8];
   }
 
-  COMPRESSED pt_0_crc3 // nothing changes but what goes on in step
+  COMPRESSED pt_0 // nothing changes but what goes on in step
   {
     discriminator =:= '0' [1];
     msn =:= lsb(4, 1) [4];
-    crc3;
+    crc8;
     id;
     udp_checksum;
   }
-  COMPRESSED pt_0_crc7 // the same after a longer gap
+  COMPRESSED pt_0_far // the same after a longer gap
   {
-    discriminator =:= '100' [3];
-    msn =:= lsb(6, 1) [6];
-    crc7;
+    discriminator =:= '1110' [4];
+    msn =:= lsb(8, 1) [8];
+    crc8;
     id;
     udp_checksum;
   }
   COMPRESSED pt_1_seq_id // the identification has gone on by up to 13 more than the headers
   {
-    discriminator =:= '101' [3];
+    discriminator =:= '110' [3];
     ENFORCE(ip_id_behaviour.UVALUE <= SWAPPED);
-    crc3;
-    msn =:= lsb(6, 1) [6];
+    crc8;
+    msn =:= lsb(4, 1) [4];
     id =:= ip_id(ip_id_behaviour.UVALUE, 4, 2, msn.UVALUE) [4];
     udp_checksum;
   }
-  COMPRESSED pt_2_seq_id // the same by up to 247, with the stronger CRC
+  COMPRESSED pt_2_seq_id // the same by up to 247
   {
-    discriminator =:= '110' [3];
+    discriminator =:= '11110' [5];
     ENFORCE(ip_id_behaviour.UVALUE <= SWAPPED);
-    crc7;
+    crc8;
     msn =:= lsb(6, 1) [6];
     id =:= ip_id(ip_id_behaviour.UVALUE, 8, 8, msn.UVALUE) [8];
     udp_checksum;
   }
-  COMPRESSED pt_2_length // another length
+  COMPRESSED pt_2_length // another length: the next to come often, so its discriminator is short
   {
-    discriminator =:= '1110' [4];
-    crc7;
-    msn =:= lsb(5, 1) [5];
+    discriminator =:= '10' [2];
+    crc8;
+    msn =:= lsb(4, 1) [4];
     id =:= ip_id(ip_id_behaviour.UVALUE, 4, 2, msn.UVALUE) [0, 4, 16];
     total_length =:= lsb(12, 2047) [12];
     udp_checksum;
@@ -156,13 +158,13 @@ udp_ip
   COMPRESSED co_common // what changes now and then; the identification in full
   {
     discriminator =:= '11111010' [8];
-    crc7;
+    crc8;
     tos_indicator =:= irregular(1) [1];
     ttl_indicator =:= irregular(1) [1];
     dont_fragment =:= irregular(1) [1];
     ip_id_behaviour =:= irregular(2) [2];
     udp_checksum_used =:= irregular(1) [1];
-    padding =:= '000' [3];
+    padding =:= '00' [2];
     msn =:= lsb(8, 1) [8];
     tos =:= static_or_irreg(tos_indicator.CVALUE, 8) [0, 8];
     total_length =:= irregular(16) [16];

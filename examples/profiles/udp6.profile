@@ -3,17 +3,21 @@
 // sends its low bits and a CRC over the whole header. The packer is given the sequence number. The UDP checksum, which IPv6 demands, goes with each
 // header.
 //
+// A receiver that lost packets goes by an older context, and the CRC has to tell it so (docs/LOSS.md). So it has 8 bits in each format. The sequence
+// number is in no header: its low 8 bits are what the CRC's register begins with, so a header that comes back with another number is noticed, too,
+// where these bits differ.
+//
 // Headers and their packets, one after the other from an empty context on:
 // 384:600abcde0020114020010db800000000000000000000000120010db8000000000000000000000002c000138c0020beef msn=16:0000
-//   -> 392:fdb920010db800000000000000000000000120010db8000000000000000000000002c000138c00abcde40000200000beef
+//   -> 392:fd0e20010db800000000000000000000000120010db8000000000000000000000002c000138c00abcde40000200000beef
 // 384:600abcde0020114020010db800000000000000000000000120010db8000000000000000000000002c000138c0020cafe msn=16:0001
-//   -> 24:09cafe
+//   -> 29:0d2e57f0
 // 384:600abcde0020114020010db800000000000000000000000120010db8000000000000000000000002c000138c0020caff msn=16:0021
-//   -> 32:90f6caff
+//   -> 33:d098657f80
 // 384:600abcde0030114020010db800000000000000000000000120010db8000000000000000000000002c000138c00301111 msn=16:0022
-//   -> 48:d11600301111
+//   -> 48:a29300301111
 // 384:600abcde0030113f20010db800000000000000000000000120010db8000000000000000000000002c000138c00301112 msn=16:0023
-//   -> 64:fa51193f00301112
+//   -> 65:fa228c9f8018088900
 
 IP_VERSION = 6;
 PROTOCOL_UDP = 17;
@@ -66,37 +70,35 @@ udp_ip6
     source_port =:= static [0];
     destination_port =:= static [0];
     udp_checksum =:= irregular(16) [16];
-    crc3 =:= crc(3, 0x06, 0x07, THIS.UVALUE, THIS.ULENGTH) [3];
-    crc7 =:= crc(7, 0x79, 0x7f, THIS.UVALUE, THIS.ULENGTH) [7];
-    crc8 =:= crc(8, 0xe0, 0xff, THIS.UVALUE, THIS.ULENGTH) [8];
+    crc8 =:= crc(8, 0xe0, msn.UVALUE % 256, THIS.UVALUE, THIS.ULENGTH) [8];
   }
 
-  COMPRESSED pt_0_crc3 // nothing changes but what goes on in step
+  COMPRESSED pt_0 // nothing changes but what goes on in step
   {
     discriminator =:= '0' [1];
     msn =:= lsb(4, 1) [4];
-    crc3;
+    crc8;
     udp_checksum;
   }
-  COMPRESSED pt_0_crc7 // the same after a longer gap
+  COMPRESSED pt_0_far // the same after a longer gap
   {
-    discriminator =:= '100' [3];
+    discriminator =:= '110' [3];
     msn =:= lsb(6, 1) [6];
-    crc7;
+    crc8;
     udp_checksum;
   }
   COMPRESSED pt_2_length // another length
   {
-    discriminator =:= '110' [3];
+    discriminator =:= '10' [2];
     msn =:= lsb(6, 1) [6];
-    crc7;
+    crc8;
     payload_length =:= irregular(16) [16];
     udp_checksum;
   }
   COMPRESSED co_common // what changes now and then
   {
     discriminator =:= '11111010' [8];
-    crc7;
+    crc8;
     msn =:= lsb(6, 1) [6];
     traffic_class =:= flagged(8) [1, 9];
     flow_label =:= flagged(20) [1, 21];

@@ -27,7 +27,7 @@ use Rattle.fn_fits.proofs.FitsValues.{vals_same}
 use Rattle.fn_fits.proofs.FitsJudged.{fitting}
 use Rattle.fn_model.proofs.Levels.{ready_level}
 
-method_alike : (side : Subject → Side → List Bool) (a b : Assignment) (l : Library) → ((n : ℕ) (e : Expr) → slice_get (library_exprs l) n ≡ Some e → val a e ≡ val b e)
+pub method_alike : (side : Subject → Side → List Bool) (a b : Assignment) (l : Library) → ((n : ℕ) (e : Expr) → slice_get (library_exprs l) n ≡ Some e → val a e ≡ val b e)
     → method_of side a l ≡ method_of side b l
 method_alike side a b (library.UncompressedValue len v) same = λ i. two_values lib.uncompressed_value (same 0 len refl i) (same 1 v refl i)
 method_alike side a b (library.CompressedValue len v) same = λ i. two_values lib.compressed_value (same 0 len refl i) (same 1 v refl i)

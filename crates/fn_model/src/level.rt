@@ -16,12 +16,12 @@ use fn_profile::Profile;
 
 /// A level of a filling: its format, the two sides of the whole, and the numbers that its expressions may ask for.
 #[derive(Drop)]
-pub(crate) struct Level<'a> {
-    pub(crate) format: &'a Format,
-    pub(crate) filling: &'a Filling,
-    pub(crate) header: &'a Bits,
-    pub(crate) packed: &'a Bits,
-    pub(crate) known: Seen<'a>,
+pub struct Level<'a> {
+    pub format: &'a Format,
+    pub filling: &'a Filling,
+    pub header: &'a Bits,
+    pub packed: &'a Bits,
+    pub known: Seen<'a>,
 }
 
 /// The format of a filling, with its bounds.
@@ -34,7 +34,7 @@ struct Place<'a> {
 /// The level of a filling of the method, where its header and its packed bits are these. None where no filling that fits is
 /// like it.
 #[inline(always)]
-pub(crate) fn level_of<'a>(
+pub fn level_of<'a>(
     profile: &'a Profile,
     method: usize,
     arguments: &'a [i128],

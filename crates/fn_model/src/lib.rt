@@ -6,6 +6,6 @@ pub use holding::{holds, level_fits, sides_if_fits};
 mod constraints;
 pub mod holding;
 pub mod level;
-mod numbers;
+pub mod numbers;
 mod plain;
 mod shape;

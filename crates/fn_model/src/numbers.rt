@@ -18,7 +18,7 @@ use std::marker::Model;
 
 /// The numbers of the fields, of the whole and of the arguments.
 #[derive(Drop)]
-pub(crate) struct Seen<'a> {
+pub struct Seen<'a> {
     filling: &'a Filling,
     header: &'a Bits,
     packed: &'a Bits,
@@ -41,7 +41,7 @@ impl<'a> Model for Seen<'a> {
 
 impl<'a> Seen<'a> {
     /// The numbers of a filling, where its header and its packed bits are these.
-    pub(crate) fn of(
+    pub fn of(
         filling: &'a Filling,
         header_bits: &'a Bits,
         packed_bits: &'a Bits,
@@ -109,7 +109,7 @@ fn number_of(bits: &Bits, measure: Measure) -> Option<i128>
 }
 
 /// The value of an expression, where it has one.
-pub(crate) fn number_in(expression: &Expr, seen: &Seen<'_>) -> Option<i128>
+pub fn number_in(expression: &Expr, seen: &Seen<'_>) -> Option<i128>
     requires { IsRanged (assignment_of seen.now) expression.now }
     ensures { result ≡ val (assignment_of seen.now) expression.now }
 {
@@ -138,7 +138,7 @@ pub(crate) fn is_number(expression: &Expr, seen: &Seen<'_>, number: i128) -> boo
 }
 
 /// Makes an empty list that of the values of several expressions. Whether each of them has one.
-pub(crate) fn add_values(
+pub fn add_values(
     expressions: &[Expr],
     seen: &Seen<'_>,
     values: &mut SmallVec<i128, 4>,

@@ -1,2 +1,3 @@
 pub mod BitTextsSpelled
 pub mod FieldsListed
+pub mod LossNumbers

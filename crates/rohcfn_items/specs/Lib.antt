@@ -3,3 +3,5 @@ pub mod Fields
 pub mod Stats
 pub mod Asked
 pub mod Why
+pub mod Step
+pub mod Loss

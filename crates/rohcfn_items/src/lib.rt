@@ -3,5 +3,7 @@
 
 mod asked;
 pub mod fields;
+pub mod loss;
 pub mod stats;
+mod step;
 pub mod why;

@@ -28,7 +28,7 @@ pub fn stats_text(
 }
 
 /// How many items there are, their packed bits and the mean.
-fn head_line(alloc: Global, tally: Tally) -> Result<String, AllocError>
+pub(crate) fn head_line(alloc: Global, tally: Tally) -> Result<String, AllocError>
     ensures { IfOk result (λ text. string_bytes text ≡ spec.head_line tally) }
 {
     let mean = mean_text(alloc, tally)?;
@@ -204,7 +204,7 @@ fn tally_row(alloc: Global, name: Cell, tally: Tally) -> Result<Items<Cell>, All
     Ok(row)
 }
 
-fn number_cell(alloc: Global, number: usize) -> Result<Cell, AllocError>
+pub(crate) fn number_cell(alloc: Global, number: usize) -> Result<Cell, AllocError>
     ensures { IfOk result (λ cell. cell ≡ decimal number) }
 {
     let text = format!(in alloc; "{number}")?;

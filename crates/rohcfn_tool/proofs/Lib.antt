@@ -9,3 +9,4 @@ pub mod ProgramReplies
 pub mod PrintedReplying
 pub mod PrintedStepping
 pub mod PrintedTallying
+pub mod Losing

@@ -27,6 +27,7 @@ use Rattle.rohcfn_input.specs.declared.status.Status.TheVariants as status
 use Rattle.rohcfn_input.proofs.RefusalsHeld.{refusal_is}
 use Rattle.rohcfn_items.specs.Stats.{stats_text}
 use Rattle.rohcfn_words.specs.declared.words.Direction.TheVariants.{Pack}
+use Rattle.rohcfn_tool.specs.declared.stats.Survey.{Survey}
 use Rattle.rohcfn_tool.specs.Printed.{CountsItem, CountsItems, IsItemFault, IsPrintedStats, IsRefusedBelow, Packs, StatsBy, StatsFor, StatsIn, bad_entry, bad_item, bad_line_text, counted_by, counts_packed, counts_refused, packs_none, packs_one, refuses_one}
 
 -- the counts and the lines so far are those of the items so far: whatever comes of the others, all together come of all
@@ -97,15 +98,15 @@ counts_printed a p methods top cs text refused output same all first is grown =
 
 -- ---- a context that can't be read
 
-entry_bad : (a : Accepting) (part : Option (Bor (List ℕ))) (input : List ℕ) (n : ℕ) (p : Option (Bor (List ℕ))) → part ≡ p → BlamesContext (bad.Number n) p → StatsFor a part input status.Refused (context_line n ++ 10 ∷ [])
-entry_bad a part input n None is h = absurd h
-entry_bad a part input n (Some octets) is h = bad_entry octets n is h
+entry_bad : (what : Survey) (a : Accepting) (part : Option (Bor (List ℕ))) (input : List ℕ) (n : ℕ) (p : Option (Bor (List ℕ))) → part ≡ p → BlamesContext (bad.Number n) p → StatsFor what a part input status.Refused (context_line n ++ 10 ∷ [])
+entry_bad what a part input n None is h = absurd h
+entry_bad what a part input n (Some octets) is h = bad_entry octets n is h
 
-pub bad_entry_is : (a : Accepting) (part : Option (Bor (List ℕ))) (input : List ℕ) (e : BadLine) (n m : ℕ) (written : List ℕ) (r : Result Answer AllocError) → BlamesContext e part → e ≡ bad.Number n → written ≡ context_line m → m ≡ n → IfOk r (IsRefusal written) → IfOk r (Holds (StatsFor a part input))
-bad_entry_is a part input e n m written r blames is same number g =
+pub bad_entry_is : (what : Survey) (a : Accepting) (part : Option (Bor (List ℕ))) (input : List ℕ) (e : BadLine) (n m : ℕ) (written : List ℕ) (r : Result Answer AllocError) → BlamesContext e part → e ≡ bad.Number n → written ≡ context_line m → m ≡ n → IfOk r (IsRefusal written) → IfOk r (Holds (StatsFor what a part input))
+bad_entry_is what a part input e n m written r blames is same number g =
     let here : BlamesContext (bad.Number n) part = subst (λ (x : BadLine). BlamesContext x part) is blames in
-    refusal_is (StatsFor a part input) (context_line n) written r (entry_bad a part input n part (λ i. part) here) (same ∙ ap context_line number) g
+    refusal_is (StatsFor what a part input) (context_line n) written r (entry_bad what a part input n part (λ i. part) here) (same ∙ ap context_line number) g
 
 -- items of which a line can't be read
-pub bad_items_are : (a : Accepting) (ctx : Entries) (input : List ℕ) (n m : ℕ) (written : List ℕ) (r : Result Answer AllocError) → IsBadLine IsItem input n → written ≡ bad_line_text Pack m → m ≡ n → IfOk r (IsRefusal written) → IfOk r (Holds (StatsIn a ctx input))
-bad_items_are a ctx input n m written r is same number g = refusal_is (StatsIn a ctx input) (bad_line_text Pack n) written r (bad_item n is) (same ∙ ap (bad_line_text Pack) number) g
+pub bad_items_are : (what : Survey) (a : Accepting) (ctx : Entries) (input : List ℕ) (n m : ℕ) (written : List ℕ) (r : Result Answer AllocError) → IsBadLine IsItem input n → written ≡ bad_line_text Pack m → m ≡ n → IfOk r (IsRefusal written) → IfOk r (Holds (StatsIn what a ctx input))
+bad_items_are what a ctx input n m written r is same number g = refusal_is (StatsIn what a ctx input) (bad_line_text Pack n) written r (bad_item n is) (same ∙ ap (bad_line_text Pack) number) g

@@ -39,13 +39,17 @@ use Rattle.rohcfn_words.specs.declared.words.Direction.TheVariants.{Pack, Unpack
 use Rattle.rohcfn_words.specs.declared.words.End.{End}
 use Rattle.rohcfn_words.specs.declared.words.End.TheVariants.{Sending, Receiving}
 use Rattle.rohcfn_words.specs.declared.words.Order.{Order}
-use Rattle.rohcfn_tool.specs.Printed.{Prints, PrintsInput, AnsweredIn, AnsweredFor, AnsweredBy, AnsweredRun, Answered, StatsBy, StatsIn, StatsFor, StatsWith, Stated, SaysItem, FaultsItem, stop_of, SaysPacket, FaultsPacket}
+use Rattle.rohcfn_tool.specs.Printed.{Prints, PrintsInput, AnsweredIn, AnsweredFor, AnsweredBy, AnsweredRun, Answered, StatsBy, SurveyBy, StatsIn, StatsFor, StatsWith, Stated, SaysItem, FaultsItem, stop_of, SaysPacket, FaultsPacket}
 use Rattle.rohcfn_tool.specs.Printed.Prints.{done as prints_done, fault as prints_fault, line as prints_line}
 use Rattle.rohcfn_tool.specs.Printed.AnsweredIn.{answered as answered_in_answered, bad_line as answered_in_bad_line}
 use Rattle.rohcfn_tool.specs.Printed.AnsweredFor.{bad_context as answered_for_bad_context, from_context as answered_for_from_context}
 use Rattle.rohcfn_tool.specs.Printed.AnsweredBy.{by_profile as answered_by_by_profile, unaccepted as answered_by_unaccepted}
 use Rattle.rohcfn_tool.specs.Printed.AnsweredRun.{both as answered_run_both, no_input as answered_run_no_input}
-use Rattle.rohcfn_tool.specs.Printed.Answered.{check_explained as answers_check_explained, checked as answers_checked, drawn as answers_drawn, lined as answers_lined, linted as answers_linted, no_profile as answers_no_profile, prove_explained as answers_prove_explained, proved as answers_proved, ran as answers_ran, shown as answers_shown, told as answers_told, explained as answers_explained, stated as answers_stated}
+use Rattle.rohcfn_tool.specs.Printed.Answered.{check_explained as answers_check_explained, checked as answers_checked, drawn as answers_drawn, lined as answers_lined, linted as answers_linted, no_profile as answers_no_profile, prove_explained as answers_prove_explained, proved as answers_proved, ran as answers_ran, shown as answers_shown, told as answers_told, explained as answers_explained, stated as answers_stated, lost_told as answers_lost_told}
+use Rattle.rohcfn_tool.specs.declared.stats.Survey.{Survey}
+use Rattle.rohcfn_tool.specs.declared.stats.Survey.TheVariants as survey
+use Rattle.rohcfn_tool.specs.Loss.{LossBy}
+use Rattle.rohcfn_tool.specs.Loss.LossBy.{losses_told as loss_by_told, item_refused as loss_by_refused}
 use Rattle.rohcfn_tool.specs.Printed.StatsBy.{counted_by as stats_by_counted}
 use Rattle.rohcfn_tool.specs.Printed.StatsIn.{bad_item as stats_in_bad_item, items_counted as stats_in_counted}
 use Rattle.rohcfn_tool.specs.Printed.StatsFor.{bad_entry as stats_for_bad_entry, from_entries as stats_for_from_entries}
@@ -136,21 +140,29 @@ lined_ends end order profile parts s output (lined_by_part given is h) = lined_b
 stats_by_ends : (a : Accepting) (ctx : Entries) (items : List Item) (s : Status) (output : List ℕ) → StatsBy a ctx items s output → MayPrint s
 stats_by_ends a ctx items _ _ (stats_by_counted fs refused packs) = tt
 
-stats_in_ends : (a : Accepting) (ctx : Entries) (octets : List ℕ) (s : Status) (output : List ℕ) → StatsIn a ctx octets s output → MayPrint s
-stats_in_ends a ctx octets _ _ (stats_in_bad_item n h) = tt
-stats_in_ends a ctx octets s output (stats_in_counted items has h) = stats_by_ends a ctx items s output h
+loss_by_ends : (most : ℕ) (a : Accepting) (ctx : Entries) (items : List Item) (s : Status) (output : List ℕ) → LossBy most a ctx items s output → MayPrint s
+loss_by_ends most a ctx items _ _ (loss_by_told fs es j sent journal) = tt
+loss_by_ends most a ctx items _ _ (loss_by_refused text h) = tt
 
-stats_for_ends : (a : Accepting) (context : Option (Bor (List ℕ))) (octets : List ℕ) (s : Status) (output : List ℕ) → StatsFor a context octets s output → MayPrint s
-stats_for_ends a context octets _ _ (stats_for_bad_entry given n is bad) = tt
-stats_for_ends a context octets s output (stats_for_from_entries ctx starts h) = stats_in_ends a ctx octets s output h
+survey_ends : (what : Survey) (a : Accepting) (ctx : Entries) (items : List Item) (s : Status) (output : List ℕ) → SurveyBy what a ctx items s output → MayPrint s
+survey_ends survey.Stats a ctx items s output h = stats_by_ends a ctx items s output h
+survey_ends (survey.Loss most) a ctx items s output h = loss_by_ends most a ctx items s output h
 
-stats_with_ends : (order : Order) (profile : List ℕ) (parts : Parts) (octets : List ℕ) (s : Status) (output : List ℕ) → StatsWith order profile parts octets s output → MayPrint s
-stats_with_ends order profile parts octets _ _ (stats_with_refused text h) = tt
-stats_with_ends order profile parts octets s output (stats_with_accepted a accepts h) = stats_for_ends a parts.context octets s output h
+stats_in_ends : (what : Survey) (a : Accepting) (ctx : Entries) (octets : List ℕ) (s : Status) (output : List ℕ) → StatsIn what a ctx octets s output → MayPrint s
+stats_in_ends what a ctx octets _ _ (stats_in_bad_item n h) = tt
+stats_in_ends what a ctx octets s output (stats_in_counted items has h) = survey_ends what a ctx items s output h
 
-stated_ends : (order : Order) (profile : List ℕ) (parts : Parts) (s : Status) (output : List ℕ) → Stated order profile parts s output → MayPrint s
-stated_ends order profile parts _ _ (stated_no_items is) = tt
-stated_ends order profile parts s output (stated_with_items given is h) = stats_with_ends order profile parts given.now s output h
+stats_for_ends : (what : Survey) (a : Accepting) (context : Option (Bor (List ℕ))) (octets : List ℕ) (s : Status) (output : List ℕ) → StatsFor what a context octets s output → MayPrint s
+stats_for_ends what a context octets _ _ (stats_for_bad_entry given n is bad) = tt
+stats_for_ends what a context octets s output (stats_for_from_entries ctx starts h) = stats_in_ends what a ctx octets s output h
+
+stats_with_ends : (what : Survey) (order : Order) (profile : List ℕ) (parts : Parts) (octets : List ℕ) (s : Status) (output : List ℕ) → StatsWith what order profile parts octets s output → MayPrint s
+stats_with_ends what order profile parts octets _ _ (stats_with_refused text h) = tt
+stats_with_ends what order profile parts octets s output (stats_with_accepted a accepts h) = stats_for_ends what a parts.context octets s output h
+
+stated_ends : (what : Survey) (order : Order) (profile : List ℕ) (parts : Parts) (s : Status) (output : List ℕ) → Stated what order profile parts s output → MayPrint s
+stated_ends what order profile parts _ _ (stated_no_items is) = tt
+stated_ends what order profile parts s output (stated_with_items given is h) = stats_with_ends what order profile parts given.now s output h
 
 linted_in_ends : (octets : List ℕ) (p : Resolved) (context : Option (Bor (List ℕ))) (s : Status) (output : List ℕ) → LintedIn octets p context s output → MayPrint s
 linted_in_ends octets p context _ _ (linted_in_no_context given n is h) = tt
@@ -197,7 +209,8 @@ answer_ends order parts s output (answers_ran profile direction is asks h) = run
 answer_ends order parts s output (answers_told profile direction is asks h) = run_ends direction Tree order profile.now parts s output h
 answer_ends order parts s output (answers_explained profile direction is asks h) = run_ends direction (Why profile) order profile.now parts s output h
 answer_ends order parts s output (answers_lined profile end is asks h) = lined_ends end order profile.now parts s output h
-answer_ends order parts s output (answers_stated profile is asks h) = stated_ends order profile.now parts s output h
+answer_ends order parts s output (answers_stated profile is asks h) = stated_ends survey.Stats order profile.now parts s output h
+answer_ends order parts s output (answers_lost_told profile most is asks h) = stated_ends (survey.Loss most) order profile.now parts s output h
 
 print_ends : (given : List (List ℕ)) (input : List ℕ) (s : Status) (output : List ℕ) → RunPrints given input s output → MayPrint s
 print_ends given input _ _ (run_prints_large h) = tt

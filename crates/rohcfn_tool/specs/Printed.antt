@@ -45,6 +45,10 @@ use Rattle.fn_reasons.specs.declared.line.Line as reasons
 use Rattle.rohcfn_items.specs.Fields.{fields_text, head_text}
 use Rattle.rohcfn_items.specs.Why.{reasons_text}
 use Rattle.rohcfn_items.specs.Stats.{stats_text}
+use Rattle.rohcfn_tool.specs.declared.stats.Survey.{Survey}
+use Rattle.rohcfn_tool.specs.declared.stats.Survey.TheVariants as survey
+use Rattle.rohcfn_tool.specs.Loss.{LossBy}
+pub use Rattle.rohcfn_tool.specs.Refused.{IsItemFault, RefusesItem}
 use Rattle.rohcfn_names.specs.Names.{format_name, method_name}
 use Rattle.rohcfn_names.specs.CheckFaults.{format_words}
 use Rattle.rohcfn_report.specs.Explained.{Explained}
@@ -114,14 +118,6 @@ SaysPacket (Why profile) a ctx n packet f text = IsPacketHead a ctx n packet f t
 
 -- ---- the line of a refusal
 
--- a refused item, by its number from 1; that a line lacks a flow is said of events alone
-abbrev pub IsItemFault : PackFault → ℕ → List ℕ → Type 0
-IsItemFault writer.HeaderLength n text = text ≡ codes "item " ++ decimal n ++ codes ": F1 HeaderLength"
-IsItemFault (writer.Asked name) n text = text ≡ codes "item " ++ decimal n ++ codes ": F2 Asked " ++ name
-IsItemFault writer.NoFormat n text = text ≡ codes "item " ++ decimal n ++ codes ": F3 NoFormat"
-IsItemFault writer.Flow n text = ⊥
-IsItemFault writer.OutOfMemory n text = ⊥
-
 -- a refused packet, by its number from 1; the refusal names the method at work, and its format
 abbrev pub refused_packet : List Method → ℕ → Blamed → List ℕ
 refused_packet methods n at = codes "packet " ++ decimal n ++ codes ": U2 Refused " ++ method_name methods at.method ++ format_words methods at.method at.format
@@ -132,9 +128,6 @@ IsPacketFault (Refused at) methods n text = text ≡ refused_packet methods n at
 IsPacketFault OutOfMemory methods n text = ⊥
 
 -- a fault that is there, with its line, which is one
-abbrev pub RefusesItem : Accepting → Entries → ℕ → Item → List ℕ → Type 0
-RefusesItem a ctx n it text = (e : PackFault) × writing.Blames e a ctx it × IsItemFault e n text × IsLine text
-
 abbrev pub RefusesPacket : Accepting → Entries → ℕ → List Bool → List ℕ → Type 0
 RefusesPacket a ctx n packet text = (e : UnpackFault) × reading.Blames e a ctx packet × IsPacketFault e a.profile.methods n text × IsLine text
 
@@ -290,25 +283,30 @@ pub data StatsBy (a : Accepting) (ctx : Entries) (items : List Item) : Status �
   counted_by : (fs : List Filling) (refused : List ℕ) → Packs a ctx 1 items fs refused
       → StatsBy a ctx items status.Done (stats_text a.profile.methods a.profile.top (map counted fs) ++ refused ++ 10 ∷ [])
 
--- What is answered to `stats` from a context on, by the octets of items.
-pub data StatsIn (a : Accepting) (ctx : Entries) (input : List ℕ) : Status → List ℕ → Type 0 where
-  bad_item : (n : ℕ) → IsBadLine IsItem input n → StatsIn a ctx input status.Refused (bad_line_text Pack n ++ 10 ∷ [])
-  items_counted : {s : Status} {output : List ℕ} (items : List Item) → HasLines IsItem input items → StatsBy a ctx items s output → StatsIn a ctx input s output
+-- what `stats` or `loss` prints for items
+abbrev pub SurveyBy : Survey → Accepting → Entries → List Item → Status → List ℕ → Type 0
+SurveyBy survey.Stats a ctx items = StatsBy a ctx items
+SurveyBy (survey.Loss most) a ctx items = LossBy most a ctx items
+
+-- What is answered to `stats` or `loss` from a context on, by the octets of items.
+pub data StatsIn (what : Survey) (a : Accepting) (ctx : Entries) (input : List ℕ) : Status → List ℕ → Type 0 where
+  bad_item : (n : ℕ) → IsBadLine IsItem input n → StatsIn what a ctx input status.Refused (bad_line_text Pack n ++ 10 ∷ [])
+  items_counted : {s : Status} {output : List ℕ} (items : List Item) → HasLines IsItem input items → SurveyBy what a ctx items s output → StatsIn what a ctx input s output
 
 -- The same by the part of the context,
-pub data StatsFor (a : Accepting) (context : Option (Bor (List ℕ))) (input : List ℕ) : Status → List ℕ → Type 0 where
-  bad_entry : (octets : Bor (List ℕ)) (n : ℕ) → context ≡ Some octets → IsBadContext octets.now n → StatsFor a context input status.Refused (context_line n ++ 10 ∷ [])
-  from_entries : {s : Status} {output : List ℕ} (ctx : Entries) → StartsAt context ctx → StatsIn a ctx input s output → StatsFor a context input s output
+pub data StatsFor (what : Survey) (a : Accepting) (context : Option (Bor (List ℕ))) (input : List ℕ) : Status → List ℕ → Type 0 where
+  bad_entry : (octets : Bor (List ℕ)) (n : ℕ) → context ≡ Some octets → IsBadContext octets.now n → StatsFor what a context input status.Refused (context_line n ++ 10 ∷ [])
+  from_entries : {s : Status} {output : List ℕ} (ctx : Entries) → StartsAt context ctx → StatsIn what a ctx input s output → StatsFor what a context input s output
 
 -- by the octets of a profile,
-pub data StatsWith (order : Order) (profile : List ℕ) (parts : Parts) (input : List ℕ) : Status → List ℕ → Type 0 where
-  stats_refused : (text : List ℕ) → RefusesProfile order.top.now profile (origin_of order.version parts.certificate) text → StatsWith order profile parts input status.Refused (text ++ 10 ∷ [])
-  stats_accepted : {s : Status} {output : List ℕ} (a : Accepting) → AcceptsProfile order.top.now profile (origin_of order.version parts.certificate) a → StatsFor a parts.context input s output → StatsWith order profile parts input s output
+pub data StatsWith (what : Survey) (order : Order) (profile : List ℕ) (parts : Parts) (input : List ℕ) : Status → List ℕ → Type 0 where
+  stats_refused : (text : List ℕ) → RefusesProfile order.top.now profile (origin_of order.version parts.certificate) text → StatsWith what order profile parts input status.Refused (text ++ 10 ∷ [])
+  stats_accepted : {s : Status} {output : List ℕ} (a : Accepting) → AcceptsProfile order.top.now profile (origin_of order.version parts.certificate) a → StatsFor what a parts.context input s output → StatsWith what order profile parts input s output
 
 -- and by the parts.
-pub data Stated (order : Order) (profile : List ℕ) (parts : Parts) : Status → List ℕ → Type 0 where
-  no_items : parts.items ≡ None → Stated order profile parts status.Refused (codes "bundle: I4 bad part items" ++ 10 ∷ [])
-  with_items : {s : Status} {output : List ℕ} (input : Bor (List ℕ)) → parts.items ≡ Some input → StatsWith order profile parts input.now s output → Stated order profile parts s output
+pub data Stated (what : Survey) (order : Order) (profile : List ℕ) (parts : Parts) : Status → List ℕ → Type 0 where
+  no_items : parts.items ≡ None → Stated what order profile parts status.Refused (codes "bundle: I4 bad part items" ++ 10 ∷ [])
+  with_items : {s : Status} {output : List ℕ} (input : Bor (List ℕ)) → parts.items ≡ Some input → StatsWith what order profile parts input.now s output → Stated what order profile parts s output
 
 -- What is answered to an order with these parts.
 pub data Answered (order : Order) (parts : Parts) : Status → List ℕ → Type 0 where
@@ -336,7 +334,9 @@ pub data Answered (order : Order) (parts : Parts) : Status → List ℕ → Type
   lined : {s : Status} {output : List ℕ} (profile : Bor (List ℕ)) (end : End) → parts.profile ≡ Some profile → order.command ≡ command.Line end
       → Lined end order profile.now parts s output → Answered order parts s output
   stated : {s : Status} {output : List ℕ} (profile : Bor (List ℕ)) → parts.profile ≡ Some profile → order.command ≡ command.Stats
-      → Stated order profile.now parts s output → Answered order parts s output
+      → Stated survey.Stats order profile.now parts s output → Answered order parts s output
+  lost_told : {s : Status} {output : List ℕ} (profile : Bor (List ℕ)) (most : ℕ) → parts.profile ≡ Some profile → order.command ≡ command.Loss most
+      → Stated (survey.Loss most) order profile.now parts s output → Answered order parts s output
 
 -- ---- the steps
 
@@ -356,20 +356,23 @@ abbrev pub AnswersIn : Direction → Shape → Bool → Accepting → Entries �
 AnswersIn direction shape shows a ctx input = Holds (AnsweredIn direction shape shows a ctx input)
 
 -- what is answered to `stats`
-abbrev pub AnswersStats : Order → List ℕ → Parts → Answer → Type 0
-AnswersStats order profile parts = Holds (Stated order profile parts)
+abbrev pub AnswersStats : Survey → Order → List ℕ → Parts → Answer → Type 0
+AnswersStats what order profile parts = Holds (Stated what order profile parts)
 
-abbrev pub AnswersStatsBy : Order → List ℕ → Parts → List ℕ → Answer → Type 0
-AnswersStatsBy order profile parts input = Holds (StatsWith order profile parts input)
+abbrev pub AnswersStatsBy : Survey → Order → List ℕ → Parts → List ℕ → Answer → Type 0
+AnswersStatsBy what order profile parts input = Holds (StatsWith what order profile parts input)
 
-abbrev pub AnswersStatsFor : Accepting → Option (Bor (List ℕ)) → List ℕ → Answer → Type 0
-AnswersStatsFor a context input = Holds (StatsFor a context input)
+abbrev pub AnswersStatsFor : Survey → Accepting → Option (Bor (List ℕ)) → List ℕ → Answer → Type 0
+AnswersStatsFor what a context input = Holds (StatsFor what a context input)
 
-abbrev pub AnswersStatsIn : Accepting → Entries → List ℕ → Answer → Type 0
-AnswersStatsIn a ctx input = Holds (StatsIn a ctx input)
+abbrev pub AnswersStatsIn : Survey → Accepting → Entries → List ℕ → Answer → Type 0
+AnswersStatsIn what a ctx input = Holds (StatsIn what a ctx input)
 
 abbrev pub CountsItems : Accepting → Entries → List Item → Answer → Type 0
 CountsItems a ctx items = Holds (StatsBy a ctx items)
+
+abbrev pub Surveys : Survey → Accepting → Entries → List Item → Answer → Type 0
+Surveys what a ctx items = Holds (SurveyBy what a ctx items)
 
 -- what is counted, and below it the lines of the refused
 pub record IsPrintedStats (a : Accepting) (cs : List Count) (refused : List ℕ) (answer : Answer) : Type 0 where

@@ -6,7 +6,7 @@ ghost use Rattle.rohcfn_tool.specs.Printed as spec;
 
 use crate::line::answer_line;
 use crate::packets::{Shape, pack_all, unpack_all};
-use crate::stats::answer_stats;
+use crate::stats::{Survey, answer_stats};
 use fn_accepted::Accepted;
 use fn_context::Context;
 use rohcfn_input::bundle::Parts;
@@ -56,7 +56,8 @@ pub fn answer(alloc: Global, order: &Order<'_>, parts: &Parts<'_>) -> Result<Ans
         Command::Why(direction) => {
             answer_run(alloc, direction, Shape::Why(profile), order, profile, parts)
         }
-        Command::Stats => answer_stats(alloc, order, profile, parts),
+        Command::Stats => answer_stats(alloc, Survey::Stats, order, profile, parts),
+        Command::Loss(most) => answer_stats(alloc, Survey::Loss(most), order, profile, parts),
         Command::Line(end) => answer_line(alloc, end, order, profile, parts),
     }
 }

@@ -6,6 +6,7 @@ mod asked;
 pub mod events;
 mod explaining;
 pub mod line;
+mod loss;
 pub mod packets;
 pub mod program;
 mod stats;

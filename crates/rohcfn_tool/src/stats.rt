@@ -1,9 +1,10 @@
-//! What is answered to `stats`.
+//! What is answered to `stats`, and by what to `loss`.
 
 ghost use Rattle.std.specs.Prelude.{◌≡◌, ◌≢◌, ◌++◌, IfOk, OnOk, string_bytes};
 ghost use Rattle.rohcfn_tool.specs.Printed as spec;
 
 use crate::answers::bad_line;
+use crate::loss::lose_all;
 use crate::packets::item_fault;
 use fn_accepted::Accepted;
 use fn_context::Context;
@@ -21,18 +22,28 @@ use rohcfn_words::words::{Direction, Order};
 use sqlite_items::Items;
 use std::alloc::{AllocError, Global};
 
-/// The answer to `stats`, by the octets of a profile and the items among the parts: what is counted of the packets, and a line for each item that is refused; or the
+/// What is told of items that are packed.
+#[derive(Clone, Copy)]
+pub(crate) enum Survey {
+    /// How many there are, and how many bits they take.
+    Stats,
+    /// What receivers read of them where up to so many packets are lost.
+    Loss(u8),
+}
+
+/// The answer to `stats` or `loss`, by the octets of a profile and the items among the parts: what is counted of the packets, and a line for each item that is refused; or the
 /// line of another fault.
 pub(crate) fn answer_stats(
     alloc: Global,
+    what: Survey,
     order: &Order<'_>,
     profile: &[u8],
     parts: &Parts<'_>,
 ) -> Result<Answer, AllocError>
-    ensures { IfOk result (spec.AnswersStats order.now profile.now parts.now) }
+    ensures { IfOk result (spec.AnswersStats what order.now profile.now parts.now) }
 {
     match parts.items {
-        Some(items) => stats_by(alloc, order, profile, parts, items),
+        Some(items) => stats_by(alloc, what, order, profile, parts, items),
         None => refusal(alloc, "bundle: I4 bad part items"),
     }
 }
@@ -40,15 +51,16 @@ pub(crate) fn answer_stats(
 /// The answer by the octets of a profile and of items.
 fn stats_by(
     alloc: Global,
+    what: Survey,
     order: &Order<'_>,
     profile: &[u8],
     parts: &Parts<'_>,
     input: &[u8],
 ) -> Result<Answer, AllocError>
-    ensures { IfOk result (spec.AnswersStatsBy order.now profile.now parts.now input.now) }
+    ensures { IfOk result (spec.AnswersStatsBy what order.now profile.now parts.now input.now) }
 {
     match accept(alloc, order.top, profile, Origin::of(order.version, parts))? {
-        Judged::Accepted(accepted) => stats_for(alloc, &accepted, parts, input),
+        Judged::Accepted(accepted) => stats_for(alloc, what, &accepted, parts, input),
         Judged::Refused(line) => refusal(alloc, line.as_str()),
     }
 }
@@ -56,14 +68,15 @@ fn stats_by(
 /// The answer by an accepted profile and the octets of items.
 fn stats_for(
     alloc: Global,
+    what: Survey,
     accepted: &Accepted,
     parts: &Parts<'_>,
     input: &[u8],
 ) -> Result<Answer, AllocError>
-    ensures { IfOk result (spec.AnswersStatsFor accepted.now parts.now.context input.now) }
+    ensures { IfOk result (spec.AnswersStatsFor what accepted.now parts.now.context input.now) }
 {
     match read_context(alloc, parts) {
-        Ok(context) => stats_in(alloc, accepted, context, input),
+        Ok(context) => stats_in(alloc, what, accepted, context, input),
         Err(BadLine::Number(number)) => {
             let line = context_line(alloc, number)?;
             refusal(alloc, line.as_str())
@@ -75,19 +88,36 @@ fn stats_for(
 /// The answer in a context, by the octets of items.
 fn stats_in(
     alloc: Global,
+    what: Survey,
     accepted: &Accepted,
     context: Context,
     input: &[u8],
 ) -> Result<Answer, AllocError>
-    ensures { IfOk result (spec.AnswersStatsIn accepted.now context input.now) }
+    ensures { IfOk result (spec.AnswersStatsIn what accepted.now context input.now) }
 {
     match read_items(alloc, input) {
-        Ok(items) => count_all(alloc, accepted, context, items.as_slice()),
+        Ok(items) => tell_all(alloc, what, accepted, context, items.as_slice()),
         Err(BadLine::Number(number)) => {
             let line = bad_line(alloc, Direction::Pack, number)?;
             refusal(alloc, line.as_str())
         }
         Err(BadLine::OutOfMemory) => Err(AllocError),
+    }
+}
+
+/// What is told of the packets of items.
+fn tell_all(
+    alloc: Global,
+    what: Survey,
+    accepted: &Accepted,
+    context: Context,
+    items: &[Item],
+) -> Result<Answer, AllocError>
+    ensures { IfOk result (spec.Surveys what accepted.now context items.now) }
+{
+    match what {
+        Survey::Stats => count_all(alloc, accepted, context, items),
+        Survey::Loss(most) => lose_all(alloc, accepted, most, context, items),
     }
 }
 

@@ -1,2 +1,3 @@
 pub mod WordsLemmas
 pub mod WordsRead
+pub mod WordsNumbers

@@ -1,6 +1,7 @@
 -- What the words of a call ask for, by what clap's contracts say of a command and words.
-use Rattle.std.specs.Prelude.{◌≡◌, ◌≢◌, ℕ, Bool, true, false, List, [], ◌∷◌, Option, None, Some, if◌then◌else◌, codes}
+use Rattle.std.specs.Prelude.{◌≡◌, ◌≢◌, ◌↔◌, ◌<◌, ◌&&◌, ℕ, Bool, true, false, List, [], ◌∷◌, Option, None, Some, if◌then◌else◌, codes, decimal, nat_lt, option_map, option_and_then}
 use Rattle.std.specs.Str.{bytes_eq}
+use Rattle.std.specs.Str.Parse.{digits_value}
 use Rattle.clap.specs.Words.{App, IsAmong, Kinds, Row, Rule, fault_of, first_of, new_app, new_rule, subcommand_of, with_rule, with_subcommand}
 use Rattle.clap.specs.Simple.{on_top}
 use Rattle.clap.specs.declared.builder.action.ArgAction.TheVariants.{SetTrue}
@@ -9,7 +10,7 @@ use Rattle.clap.specs.declared.error.kind.ErrorKind.TheVariants.{DisplayHelp, Ou
 use Rattle.fn_cert.specs.declared.certificate.Version.{Version}
 use Rattle.fn_cert.specs.declared.certificate.Version.TheVariants.{One, Two}
 use Rattle.rohcfn_words.specs.declared.words.Command.{Command}
-use Rattle.rohcfn_words.specs.declared.words.Command.TheVariants.{Show, Lint, Draw, Check, Prove, ExplainCheck, ExplainProve, Run, Fields, Why, Stats, Line}
+use Rattle.rohcfn_words.specs.declared.words.Command.TheVariants.{Show, Lint, Draw, Check, Prove, ExplainCheck, ExplainProve, Run, Fields, Why, Stats, Loss, Line}
 use Rattle.rohcfn_words.specs.declared.words.Direction.{Direction}
 use Rattle.rohcfn_words.specs.declared.words.Direction.TheVariants.{Pack, Unpack}
 use Rattle.rohcfn_words.specs.declared.words.End.{End}
@@ -64,6 +65,14 @@ wide_flag = record (new_rule (codes "wide")) {
   action = Some SetTrue;
 }
 
+-- `--lost N`, whose value is 8 where it is not given
+abbrev pub lost_option : Rule
+lost_option = record (new_rule (codes "lost")) {
+  long = Some (codes "lost");
+  value_names = 1;
+  defaults = codes "8" ∷ [];
+}
+
 -- a command of that name with the first flag
 abbrev pub with_top : List ℕ → App
 with_top name = with_rule (new_app name) top_flag
@@ -71,6 +80,9 @@ with_top name = with_rule (new_app name) top_flag
 -- one that may make a certificate, with the second flag too; and with one or two more
 abbrev pub with_version : List ℕ → App
 with_version name = with_rule (with_top name) version_flag
+
+abbrev pub with_lost : List ℕ → App
+with_lost name = with_rule (with_version name) lost_option
 
 abbrev pub with_explain : List ℕ → App
 with_explain name = with_rule (with_version name) explain_flag
@@ -94,8 +106,8 @@ bare_program = on_top (λ top. record top { no_binary_name = true; subcommand_re
 
 -- with its commands
 unfoldable pub program : App
-program = with_subcommand (with_subcommand (with_subcommand (with_subcommand (with_subcommand (with_subcommand (with_subcommand (with_subcommand (with_subcommand (with_subcommand (with_subcommand bare_program (with_flags (codes "pack")).top)
-    (with_flags (codes "unpack")).top) (with_items (codes "fields")).top) (with_items (codes "why")).top) (with_version (codes "stats")).top) (with_top (codes "show")).top) (with_top (codes "lint")).top) (with_top (codes "draw")).top) (with_explain (codes "check")).top) (with_explain (codes "prove")).top) (with_wide (codes "line")).top
+program = with_subcommand (with_subcommand (with_subcommand (with_subcommand (with_subcommand (with_subcommand (with_subcommand (with_subcommand (with_subcommand (with_subcommand (with_subcommand (with_subcommand bare_program (with_flags (codes "pack")).top)
+    (with_flags (codes "unpack")).top) (with_items (codes "fields")).top) (with_items (codes "why")).top) (with_version (codes "stats")).top) (with_lost (codes "loss")).top) (with_top (codes "show")).top) (with_top (codes "lint")).top) (with_top (codes "draw")).top) (with_explain (codes "check")).top) (with_explain (codes "prove")).top) (with_wide (codes "line")).top
 
 -- a command, the name of a method, whether the last context is printed, the version of a certificate that is made, and whether the line is the wide one
 pub record Asked : Type 0 where
@@ -123,19 +135,28 @@ check_at explains = if explains then ExplainCheck else Check
 abbrev pub prove_at : Bool → Command
 prove_at explains = if explains then ExplainProve else Prove
 
--- a command by its name, and by whether the receiving end, items and explanations are asked for
-abbrev pub command_named : List ℕ → Bool → Bool → Bool → Option Command
-command_named name receives packs explains = if bytes_eq name (codes "pack") then Some (Run Pack)
+-- the number of lost packets that a text spells: one below 64, whose decimal digits the text is
+abbrev pub lost_spelled : List ℕ → Option ℕ
+lost_spelled text = if bytes_eq (decimal (digits_value 10 text)) text && nat_lt (digits_value 10 text) 64 then Some (digits_value 10 text) else None
+
+-- the same of what an option has
+abbrev pub lost_in : Option (List ℕ) → Option ℕ
+lost_in = option_and_then lost_spelled
+
+-- a command by its name, by whether the receiving end, items and explanations are asked for, and by how many packets are lost
+abbrev pub command_named : List ℕ → Bool → Bool → Bool → Option ℕ → Option Command
+command_named name receives packs explains lost = if bytes_eq name (codes "pack") then Some (Run Pack)
     else (if bytes_eq name (codes "unpack") then Some (Run Unpack)
     else (if bytes_eq name (codes "fields") then Some (Fields (direction_at packs))
     else (if bytes_eq name (codes "why") then Some (Why (direction_at packs))
     else (if bytes_eq name (codes "stats") then Some Stats
+    else (if bytes_eq name (codes "loss") then option_map Loss lost
     else (if bytes_eq name (codes "show") then Some Show
     else (if bytes_eq name (codes "lint") then Some Lint
     else (if bytes_eq name (codes "draw") then Some Draw
     else (if bytes_eq name (codes "check") then Some (check_at explains)
     else (if bytes_eq name (codes "prove") then Some (prove_at explains)
-    else (if bytes_eq name (codes "line") then Some (Line (end_at receives)) else None))))))))))
+    else (if bytes_eq name (codes "line") then Some (Line (end_at receives)) else None)))))))))))
 
 -- the flag was given
 abbrev pub is_set : Option (List ℕ) → Bool
@@ -154,7 +175,15 @@ asked_by (Some command) (Some top) context second wide = Some (record { command 
 -- a command's name, and the values of its flags
 abbrev pub asked_in : Option (List ℕ × List Row) → Option Asked
 asked_in None = None
-asked_in (Some met) = asked_by (command_named met.0 (is_set (first_of (codes "receive") met.1)) (is_set (first_of (codes "items") met.1)) (is_set (first_of (codes "explain") met.1))) (first_of (codes "top") met.1) (is_set (first_of (codes "context") met.1)) (is_set (first_of (codes "v2") met.1)) (is_set (first_of (codes "wide") met.1))
+asked_in (Some met) = asked_by (command_named met.0 (is_set (first_of (codes "receive") met.1)) (is_set (first_of (codes "items") met.1)) (is_set (first_of (codes "explain") met.1)) (lost_in (first_of (codes "lost") met.1))) (first_of (codes "top") met.1) (is_set (first_of (codes "context") met.1)) (is_set (first_of (codes "v2") met.1)) (is_set (first_of (codes "wide") met.1))
+
+-- What `loss` makes of the text that `--lost` has: with the decimal digits of a number below 64 that number is asked for, with any other text nothing is.
+pub record ReadsLost : Type 0 where
+  pub spelled : (text : List ℕ) (n : ℕ) → (lost_spelled text ≡ Some n) ↔ ((text ≡ decimal n) × (n < 64))
+  pub asks : (rows : List Row) (n : ℕ) (top : List ℕ) → n < 64 → first_of (codes "lost") rows ≡ Some (decimal n) → first_of (codes "top") rows ≡ Some top
+      → option_map (λ (a : Asked). a.command) (asked_in (Some (codes "loss", rows))) ≡ Some (Loss n)
+  pub refuses : (rows : List Row) (text : List ℕ) → first_of (codes "lost") rows ≡ Some text → ((n : ℕ) → n < 64 → text ≢ decimal n)
+      → asked_in (Some (codes "loss", rows)) ≡ None
 
 -- words with a fault ask for nothing
 abbrev pub asked_unless : Kinds → Option (List ℕ × List Row) → Option Asked
@@ -208,6 +237,18 @@ pub record ReadsWords : Type 0 where
   pub why_items : asked_of (codes "why" ∷ codes "--top" ∷ codes "plain" ∷ codes "--items" ∷ []) ≡ Some (record { command = Why Pack; top = codes "plain"; shows_context = false; version = One; is_wide = false })
   pub stats : asked_of (codes "stats" ∷ codes "--top" ∷ codes "plain" ∷ []) ≡ Some (record { command = Stats; top = codes "plain"; shows_context = false; version = One; is_wide = false })
   pub stats_context : asked_of (codes "stats" ∷ codes "--top" ∷ codes "plain" ∷ codes "--context" ∷ []) ≡ None
+  pub loss : asked_of (codes "loss" ∷ codes "--top" ∷ codes "plain" ∷ []) ≡ Some (record { command = Loss 8; top = codes "plain"; shows_context = false; version = One; is_wide = false })
+  pub loss_none : asked_of (codes "loss" ∷ codes "--top" ∷ codes "plain" ∷ codes "--lost" ∷ codes "0" ∷ []) ≡ Some (record { command = Loss 0; top = codes "plain"; shows_context = false; version = One; is_wide = false })
+  pub loss_most : asked_of (codes "loss" ∷ codes "--lost=63" ∷ codes "--top" ∷ codes "plain" ∷ codes "--v2" ∷ []) ≡ Some (record { command = Loss 63; top = codes "plain"; shows_context = false; version = Two; is_wide = false })
+  pub loss_above : asked_of (codes "loss" ∷ codes "--top" ∷ codes "plain" ∷ codes "--lost" ∷ codes "64" ∷ []) ≡ None
+  pub loss_plus : asked_of (codes "loss" ∷ codes "--top" ∷ codes "plain" ∷ codes "--lost" ∷ codes "+1" ∷ []) ≡ None
+  pub loss_minus : asked_of (codes "loss" ∷ codes "--top" ∷ codes "plain" ∷ codes "--lost=-1" ∷ []) ≡ None
+  pub loss_zero_first : asked_of (codes "loss" ∷ codes "--top" ∷ codes "plain" ∷ codes "--lost" ∷ codes "01" ∷ []) ≡ None
+  pub loss_empty : asked_of (codes "loss" ∷ codes "--top" ∷ codes "plain" ∷ codes "--lost=" ∷ []) ≡ None
+  pub loss_letter : asked_of (codes "loss" ∷ codes "--top" ∷ codes "plain" ∷ codes "--lost" ∷ codes "1x" ∷ []) ≡ None
+  pub loss_twice : asked_of (codes "loss" ∷ codes "--top" ∷ codes "plain" ∷ codes "--lost" ∷ codes "1" ∷ codes "--lost" ∷ codes "1" ∷ []) ≡ None
+  pub loss_context : asked_of (codes "loss" ∷ codes "--top" ∷ codes "plain" ∷ codes "--context" ∷ []) ≡ None
+  pub stats_lost : asked_of (codes "stats" ∷ codes "--top" ∷ codes "plain" ∷ codes "--lost" ∷ codes "1" ∷ []) ≡ None
   pub lint : asked_of (codes "lint" ∷ codes "--top" ∷ codes "plain" ∷ []) ≡ Some (record { command = Lint; top = codes "plain"; shows_context = false; version = One; is_wide = false })
   pub lint_second : asked_of (codes "lint" ∷ codes "--top" ∷ codes "plain" ∷ codes "--v2" ∷ []) ≡ None
   pub draw : asked_of (codes "draw" ∷ codes "--top" ∷ codes "plain" ∷ []) ≡ Some (record { command = Draw; top = codes "plain"; shows_context = false; version = One; is_wide = false })

@@ -2,11 +2,12 @@
 ghost use Rattle.std.specs.Prelude.{◌≡◌, ◌↔◌, None, Some, false, map, IfOk, IfErr, option_map};
 ghost use Rattle.clap.specs.Words.{app_of, kind_of, subcommand_rows_of};
 ghost use Rattle.clap.specs.declared.builder.command.Command.TheViews.{out-Command as fields_of};
-ghost use Rattle.rohcfn_words.specs.Words.{ReadsWords, RefusesError, RefusesWords, asked, asked_in, asked_of, check_at, command_named, direction_at, end_at, prove_at, is_set, program, version_asked, with_explain, with_flags, with_items, with_receive, with_top, with_version, with_wide};
+ghost use Rattle.rohcfn_words.specs.Words.{ReadsLost, ReadsWords, RefusesError, RefusesWords, asked, asked_in, asked_of, check_at, command_named, direction_at, end_at, prove_at, is_set, lost_in, lost_spelled, program, version_asked, with_explain, with_flags, with_items, with_lost, with_receive, with_top, with_version, with_wide};
 
 use clap::error::ErrorKind;
 use clap::{Arg, ArgAction, ArgMatches};
 use fn_cert::Version;
+use itoa::Buffer;
 use std::alloc::{AllocError, AllocFailed, Global};
 use thiserror::Error;
 
@@ -35,6 +36,8 @@ pub enum Command {
     Why(Direction),
     /// Counts the formats and the packed bits of the items, by the part `profile`.
     Stats,
+    /// Tells what is read of the items after losses of up to so many packets in a row, by the part `profile`.
+    Loss(u8),
     /// Sends or receives packets of several flows on one line, by the part `profile`.
     Line(End),
 }
@@ -89,12 +92,13 @@ impl From<AllocError> for WordsError {
     }
 }
 
-/// Reads the words that follow the program's name: a command, `pack`, `unpack`, `fields`, `why`, `stats`, `show`, `lint`,
+/// Reads the words that follow the program's name: a command, `pack`, `unpack`, `fields`, `why`, `stats`, `loss`, `show`, `lint`,
 /// `draw`, `check`, `prove` or `line`, and its flags: `--top NAME`, for all commands but `show`, `lint` and `draw` also `--v2`, for `pack`, `unpack`, `fields` and `why` also
-/// `--context`, for `fields` and `why` also `--items`, for `check` and `prove` also `--explain`, and for `line` also `--receive` and `--wide`.
+/// `--context`, for `fields` and `why` also `--items`, for `loss` also `--lost N`, for `check` and `prove` also `--explain`, and for `line` also `--receive` and `--wide`.
 ///
 /// The clauses say it by clap's own account of a command line (`asked_of`), on which clap's parse is
-/// proved exact. Words that ask for help alone are no usage fault. The clauses say nothing of the text, and not
+/// proved exact. N is a decimal number from 0 to 63 without a sign or a leading zero (`lost_is_read`), and 8 where
+/// it isn't given. Words that ask for help alone are no usage fault. The clauses say nothing of the text, and not
 /// which usage fault it tells.
 pub fn read_order<'a>(alloc: Global, words: &'a [&'a str]) -> Result<Order<'a>, WordsError>
     ensures order { IfOk result (λ order. asked_of (map (λ word. word.now) words.entry.now) ≡ Some (asked order)) }
@@ -104,7 +108,7 @@ pub fn read_order<'a>(alloc: Global, words: &'a [&'a str]) -> Result<Order<'a>, 
     match command.try_get_matches_from(words) {
         Ok(matches) => match order_in(&matches) {
             Some(order) => Ok(order),
-            None => Err(WordsError::Usage(format!(in alloc; "{NO_ORDER}\n{INPUT}")?)),
+            None => Err(WordsError::Usage(no_order(alloc, &matches)?)),
         },
         Err(error) => Err(refusal(alloc, &error)?),
     }
@@ -115,6 +119,17 @@ pub fn read_order<'a>(alloc: Global, words: &'a [&'a str]) -> Result<Order<'a>, 
 pub fn words_written_out()
     ensures { ReadsWords }
 {}
+
+/// A law of the texts that `--lost` takes: which ones they are, and which number each asks for.
+#[tactic(auto, using(crate::proofs::WordsNumbers::lost_is_read))]
+pub fn lost_is_read()
+    ensures { ReadsLost }
+{}
+
+// The most that `--lost` may say, and what is taken where it isn't given.
+const MOST_LOST: u8 = 63;
+
+const USUALLY_LOST: &str = "8";
 
 const NO_ORDER: &str = "error: a command and --top NAME are needed\n";
 
@@ -135,6 +150,8 @@ A bundle is read from standard input: parts, each after a line `=== PART`. For e
   rohcfn why --top plain <BUNDLE             profile, packets > why the first that is refused is
   rohcfn why --top plain --items <BUNDLE     profile, items > the same of the first item that is
   rohcfn stats --top plain <BUNDLE           profile, items > the items and packed bits of each format
+  rohcfn loss --top plain <BUNDLE            profile, items > what is read of them after lost packets
+  rohcfn loss --top plain --lost 2 <BUNDLE   the same, where at most 2 in a row are lost, and not 8
   rohcfn line --top plain <BUNDLE            profile, events > octets in hex, then `FLOW ITEM` lines
   rohcfn line --top plain --receive <BUNDLE  profile, octets > `FLOW ITEM` lines
 
@@ -164,12 +181,18 @@ fn program<'a>(alloc: Global) -> Result<clap::Command<'a>, AllocError>
     let reasons = three.subcommand(why)?;
     let stats = with_version(alloc, "stats", "Counts the packed bits of the part items")?;
     let counted = reasons.subcommand(stats)?;
+    let loss = with_lost(
+        alloc,
+        "loss",
+        "Tells what is read of the part items after lost packets",
+    )?;
+    let judged = counted.subcommand(loss)?;
     let show = with_top(
         alloc,
         "show",
         "Shows the methods, bounds and constraints of the part profile",
     )?;
-    let four = counted.subcommand(show)?;
+    let four = judged.subcommand(show)?;
     let lint = with_top(
         alloc,
         "lint",
@@ -228,6 +251,23 @@ fn with_version<'a>(
         .help("Makes a certificate of version 2, where none is given")
         .action(ArgAction::SetTrue);
     with_top(alloc, name, about)?.arg(second)
+}
+
+// A command with the flags `--top` and `--v2`, and the option `--lost`.
+fn with_lost<'a>(
+    alloc: Global,
+    name: &'a str,
+    about: &'a str,
+) -> Result<clap::Command<'a>, AllocError>
+    ensures app { IfOk result (λ command. app_of command ≡ with_lost name.entry.now) }
+    ensures local { IfOk result (λ command. (fields_of command).has_globals ≡ false) }
+{
+    let lost = Arg::new(alloc, "lost")
+        .long("lost")
+        .value_name("N")
+        .help("How many packets in a row are lost at most, 0 to 63")
+        .default_value(USUALLY_LOST);
+    with_version(alloc, name, about)?.arg(lost)
 }
 
 // A command that makes or checks a certificate, with the flags `--top`, `--v2` and `--explain`.
@@ -318,7 +358,8 @@ fn order_in<'a>(matches: &ArgMatches<'a>) -> Option<Order<'a>>
     let receives = is_set(flags.get_str("receive"));
     let packs = is_set(flags.get_str("items"));
     let explains = is_set(flags.get_str("explain"));
-    let command = command_of(name, receives, packs, explains)?;
+    let lost = lost_in(flags.get_str("lost"));
+    let command = command_of(name, receives, packs, explains, lost)?;
     let top = flags.get_str("top")?;
     let shows_context = is_set(flags.get_str("context"));
     let version = version_asked(is_set(flags.get_str("v2")));
@@ -349,8 +390,62 @@ fn is_set(text: Option<&str>) -> bool
     }
 }
 
-fn command_of(name: &str, receives: bool, packs: bool, explains: bool) -> Option<Command>
-    ensures { result ≡ command_named name.now receives packs explains }
+// The number of lost packets in the text of an option.
+fn lost_in(text: Option<&str>) -> Option<u8>
+    ensures { result ≡ lost_in (option_map (λ text. text.now) text.entry) }
+{
+    match text {
+        Some(text) => lost_spelled(text),
+        None => None,
+    }
+}
+
+// The number of lost packets that a text spells, without a sign or a leading zero.
+fn lost_spelled(text: &str) -> Option<u8>
+    ensures { result ≡ lost_spelled text.now }
+{
+    let Ok(lost) = text.parse::<u8>() else {
+        return None;
+    };
+    if lost > MOST_LOST {
+        return None;
+    }
+    let mut buffer = Buffer::new();
+    if buffer.format(lost) == text {
+        Some(lost)
+    } else {
+        None
+    }
+}
+
+// What is told of words that clap takes and that are no order.
+fn no_order<'a>(alloc: Global, matches: &ArgMatches<'a>) -> Result<String, AllocError> {
+    match misspelled(matches) {
+        Some(text) => format!(in alloc;
+            "error: invalid value '{text}' for '--lost <N>': a number from 0 to {MOST_LOST} is needed\n\nFor more information, try '--help'.\n\n{INPUT}"
+        ),
+        None => format!(in alloc; "{NO_ORDER}\n{INPUT}"),
+    }
+}
+
+// What `--lost` has, where that is no such number.
+fn misspelled<'a>(matches: &ArgMatches<'a>) -> Option<&'a str> {
+    let (_, flags) = matches.subcommand()?;
+    let text = flags.get_str("lost")?;
+    if lost_spelled(text).is_some() {
+        return None;
+    }
+    Some(text)
+}
+
+fn command_of(
+    name: &str,
+    receives: bool,
+    packs: bool,
+    explains: bool,
+    lost: Option<u8>,
+) -> Option<Command>
+    ensures { result ≡ command_named name.now receives packs explains lost }
 {
     if name == "pack" {
         Some(Command::Run(Direction::Pack))
@@ -362,6 +457,8 @@ fn command_of(name: &str, receives: bool, packs: bool, explains: bool) -> Option
         Some(Command::Why(direction_of(packs)))
     } else if name == "stats" {
         Some(Command::Stats)
+    } else if name == "loss" {
+        loss_of(lost)
     } else if name == "show" {
         Some(Command::Show)
     } else if name == "lint" {
@@ -376,6 +473,15 @@ fn command_of(name: &str, receives: bool, packs: bool, explains: bool) -> Option
         Some(Command::Line(end_of(receives)))
     } else {
         None
+    }
+}
+
+fn loss_of(lost: Option<u8>) -> Option<Command>
+    ensures { result ≡ option_map Command.Loss lost }
+{
+    match lost {
+        Some(lost) => Some(Command::Loss(lost)),
+        None => None,
     }
 }
 

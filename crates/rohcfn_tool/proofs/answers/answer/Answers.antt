@@ -1,6 +1,7 @@
 use Rattle.std.proofs.Common.{refl, subst}
 use Rattle.rohcfn_tool.specs.Line.{Lined}
-use Rattle.rohcfn_tool.specs.Printed.{Answered, AnsweredRun, no_profile, shown, linted, drawn, checked, proved, check_explained, prove_explained, ran, told, explained, lined, stated, Stated}
+use Rattle.rohcfn_tool.specs.declared.stats.Survey.TheVariants as survey
+use Rattle.rohcfn_tool.specs.Printed.{Answered, AnsweredRun, no_profile, shown, linted, drawn, checked, proved, check_explained, prove_explained, ran, told, explained, lined, stated, lost_told, Stated}
 use Rattle.rohcfn_tool.specs.declared.packets.Shape.TheVariants.{Line, Tree, Why}
 use Rattle.rohcfn_report.specs.Explained.{Explained}
 use Rattle.rohcfn_report.specs.Surveys.{DrawnBy}
@@ -60,4 +61,8 @@ returns-in-Line c =
 
 pub returns-in-Stats : goal.returns-in-Stats
 returns-in-Stats c =
-    passed_on (Stated c.args.order.now c.in-Some.profile.now c.args.parts.now) (Answered c.args.order.now c.args.parts.now) c.answer_stats.result (λ s out h. stated c.in-Some.profile c.in-Some.is c.in-Stats.is h) c.answer_stats.ensures
+    passed_on (Stated survey.Stats c.args.order.now c.in-Some.profile.now c.args.parts.now) (Answered c.args.order.now c.args.parts.now) c.answer_stats.result (λ s out h. stated c.in-Some.profile c.in-Some.is c.in-Stats.is h) c.answer_stats.ensures
+
+pub returns-in-Loss : goal.returns-in-Loss
+returns-in-Loss c =
+    passed_on (Stated (survey.Loss c.in-Loss.most) c.args.order.now c.in-Some.profile.now c.args.parts.now) (Answered c.args.order.now c.args.parts.now) c.answer_stats-in-Loss.result (λ s out h. lost_told c.in-Some.profile c.in-Loss.most c.in-Some.is c.in-Loss.is h) c.answer_stats-in-Loss.ensures

@@ -18,9 +18,10 @@ returns c =
     let three = c.in_ok-three.ensures.shape c.in_ok-fields.ensures.local ∙ ap₂ with_subcommand two (ap (λ (a : App). a.top) c.in_ok-fields.ensures.app) in
     let reasons = c.in_ok-reasons.ensures.shape c.in_ok-why.ensures.local ∙ ap₂ with_subcommand three (ap (λ (a : App). a.top) c.in_ok-why.ensures.app) in
     let counted = c.in_ok-counted.ensures.shape c.in_ok-stats.ensures.local ∙ ap₂ with_subcommand reasons (ap (λ (a : App). a.top) c.in_ok-stats.ensures.app) in
-    let four = c.in_ok-four.ensures.shape c.in_ok-show.ensures.local ∙ ap₂ with_subcommand counted (ap (λ (a : App). a.top) c.in_ok-show.ensures.app) in
+    let judged = c.in_ok-judged.ensures.shape c.in_ok-loss.ensures.local ∙ ap₂ with_subcommand counted (ap (λ (a : App). a.top) c.in_ok-loss.ensures.app) in
+    let four = c.in_ok-four.ensures.shape c.in_ok-show.ensures.local ∙ ap₂ with_subcommand judged (ap (λ (a : App). a.top) c.in_ok-show.ensures.app) in
     let five = c.in_ok-five.ensures.shape c.in_ok-lint.ensures.local ∙ ap₂ with_subcommand four (ap (λ (a : App). a.top) c.in_ok-lint.ensures.app) in
     let drawn = c.in_ok-drawn.ensures.shape c.in_ok-draw.ensures.local ∙ ap₂ with_subcommand five (ap (λ (a : App). a.top) c.in_ok-draw.ensures.app) in
     let six = c.in_ok-six.ensures.shape c.in_ok-check.ensures.local ∙ ap₂ with_subcommand drawn (ap (λ (a : App). a.top) c.in_ok-check.ensures.app) in
     let seven = c.in_ok-seven.ensures.shape c.in_ok-prove.ensures.local ∙ ap₂ with_subcommand six (ap (λ (a : App). a.top) c.in_ok-prove.ensures.app) in
-    IfOk-weaker c.subcommand-11.result _ _ (λ command adds. adds.shape c.in_ok-line.ensures.local ∙ ap₂ with_subcommand seven (ap (λ (a : App). a.top) c.in_ok-line.ensures.app)) c.subcommand-11.ensures
+    IfOk-weaker c.subcommand-12.result _ _ (λ command adds. adds.shape c.in_ok-line.ensures.local ∙ ap₂ with_subcommand seven (ap (λ (a : App). a.top) c.in_ok-line.ensures.app)) c.subcommand-12.ensures

@@ -1,0 +1,10 @@
+pub mod Moving
+pub mod Alone
+pub mod Listing
+pub mod Reach
+pub mod Agreeing
+pub mod Running
+pub mod Surviving
+pub mod Pathing
+pub mod Covering
+pub mod Holdings

@@ -1,0 +1,6 @@
+pub mod Hearing
+pub mod Unserved
+pub mod Judging
+pub mod Scores
+pub mod Laws
+pub mod Losses

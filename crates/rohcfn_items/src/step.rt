@@ -1,0 +1,94 @@
+//! By which step a number has gone on from its reference, and which steps `lsb` takes.
+
+ghost use Rattle.std.specs.Prelude.{◌≡◌, ◌<◌, ◌≤◌, ◌^◌};
+ghost use Rattle.std.specs.Int.RustNames.{unsigned_abs};
+ghost use Rattle.rohcfn_items.specs.Step as spec;
+
+use fn_bits::Bits;
+use fn_loss::{Referring, Unserved};
+
+/// The step of a number, and the first and the last step that are taken.
+#[derive(Clone, Copy)]
+pub(crate) struct Step {
+    pub(crate) step: i128,
+    pub(crate) from: i128,
+    pub(crate) to: i128,
+}
+
+/// The step of a use of `lsb` that doesn't serve, where the reference has as many bits as the field, 64 at most, and the arguments are of that size.
+pub(crate) fn step_of(unserved: &Unserved) -> Option<Step>
+    ensures { result ≡ spec.step_of unserved.now }
+{
+    match (unserved.method, &unserved.reference) {
+        (Referring::Lsb { bits, offset }, Some(reference)) => {
+            near_step(bits, offset, reference, &unserved.needed)
+        }
+        _ => None,
+    }
+}
+
+fn near_step(bits: i128, offset: i128, reference: &Bits, needed: &Bits) -> Option<Step>
+    ensures { result ≡ spec.near_step bits offset reference.now needed.now }
+{
+    if reference.len() != needed.len() || offset.unsigned_abs() > 1 << 64 {
+        return None;
+    }
+    let Ok(count) = usize::try_from(bits) else {
+        return None;
+    };
+    if count > 64 {
+        return None;
+    }
+    let from = reference.value()?;
+    let to = needed.value()?;
+    let step = step_between(needed.len(), from, to);
+    Some(steps(count, offset, step))
+}
+
+/// That step, and the steps that `lsb(count, offset)` takes.
+fn steps(count: usize, offset: i128, step: i128) -> Step
+    requires few { count ≤ 64 }
+    requires small { unsigned_abs offset ≤ 2 ^ 64 }
+    ensures { result ≡ spec.steps count offset step }
+{
+    Step {
+        step,
+        from: -offset,
+        to: power(count) as i128 - offset - 1,
+    }
+}
+
+/// The step from one number of so many bits to another, modulo two to the power of these: from minus half of that on, below half of it.
+fn step_between(length: usize, from: u64, to: u64) -> i128
+    requires short { length ≤ 64 }
+    requires from { from < 2 ^ length }
+    requires to { to < 2 ^ length }
+    ensures { result ≡ spec.step_between length from to }
+{
+    let all = power(length);
+    nearest(all, (to as u128 + all - from as u128) % all)
+}
+
+/// So many of all numbers further on, or back, whichever is nearer.
+fn nearest(all: u128, ahead: u128) -> i128
+    requires some { ahead < all }
+    requires few { all ≤ 2 ^ 64 }
+    ensures { result ≡ spec.nearest all ahead }
+{
+    if ahead * 2 < all {
+        ahead as i128
+    } else {
+        ahead as i128 - all as i128
+    }
+}
+
+/// How many numbers so many bits spell.
+#[tactic(auto, using(crate::proofs::LossNumbers::few, crate::proofs::LossNumbers::some))]
+fn power(count: usize) -> u128
+    requires { count ≤ 64 }
+    ensures value { result ≡ 2 ^ count }
+    ensures some { 1 ≤ result }
+    ensures few { result ≤ 2 ^ 64 }
+{
+    1 << count
+}

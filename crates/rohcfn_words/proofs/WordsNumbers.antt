@@ -1,0 +1,63 @@
+-- The numbers that texts spell.
+use Rattle.std.proofs.Common.{◌≡◌, ◌≢◌, ◌∙◌, sym, ap, subst, refl, ℕ, ◌<◌, ◌&&◌, Bool, true, false, List, Some, None, nat_lt, arith, if◌then◌else◌, codes, option_map}
+use Rattle.std.specs.Prelude.{decimal}
+use Rattle.std.specs.Str.{bytes_eq}
+use Rattle.std.specs.Str.Parse.{digits_value}
+use Rattle.std.proofs.lemmas.Bool.{ltb-true, lt-ltb}
+use Rattle.std.proofs.lemmas.Fmt.{decimal_is_IsNumeral}
+use Rattle.std.proofs.lemmas.Slice.Eq.{bytes_eq-Decides}
+use Rattle.clap.specs.Words.{Row, first_of}
+use Rattle.rohcfn_words.specs.declared.words.Command.TheVariants.{Loss}
+use Rattle.rohcfn_words.specs.Words.{Asked, ReadsLost, asked_by, asked_in, is_set, lost_in, lost_spelled}
+
+both_true : (a b : Bool) → (a && b) ≡ true → (a ≡ true) × (b ≡ true)
+both_true true b h = (refl, h)
+both_true false b h = absurd cc
+
+given : {A : Type 0} (b : Bool) (x y : A) → (if b then Some x else None) ≡ Some y → (b ≡ true) × (x ≡ y)
+given true x y h = (refl, cc)
+given false x y h = absurd cc
+
+not_given : {A : Type 0} (b : Bool) (x : A) → ¬ (b ≡ true) → (if b then Some x else None) ≡ None
+not_given true x h = absurd (h refl)
+not_given false x h = refl
+
+spelled_at : (n v : ℕ) (text : List ℕ) → v ≡ n → n < 64 → decimal n ≡ text → (if bytes_eq (decimal v) text && nat_lt v 64 then Some v else None) ≡ Some n
+spelled_at n v text e below d =
+    subst (λ w. (if bytes_eq (decimal w) text && nat_lt w 64 then Some w else None) ≡ Some n) (sym e)
+    (λ i. if (bytes_eq-Decides (decimal n) text).1 d i && lt-ltb n 64 below i then Some n else None)
+
+-- the digits of a number below 64 spell it
+pub spelled_some : (n : ℕ) (text : List ℕ) → n < 64 → decimal n ≡ text → lost_spelled text ≡ Some n
+spelled_some n text below d = spelled_at n (digits_value 10 text) text (ap (digits_value 10) (sym d) ∙ (decimal_is_IsNumeral n (omega arith)).1) below d
+
+-- what spells a number is its digits
+pub spelled_means : (n : ℕ) (text : List ℕ) → lost_spelled text ≡ Some n → (text ≡ decimal n) × (n < 64)
+spelled_means n text h =
+    let w = given _ _ _ h in
+    let b = both_true _ _ w.0 in
+    (sym ((bytes_eq-Decides _ _).0 b.0) ∙ ap decimal w.1, subst (λ x. x < 64) w.1 (ltb-true _ _ b.1))
+
+-- what is the digits of no number below 64 spells none
+pub spelled_none : (text : List ℕ) → ((n : ℕ) → n < 64 → text ≡ decimal n → ⊥) → lost_spelled text ≡ None
+spelled_none text h = not_given _ _ (λ t.
+    let b = both_true _ _ t in
+    h (digits_value 10 text) (ltb-true _ _ b.1) (sym ((bytes_eq-Decides _ _).0 b.0)))
+
+number_asked : (rows : List Row) (n : ℕ) (top : List ℕ) → n < 64 → first_of (codes "lost") rows ≡ Some (decimal n) → first_of (codes "top") rows ≡ Some top
+    → option_map (λ (a : Asked). a.command) (asked_in (Some (codes "loss", rows))) ≡ Some (Loss n)
+number_asked rows n top below l t =
+    let lost : lost_in (first_of (codes "lost") rows) ≡ Some n = ap lost_in l ∙ spelled_some n (decimal n) below refl in
+    λ i. option_map (λ (a : Asked). a.command) (asked_by (option_map Loss (lost i)) (t i) (is_set (first_of (codes "context") rows)) (is_set (first_of (codes "v2") rows)) (is_set (first_of (codes "wide") rows)))
+
+other_refused : (rows : List Row) (text : List ℕ) → first_of (codes "lost") rows ≡ Some text → ((n : ℕ) → n < 64 → text ≢ decimal n) → asked_in (Some (codes "loss", rows)) ≡ None
+other_refused rows text l other =
+    let lost : lost_in (first_of (codes "lost") rows) ≡ None = ap lost_in l ∙ spelled_none text other in
+    λ i. asked_by (option_map Loss (lost i)) (first_of (codes "top") rows) (is_set (first_of (codes "context") rows)) (is_set (first_of (codes "v2") rows)) (is_set (first_of (codes "wide") rows))
+
+pub lost_is_read : ReadsLost
+lost_is_read = record {
+  spelled = λ text n. (spelled_means n text, λ h. spelled_some n text h.1 (sym h.0));
+  asks = number_asked;
+  refuses = other_refused;
+}
