@@ -12,7 +12,7 @@ use Rattle.fn_elsewhere.proofs.Agreeing.{repaired}
 use Rattle.fn_elsewhere.proofs.Running.{right_where_survives}
 
 -- one that is held is held of what is the same map
-held_as : (held : List Holding) (gap gap' : ℕ) (ctx other : Entries) → IsHeld held gap ctx → gap ≡ gap' → ((path : Path) → bits_at ctx path ≡ bits_at other path) → IsHeld held gap' other
+pub held_as : (held : List Holding) (gap gap' : ℕ) (ctx other : Entries) → IsHeld held gap ctx → gap ≡ gap' → ((path : Path) → bits_at ctx path ≡ bits_at other path) → IsHeld held gap' other
 held_as held gap gap' ctx other h e same = record { place = h.place; one = h.one; at = h.at; gap_is = h.gap_is ∙ e; same = λ path. h.same path ∙ same path }
 
 module _ (methods : List Method) (top n : ℕ) where

@@ -31,7 +31,7 @@ use Rattle.fn_profile.specs.Alike.{AreAlike}
 use Rattle.fn_elsewhere.specs.Paths.{CallAlike, SamePaths}
 
 -- whether a path has an entry
-abbrev has : Entries → Path → Bool
+abbrev pub has : Entries → Path → Bool
 has es q = is_some (bits_at es q)
 
 has-append : (xs ys : Entries) (q : Path) → has (xs ++ ys) q ≡ (has xs q || has ys q)
@@ -48,7 +48,7 @@ either_way true false = refl
 either_way false true = refl
 either_way false false = refl
 
-has-reverse : (xs : Entries) (q : Path) → has (reverse xs) q ≡ has xs q
+pub has-reverse : (xs : Entries) (q : Path) → has (reverse xs) q ≡ has xs q
 has-reverse [] q = refl
 has-reverse (x ∷ xs) q =
     ap (λ l. has l q) (reverse-append (x ∷ []) xs) ∙ has-append (reverse xs) (x ∷ []) q ∙ ap (λ b. b || has (x ∷ []) q) (has-reverse xs q)

@@ -14,7 +14,7 @@ use Rattle.fn_engine.specs.Reading.{Fitting, Fronts}
 use Rattle.fn_elsewhere.specs.Runs.{Survives, all_survive, survives, Arrives, nothing, arrives}
 use Rattle.fn_elsewhere.proofs.Surviving.{loss_fits}
 use Rattle.fn_elsewhere.proofs.Covering.{covers}
-use Rattle.fn_loss.specs.Losses.{Unpacks, unpacks_none, unpacks, Refuses, refuses_here, refuses_later, SurvivesLosses, SurvivesLossesAlike}
+use Rattle.fn_loss.specs.Losses.{Unpacks, unpacks_none, unpacks, Refuses, refuses_here, refuses_later, AreReadBack, SurvivesLosses, SurvivesLossesAlike}
 
 module _ (a : Accepting) (det : IsDeterminate a) where
   at_front : (other : Entries) (f : Filling) (bits rest more : List Bool) → bits ≡ packed f ++ rest → Fitting a other f → Fronts a other (bits ++ more) f
@@ -56,14 +56,16 @@ module _ (a : Accepting) (det : IsDeterminate a) where
       let same : r.filling ≡ f = one other f bits rest old new r is it_fits at read in
       refusals (next other f) s later (subst (λ z. Refuses a (next other z) more e) same on)
 
+-- what comes through of fillings that fit where they come is read back
+pub read_back : (a : Accepting) → IsDeterminate a → (other : Entries) (got : List Filling) (bits : List (List Bool)) → Survives a.profile.methods a.profile.top other got → Arrives got bits → AreReadBack a other got bits
+read_back a det other got bits s come = record {
+  fillings_are = λ rs read. fillings a det other s come read;
+  headers_are = λ rs read. headers a det other read ∙ ap (map (λ f. header f)) (fillings a det other s come read);
+  never_refused = λ e h. refusals a det other s come h;
+}
+
 pub survives_losses : SurvivesLosses
-survives_losses a det n ctx other same fs got bits sent through come =
-    let s = loss_fits a.profile.methods a.profile.top n ctx other same fs got sent through in
-    record {
-      fillings_are = λ rs read. fillings a det other s come read;
-      headers_are = λ rs read. headers a det other read ∙ ap (map (λ f. header f)) (fillings a det other s come read);
-      never_refused = λ e h. refusals a det other s come h;
-    }
+survives_losses a det n ctx other same fs got bits sent through come = read_back a det other got bits (loss_fits a.profile.methods a.profile.top n ctx other same fs got sent through) come
 
 pub survives_losses_alike : SurvivesLossesAlike
 survives_losses_alike a det alike calls n ctx other same fs got bits sent through come =

@@ -1,13 +1,17 @@
 -- What isn't told serves.
 use Rattle.std.proofs.Common.{◌≡◌, refl, subst, zero, suc, List, [], ◌++◌}
-use Rattle.fn_context.specs.Entries.{bits_at}
+use Rattle.std.specs.Prelude.{◌↔◌}
+use Rattle.fn_accepted.specs.Accepted.{Accepting}
+use Rattle.fn_context.specs.Entries.{Entries, bits_at}
+use Rattle.fn_engine.specs.Reading.{Fitting}
+use Rattle.fn_filling.specs.declared.filling.Filling.{Filling}
 use Rattle.fn_fits.specs.Fits.{Context}
 use Rattle.fn_elsewhere.specs.Uses.{Use, Serves}
 use Rattle.fn_elsewhere.specs.Listed.{IsAmong}
 use Rattle.fn_elsewhere.proofs.Listing.{are_its_uses}
 use Rattle.fn_elsewhere.proofs.Moving.{fits_elsewhere}
 use Rattle.fn_loss.specs.declared.unserved.Unserved.{Unserved}
-use Rattle.fn_loss.specs.Unserved.{AreUnserved, none_used, it_serves, it_fails}
+use Rattle.fn_loss.specs.Unserved.{AreUnserved, HasUnserved, none_used, it_serves, it_fails}
 use Rattle.fn_loss.specs.Laws.{FitsWhereNoneIsTold}
 
 none_told : {ctx : Context} {us : List Use} {xs : List Unserved} → AreUnserved ctx us xs → ((u : Use) → IsAmong u us → Serves ctx u) → xs ≡ []
@@ -27,11 +31,15 @@ joined none_used more = more
 joined (it_serves s rest) more = it_serves s (joined rest more)
 joined (it_fails fails t rest) more = it_fails fails t (joined rest more)
 
-pub fits_where_none_is_told : FitsWhereNoneIsTold
-fits_where_none_is_told a ctx other it p packed told has =
+-- a filling that fits in one context fits in another just where nothing is told of it there
+pub fits_where_none : (a : Accepting) (ctx other : Entries) (f : Filling) → Fitting a ctx f → (told : List Unserved) → HasUnserved a.profile.methods (bits_at other) a.profile.top [] [] f told → Fitting a other f ↔ (told ≡ [])
+fits_where_none a ctx other f here told has =
     let methods = a.profile.methods in
-    let listed = are_its_uses methods a.profile.top [] [] p.filling has.uses has.uses_are in
-    let moved = fits_elsewhere methods a.profile.top (bits_at ctx) (bits_at other) [] [] p.filling packed.best.fits in (
+    let listed = are_its_uses methods a.profile.top [] [] f has.uses has.uses_are in
+    let moved = fits_elsewhere methods a.profile.top (bits_at ctx) (bits_at other) [] [] f here in (
       λ there. none_told has.unserved (λ u among. moved.0 there u ((listed u).1 among)),
       λ none. moved.1 (λ u used. all_serve has.unserved none u ((listed u).0 used)),
     )
+
+pub fits_where_none_is_told : FitsWhereNoneIsTold
+fits_where_none_is_told a ctx other it p packed told has = fits_where_none a ctx other p.filling packed.best.fits told has

@@ -1,0 +1,65 @@
+-- What is held after a filling.
+use Rattle.std.proofs.Common.{◌≡◌, ◌∙◌, refl, sym, ap, subst, ℕ, zero, suc, ◌<◌, inl, inr, List, [], ◌∷◌, ◌++◌}
+use Rattle.std.specs.Prelude.{Some, slice_get}
+use Rattle.fn_context.specs.Entries.{Entries, bits_at}
+use Rattle.fn_filling.specs.declared.filling.Filling.{Filling}
+use Rattle.fn_filling.specs.Entries.{next}
+use Rattle.fn_elsewhere.specs.Held.{Holding, IsHeld, GoOn}
+use Rattle.fn_robust.specs.Sending.{AreHeldAfter, ComesFrom, HaveCome, IsSamePair, Sending, held, stayed, was_lost, was_read}
+use Rattle.fn_robust.proofs.Staying.{apart_joined, apart_stayed, at_either, at_left, at_right, past, stays_from, stays_there}
+
+some_same : {A : Type 0} {x y : A} → Some x ≡ Some y → x ≡ y
+some_same e = cc
+
+module _ (s : Sending) (f : Filling) (own : Entries) (own_is : own ≡ next s.own f) (found : List Holding) (c : HaveCome own s.others f found) where
+  abbrev came : List Holding
+  came = record { gap = 0; context = own } ∷ found
+
+  -- all that is held then
+  abbrev after : List Holding
+  after = came ++ stayed s.lost (held s)
+
+  first : (h : Holding) → record { gap = 0; context = s.own } ≡ h → IsHeld after 0 (next h.context f)
+  first h same = record { place = 0; one = record { gap = 0; context = own }; at = refl; gap_is = refl; same = λ path. ap (λ z. bits_at z path) (own_is ∙ ap (λ (g : Holding). next g.context f) same) }
+
+  read : (i : ℕ) (h : Holding) → slice_get (held s) i ≡ Some h → IsHeld after 0 (next h.context f)
+  read zero h at = first h (some_same at)
+  read (suc i) h at = let r = c.all i h at in record { place = r.place; one = r.one; at = at_left came (stayed s.lost (held s)) r.place r.one r.at; gap_is = r.gap_is; same = r.same }
+
+  lost : (i : ℕ) (h : Holding) → slice_get (held s) i ≡ Some h → h.gap < s.lost → IsHeld after (suc h.gap) h.context
+  lost i h at under =
+      let r = stays_there s.lost (held s) i h at under in
+      record { place = past came r.0; one = record { gap = suc h.gap; context = h.context }; at = at_right came (stayed s.lost (held s)) r.0 (record { gap = suc h.gap; context = h.context }) r.1; gap_is = refl; same = λ path. refl }
+
+  of_first : (i : ℕ) (g : Holding) → slice_get came i ≡ Some g → ComesFrom s.lost (held s) f g
+  of_first zero g at =
+      let here : record { gap = 0; context = own } ≡ g = some_same at in
+      let same : record { gap = 0; context = next s.own f } ≡ g = ap (λ z. record { gap = 0; context = z }) (sym own_is) ∙ here in
+      subst (ComesFrom s.lost (held s) f) same (was_read 0 (record { gap = 0; context = s.own }) refl)
+  of_first (suc i) g at = let r = c.only i g at in subst (ComesFrom s.lost (held s) f) (sym r.pair_is) (was_read (suc r.place) r.one r.at)
+
+  only : (i : ℕ) (g : Holding) → slice_get after i ≡ Some g → ComesFrom s.lost (held s) f g
+  only i g at =
+      elim (at_either came (stayed s.lost (held s)) i g at) [
+        | inl here ↦ of_first i g here
+        | inr later ↦
+            let r = stays_from s.lost (held s) later.0 g later.2 in
+            subst (ComesFrom s.lost (held s) f) (sym r.pair_is) (was_lost r.place r.one r.at r.under)
+      ]
+
+  no_gap : (i : ℕ) (g : Holding) → slice_get came i ≡ Some g → g.gap ≡ 0
+  no_gap zero g at = let same : record { gap = 0; context = own } ≡ g = some_same at in ap (λ (z : Holding). z.gap) (sym same)
+  no_gap (suc i) g at = ap (λ (z : Holding). z.gap) (c.only i g at).pair_is
+
+  across : (i j : ℕ) (g h : Holding) → slice_get came i ≡ Some g → slice_get (stayed s.lost (held s)) j ≡ Some h → IsSamePair g h → ⊥
+  across i j g h at_i at_j same =
+      let r = stays_from s.lost (held s) j h at_j in
+      let never : 0 ≡ suc r.one.gap = sym (no_gap i g at_i) ∙ same.0 ∙ ap (λ (z : Holding). z.gap) r.pair_is in
+      cc
+
+  pub held_after : AreHeldAfter s.lost (held s) after f
+  held_after = record {
+    all = record { came = read; lost = lost };
+    only = only;
+    once = λ apart. apart_joined came (stayed s.lost (held s)) c.once (apart_stayed s.lost (held s) apart) across;
+  }

@@ -1,0 +1,5 @@
+pub mod Comings
+pub mod Staying
+pub mod Searches
+pub mod Going
+pub mod Harmless

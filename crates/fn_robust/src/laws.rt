@@ -1,0 +1,14 @@
+//! Laws of packets that survive losses.
+
+ghost use Rattle.fn_robust.specs.Laws as laws;
+
+/// Of what the robust sender packed, each packet that comes through is read as its item, by any receiver that calls `unpack` and began in the sender's context,
+/// whatever is lost, never more than so many in a row; and the receiver's context is always one of those held.
+pub fn loss_does_no_harm()
+    ensures { laws.LossDoesNoHarm }
+{}
+
+/// Where no packet may be lost, the robust sender answers what `pack` does.
+pub fn as_pack()
+    ensures { laws.AsPack }
+{}

@@ -1,0 +1,149 @@
+//! The sender.
+
+ghost use Rattle.std.specs.Prelude.{◌≡◌, ◌+◌, ◌≤◌, ◌++◌, [], length, vec_len, vec_capacity, IfOk, IfErr, OnOk, OnErr};
+ghost use Rattle.fn_robust.specs.Sending as sending;
+ghost use Rattle.fn_robust.specs.Answers as spec;
+
+use crate::coming::{next_of, others_of};
+use crate::held::{Held, keep_staying, staying};
+use crate::searching::best_for_all;
+use fn_accepted::Accepted;
+use fn_context::Context;
+use fn_engine::{PackFault, Packed};
+use fn_filling::{Filling, Item};
+use std::alloc::{AllocError, Global};
+use std::marker::Model;
+use std::mem::swap;
+
+/// How many pairs of a context and of packets lost right before it may be held.
+pub const PAIR_LIMIT: usize = 256;
+
+/// Why the robust sender packs no packet.
+#[derive(Drop)]
+pub enum RobustFault {
+    /// What `pack` answers in the sender's own context.
+    Pack(PackFault),
+    /// A filling that fits there has the item, but none that fits in all contexts that a receiver may hold.
+    NoReach,
+    /// After the best of these more than 256 pairs would be held.
+    Contexts,
+}
+
+impl From<AllocError> for RobustFault {
+    ghost use Rattle.std.specs.Prelude.{◌≡◌};
+    ghost use Rattle.fn_robust.specs.declared.sender.RobustFault.TheVariants as fault;
+    ghost use Rattle.fn_engine.specs.declared.writer.PackFault.TheVariants.{OutOfMemory};
+
+    ghost from_gives = { λ _ e. e ≡ fault.Pack OutOfMemory };
+
+    fn from(_error: AllocError) -> RobustFault {
+        RobustFault::Pack(PackFault::OutOfMemory)
+    }
+}
+
+/// A sender that packs each item so that a receiver reads it as that, to which never more than so many packets in a row were lost. It keeps each context that such
+/// a receiver may hold, with the number of packets that were lost right before.
+#[derive(Drop)]
+pub struct Robust {
+    own: Context,
+    others: Vec<Held>,
+    lost: usize,
+}
+
+impl Model for Robust {
+    ghost use Rattle.fn_robust.specs.Sending.{Sending};
+
+    ghost Value = { Sending };
+
+    ghost view = { λ r. record { own = r.own; others = r.others.items; lost = r.lost } };
+}
+
+impl Robust {
+    /// The sender and the receiver begin in this context, and so many packets in a row may be lost.
+    pub fn new(alloc: Global, context: &Context, lost: u8) -> Result<Robust, AllocError>
+        ensures { IfOk result (λ r. r ≡ record { own = context.now; others = []; lost = lost }) }
+    {
+        Ok(Robust {
+            own: context.copy(alloc)?,
+            others: Vec::new(alloc),
+            lost: lost as usize,
+        })
+    }
+
+    /// How many pairs of a context and a number of lost packets a receiver may hold.
+    pub fn held(&self) -> usize
+        ensures { result ≡ length (sending.held self.now) }
+    {
+        self.others.len() + 1
+    }
+
+    /// The sender's own context, which a receiver holds that lost nothing.
+    pub fn context(&self) -> &Context
+        ensures { result.now ≡ self.now.own }
+    {
+        &self.own
+    }
+
+    /// Writes the packed bits of an item, by the best filling that has it and fits in each context held. It goes on to what a receiver may hold then. A refusal
+    /// leaves it as it was.
+    pub fn pack(
+        &mut self,
+        alloc: Global,
+        accepted: &Accepted,
+        item: &Item,
+    ) -> Result<Packed, RobustFault>
+        ensures sent { IfOk result (λ p. spec.IsSent accepted.now self.old item.now p self.new) }
+        // Pack: what `pack` answers in the own context. NoReach: a filling that fits there has the item, but none that fits in all. Contexts: the best of these leaves more than 256 pairs.
+        ensures fault { IfErr result (λ e. spec.Blames e accepted.now self.old item.now) }
+        ensures stays { OnErr result (self.new ≡ self.old) }
+    {
+        let packed = best_for_all(alloc, accepted, &self.own, self.others.as_slice(), item)?;
+        match self.go_on(alloc, &packed.filling) {
+            Ok(()) => Ok(packed),
+            Err(fault) => Err(fault),
+        }
+    }
+
+    /// Goes on to what a receiver may hold after this filling.
+    fn go_on(&mut self, alloc: Global, filling: &Filling) -> Result<(), RobustFault>
+        ensures ok { OnOk result (spec.GoesOn self.old filling.now self.new) }
+        ensures fault { IfErr result (λ e. spec.Overflows e self.old filling.now) }
+        ensures stays { OnErr result (self.new ≡ self.old) }
+    {
+        let own = next_of(alloc, &self.own, filling)?;
+        let mut came = others_of(alloc, &own, self.others.as_slice(), filling)?;
+        let kept = self.staying();
+        if came.len().saturating_add(kept) >= PAIR_LIMIT {
+            return Err(RobustFault::Contexts);
+        }
+        came.reserve(kept)?;
+        self.put(own, came);
+        Ok(())
+    }
+
+    /// How many of the pairs stay held where the next packet is lost.
+    fn staying(&self) -> usize
+        ensures { result ≡ length (sending.stayed self.now.lost (sending.held self.now)) }
+    {
+        let others = staying(self.others.as_slice(), self.lost);
+        if self.lost > 0 { others + 1 } else { others }
+    }
+
+    /// Puts what came of the pairs in their place, before those of them that stay, for which there is room.
+    fn put(&mut self, own: Context, came: Vec<Held>)
+        requires { vec_len came + length (sending.stayed self.old.lost (sending.held self.old)) ≤ vec_capacity came }
+        ensures { self.new ≡ record { own = own; others = came.items ++ sending.stayed self.old.lost (sending.held self.old); lost = self.old.lost } }
+    {
+        let mut own = own;
+        let mut others = came;
+        swap(&mut self.own, &mut own);
+        swap(&mut self.others, &mut others);
+        if self.lost > 0 {
+            self.others.push_reserved(Held {
+                gap: 1,
+                context: own,
+            });
+        }
+        keep_staying(&mut self.others, others, self.lost);
+    }
+}
