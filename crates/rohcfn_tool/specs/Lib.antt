@@ -3,6 +3,7 @@ pub mod Events
 pub mod FaultLaws
 pub mod Line
 pub mod Refused
+pub mod Senders
 pub mod Loss
 pub mod Printed
 pub mod Program

@@ -2,14 +2,12 @@
 use Rattle.std.specs.Prelude.{◌≡◌, ℕ, ◌+◌, nat_eq, nat_lt, List, [], ◌∷◌, ◌++◌, drop, length, map, Option, Some, None, string_bytes, if◌then◌else◌}
 use Rattle.fn_accepted.specs.Accepted.{Accepting}
 use Rattle.fn_context.specs.Entries.{Entries}
-use Rattle.fn_engine.specs.Writing as writing
 use Rattle.fn_engine.specs.declared.search.Packed.{Packed}
-use Rattle.fn_engine.specs.declared.writer.PackFault.{PackFault}
-use Rattle.fn_filling.specs.Entries.{next}
+use Rattle.fn_robust.specs.declared.sender.RobustFault.{RobustFault}
 use Rattle.fn_filling.specs.declared.filling.Filling.{Filling}
 use Rattle.fn_filling.specs.declared.filling.Item.{Item}
 use Rattle.fn_loss.specs.declared.judging.Journal.{Journal}
-use Rattle.fn_loss.specs.Judging.{AddsAll, AreHeard, Entry, IsJournal, back}
+use Rattle.fn_loss.specs.Judging.{AddsAll, AreHeard, Entry, IsJournal}
 use Rattle.fn_stats.specs.declared.counts.Count.{Count}
 use Rattle.fn_stats.specs.Counts.{counted, tally_all}
 use Rattle.rohcfn_input.specs.OneLine.{IsLine}
@@ -18,7 +16,8 @@ use Rattle.rohcfn_input.specs.declared.status.Answer.{Answer}
 use Rattle.rohcfn_input.specs.declared.status.Status.{Status}
 use Rattle.rohcfn_input.specs.declared.status.Status.TheVariants as status
 use Rattle.rohcfn_items.specs.Loss.{loss_text}
-use Rattle.rohcfn_tool.specs.Refused.{IsItemFault, RefusesItem}
+use Rattle.rohcfn_tool.specs.Senders.{Blames, IsSenderFault, RefusesSent, Sends, own_of}
+use Rattle.rohcfn_tool.specs.declared.sender.Sender.{Sender}
 
 -- ---- the contexts that are held
 
@@ -36,58 +35,46 @@ held_after most n held c = fewer most (kept n held ++ c ∷ [])
 
 -- ---- packet by packet
 
--- Each item of these is packed in the newest of the held contexts, and receivers in each of these hear its packet: the fillings, and what is heard.
-pub data Loses (a : Accepting) (most : ℕ) : List Entries → ℕ → List Item → List Filling → List Entry → Type 0 where
-  none_left : {held : List Entries} {n : ℕ} → Loses a most held n [] [] []
-  one_sent : {held : List Entries} {n : ℕ} {it : Item} {its : List Item} {fs : List Filling} {es more : List Entry} (c : Entries) (p : Packed) → back held 0 ≡ Some c → writing.IsPacked a c it p
-      → AreHeard a held n it p (length held) es → Loses a most (held_after most n held (next c p.filling)) (n + 1) its fs more → Loses a most held n (it ∷ its) (p.filling ∷ fs) (es ++ more)
+-- The sender packs each of these items, and receivers in each of the held contexts hear its packet: the fillings, and what is heard. The context of the sender
+-- after it is held then.
+pub data Loses (a : Accepting) (most : ℕ) : Sender → List Entries → ℕ → List Item → List Filling → List Entry → Type 0 where
+  none_left : {s : Sender} {held : List Entries} {n : ℕ} → Loses a most s held n [] [] []
+  one_lost : {s : Sender} {held : List Entries} {n : ℕ} {it : Item} {its : List Item} {fs : List Filling} {es more : List Entry} (p : Packed) (after : Sender) → Sends a s it p after
+      → AreHeard a held n it p (length held) es → Loses a most after (held_after most n held (own_of after)) (n + 1) its fs more → Loses a most s held n (it ∷ its) (p.filling ∷ fs) (es ++ more)
 
 -- The first of these that is refused has this line.
-pub data IsLossFault (a : Accepting) (most : ℕ) : List Entries → ℕ → List Item → List ℕ → Type 0 where
-  refused_now : {held : List Entries} {n : ℕ} {it : Item} {its : List Item} {text : List ℕ} (c : Entries) → back held 0 ≡ Some c → RefusesItem a c n it text → IsLossFault a most held n (it ∷ its) text
-  refused_later : {held : List Entries} {n : ℕ} {it : Item} {its : List Item} {text : List ℕ} (c : Entries) (p : Packed) → back held 0 ≡ Some c → writing.IsPacked a c it p
-      → IsLossFault a most (held_after most n held (next c p.filling)) (n + 1) its text → IsLossFault a most held n (it ∷ its) text
+pub data IsLossFault (a : Accepting) : Sender → ℕ → List Item → List ℕ → Type 0 where
+  refused_now : {s : Sender} {n : ℕ} {it : Item} {its : List Item} {text : List ℕ} → RefusesSent a s n it text → IsLossFault a s n (it ∷ its) text
+  refused_later : {s : Sender} {n : ℕ} {it : Item} {its : List Item} {text : List ℕ} (p : Packed) (after : Sender) → Sends a s it p after
+      → IsLossFault a after (n + 1) its text → IsLossFault a s n (it ∷ its) text
 
--- What `loss` prints for items, from a context on: what is counted and told of all packets, or the line of the first item that is refused.
-pub data LossBy (most : ℕ) (a : Accepting) (ctx : Entries) (items : List Item) : Status → List ℕ → Type 0 where
-  losses_told : (fs : List Filling) (es : List Entry) (j : Journal) → Loses a most (ctx ∷ []) 1 items fs es → IsJournal a es j
-      → LossBy most a ctx items status.Done (loss_text a.profile.methods a.profile.top most (tally_all (map counted fs)) j.readings j.cases ++ 10 ∷ [])
-  item_refused : (text : List ℕ) → IsLossFault a most (ctx ∷ []) 1 items text → LossBy most a ctx items status.Refused (text ++ 10 ∷ [])
+-- What `loss` prints for items that a sender packs: what is counted and told of all packets, or the line of the first item that is refused.
+pub data LossBy (most : ℕ) (a : Accepting) (s : Sender) (items : List Item) : Status → List ℕ → Type 0 where
+  losses_told : (fs : List Filling) (es : List Entry) (j : Journal) → Loses a most s (own_of s ∷ []) 1 items fs es → IsJournal a es j
+      → LossBy most a s items status.Done (loss_text a.profile.methods a.profile.top most (tally_all (map counted fs)) j.readings j.cases ++ 10 ∷ [])
+  item_refused : (text : List ℕ) → IsLossFault a s 1 items text → LossBy most a s items status.Refused (text ++ 10 ∷ [])
 
 -- ---- the steps
 
-abbrev pub LosesItems : ℕ → Accepting → Entries → List Item → Answer → Type 0
-LosesItems most a ctx items = refusals.Holds (LossBy most a ctx items)
+abbrev pub LosesItems : ℕ → Accepting → Sender → List Item → Answer → Type 0
+LosesItems most a s items = refusals.Holds (LossBy most a s items)
 
 -- the line of a fault
-abbrev pub IsRefusedLoss : PackFault → ℕ → Answer → Type 0
-IsRefusedLoss e n answer = (text : List ℕ) × IsItemFault e n text × IsLine text × refusals.IsRefusal text answer
-
--- the newest of the held contexts goes on by the filling, and is held
-pub record Holds (most n : ℕ) (f : Filling) (old new : List Entries) : Type 0 where
-  pub context : Entries
-  pub newest : back old 0 ≡ Some context
-  pub new_is : new ≡ held_after most n old (next context f)
+abbrev pub IsRefusedLoss : RobustFault → ℕ → Answer → Type 0
+IsRefusedLoss e n answer = (text : List ℕ) × IsSenderFault e n text × IsLine text × refusals.IsRefusal text answer
 
 -- what came of an item that was packed
-pub record IsLost (a : Accepting) (most : ℕ) (old new : List Entries) (before after : List Count) (was is : Journal) (n : ℕ) (it : Item) : Type 0 where
-  pub context : Entries
-  pub newest : back old 0 ≡ Some context
+pub record IsLost (a : Accepting) (most : ℕ) (from to : Sender) (old new : List Entries) (before after : List Count) (was is : Journal) (n : ℕ) (it : Item) : Type 0 where
   pub packed : Packed
-  pub packed_is : writing.IsPacked a context it packed
+  pub sent : Sends a from it packed to
   pub adds : AddsAll a old n it packed was is
   pub counts_are : after ≡ before ++ counted packed.filling ∷ []
-  pub new_is : new ≡ held_after most n old (next context packed.filling)
+  pub new_is : new ≡ held_after most n old (own_of to)
 
 -- or of one that was refused
-pub record IsBlamed (a : Accepting) (old : List Entries) (it : Item) (e : PackFault) : Type 0 where
-  pub context : Entries
-  pub newest : back old 0 ≡ Some context
-  pub blames : writing.Blames e a context it
-
-abbrev pub IsLossStep : Accepting → ℕ → List Entries → List Entries → List Count → List Count → Journal → Journal → ℕ → Item → Option PackFault → Type 0
-IsLossStep a most old new before after was is n it None = IsLost a most old new before after was is n it
-IsLossStep a most old new before after was is n it (Some e) = IsBlamed a old it e
+abbrev pub IsLossStep : Accepting → ℕ → Sender → Sender → List Entries → List Entries → List Count → List Count → Journal → Journal → ℕ → Item → Option RobustFault → Type 0
+IsLossStep a most from to old new before after was is n it None = IsLost a most from to old new before after was is n it
+IsLossStep a most from to old new before after was is n it (Some e) = Blames e a from it
 
 pub record IsPrintedLoss (a : Accepting) (most : ℕ) (cs : List Count) (j : Journal) (answer : Answer) : Type 0 where
   pub status_is : answer.status ≡ status.Done

@@ -18,7 +18,9 @@ use Rattle.fn_engine.specs.Reading as reading
 use Rattle.fn_engine.specs.Writing as writing
 use Rattle.fn_engine.specs.declared.reader.UnpackFault.{UnpackFault}
 use Rattle.fn_engine.specs.declared.reader.UnpackFault.TheVariants.{Truncated, Refused, OutOfMemory}
+use Rattle.fn_engine.specs.declared.search.Packed.{Packed}
 use Rattle.fn_engine.specs.declared.writer.PackFault.{PackFault}
+use Rattle.fn_robust.specs.declared.sender.RobustFault.{RobustFault}
 use Rattle.fn_engine.specs.declared.writer.PackFault.TheVariants as writer
 use Rattle.rohcfn_input.specs.declared.bundle.Parts.{Parts}
 use Rattle.rohcfn_input.specs.declared.status.Answer.{Answer}
@@ -48,6 +50,9 @@ use Rattle.rohcfn_items.specs.Stats.{stats_text}
 use Rattle.rohcfn_tool.specs.declared.stats.Survey.{Survey}
 use Rattle.rohcfn_tool.specs.declared.stats.Survey.TheVariants as survey
 use Rattle.rohcfn_tool.specs.Loss.{LossBy}
+use Rattle.rohcfn_tool.specs.Senders.{IsSenderFault, RefusesSent, Sends, own_of, surviving}
+use Rattle.rohcfn_tool.specs.declared.sender.Sender.{Sender}
+use Rattle.rohcfn_tool.specs.declared.sender.Sender.TheVariants.{Plain}
 pub use Rattle.rohcfn_tool.specs.Refused.{IsItemFault, RefusesItem}
 use Rattle.rohcfn_names.specs.Names.{format_name, method_name}
 use Rattle.rohcfn_names.specs.CheckFaults.{format_words}
@@ -269,26 +274,37 @@ pub data AnsweredRun (direction : Direction) (shape : Shape) (order : Order) (pr
 
 -- ---- what is counted of items
 
--- Items that are packed one after the other, counted from n, from a context on: the fillings of those that are packed, by which the context goes on; and the line
--- of each that is refused, after a line feed. That one leaves the context as it was.
-pub data Packs (a : Accepting) : Entries → ℕ → List Item → List Filling → List ℕ → Type 0 where
-  packs_none : {ctx : Entries} {n : ℕ} → Packs a ctx n [] [] []
-  packs_one : {ctx : Entries} {n : ℕ} {it : Item} {items : List Item} {fs : List Filling} {refused : List ℕ} (f : Filling)
-      → Best a.profile.methods a.certificate.methods a.profile.top (bits_at ctx) it f → Packs a (next ctx f) (n + 1) items fs refused → Packs a ctx n (it ∷ items) (f ∷ fs) refused
-  refuses_one : {ctx : Entries} {n : ℕ} {it : Item} {items : List Item} {fs : List Filling} {refused : List ℕ} (text : List ℕ)
-      → RefusesItem a ctx n it text → Packs a ctx (n + 1) items fs refused → Packs a ctx n (it ∷ items) fs ((10 ∷ text) ++ refused)
+-- Items that a sender packs one after the other, counted from n: the fillings of those that are packed, by which it goes on; and the line of each that is refused,
+-- after a line feed. That one leaves the sender as it was.
+pub data Packs (a : Accepting) : Sender → ℕ → List Item → List Filling → List ℕ → Type 0 where
+  packs_none : {s : Sender} {n : ℕ} → Packs a s n [] [] []
+  packs_one : {s : Sender} {n : ℕ} {it : Item} {items : List Item} {fs : List Filling} {refused : List ℕ} (p : Packed) (after : Sender)
+      → Sends a s it p after → Packs a after (n + 1) items fs refused → Packs a s n (it ∷ items) (p.filling ∷ fs) refused
+  refuses_one : {s : Sender} {n : ℕ} {it : Item} {items : List Item} {fs : List Filling} {refused : List ℕ} (text : List ℕ)
+      → RefusesSent a s n it text → Packs a s (n + 1) items fs refused → Packs a s n (it ∷ items) fs ((10 ∷ text) ++ refused)
 
 -- What `stats` prints for items: what is counted of the fillings of those that are packed, and the lines of the refused.
-pub data StatsBy (a : Accepting) (ctx : Entries) (items : List Item) : Status → List ℕ → Type 0 where
-  counted_by : (fs : List Filling) (refused : List ℕ) → Packs a ctx 1 items fs refused
-      → StatsBy a ctx items status.Done (stats_text a.profile.methods a.profile.top (map counted fs) ++ refused ++ 10 ∷ [])
+pub data StatsBy (a : Accepting) (s : Sender) (items : List Item) : Status → List ℕ → Type 0 where
+  counted_by : (fs : List Filling) (refused : List ℕ) → Packs a s 1 items fs refused
+      → StatsBy a s items status.Done (stats_text a.profile.methods a.profile.top (map counted fs) ++ refused ++ 10 ∷ [])
 
--- what `stats` or `loss` prints for items
+-- What `pack --robust` prints for items, counted from n: the packed bits of each, and after the last the sender's own context, where it is wanted; the first that is
+-- refused has the line of its fault, which is the last.
+pub data SentBy (shows : Bool) (a : Accepting) : Sender → ℕ → List Item → Status → List ℕ → Type 0 where
+  all_sent : {s : Sender} {n : ℕ} {text : List ℕ} → IsEnd shows (own_of s) text → SentBy shows a s n [] status.Done text
+  one_sent : {s : Sender} {n : ℕ} {it : Item} {items : List Item} {st : Status} (p : Packed) (after : Sender) (text rest : List ℕ) → Sends a s it p after → IsText text p.packed
+      → SentBy shows a after (n + 1) items st rest → SentBy shows a s n (it ∷ items) st (text ++ 10 ∷ rest)
+  one_refused : {s : Sender} {n : ℕ} {it : Item} {items : List Item} (text : List ℕ) → RefusesSent a s n it text → SentBy shows a s n (it ∷ items) status.Refused (text ++ 10 ∷ [])
+
+-- what `stats`, `loss` or `pack --robust` prints for items
 abbrev pub SurveyBy : Survey → Accepting → Entries → List Item → Status → List ℕ → Type 0
-SurveyBy survey.Stats a ctx items = StatsBy a ctx items
-SurveyBy (survey.Loss most) a ctx items = LossBy most a ctx items
+SurveyBy survey.Stats a ctx items = StatsBy a (Plain ctx) items
+SurveyBy (survey.Loss most) a ctx items = LossBy most a (Plain ctx) items
+SurveyBy (survey.RobustPack shows lost) a ctx items = SentBy shows a (surviving ctx lost) 1 items
+SurveyBy (survey.RobustStats lost) a ctx items = StatsBy a (surviving ctx lost) items
+SurveyBy (survey.RobustLoss most lost) a ctx items = LossBy most a (surviving ctx lost) items
 
--- What is answered to `stats` or `loss` from a context on, by the octets of items.
+-- What is answered to one of these from a context on, by the octets of items.
 pub data StatsIn (what : Survey) (a : Accepting) (ctx : Entries) (input : List ℕ) : Status → List ℕ → Type 0 where
   bad_item : (n : ℕ) → IsBadLine IsItem input n → StatsIn what a ctx input status.Refused (bad_line_text Pack n ++ 10 ∷ [])
   items_counted : {s : Status} {output : List ℕ} (items : List Item) → HasLines IsItem input items → SurveyBy what a ctx items s output → StatsIn what a ctx input s output
@@ -337,6 +353,12 @@ pub data Answered (order : Order) (parts : Parts) : Status → List ℕ → Type
       → Stated survey.Stats order profile.now parts s output → Answered order parts s output
   lost_told : {s : Status} {output : List ℕ} (profile : Bor (List ℕ)) (most : ℕ) → parts.profile ≡ Some profile → order.command ≡ command.Loss most
       → Stated (survey.Loss most) order profile.now parts s output → Answered order parts s output
+  robust_packed : {s : Status} {output : List ℕ} (profile : Bor (List ℕ)) (lost : ℕ) → parts.profile ≡ Some profile → order.command ≡ command.RobustPack lost
+      → Stated (survey.RobustPack order.shows_context lost) order profile.now parts s output → Answered order parts s output
+  robust_stated : {s : Status} {output : List ℕ} (profile : Bor (List ℕ)) (lost : ℕ) → parts.profile ≡ Some profile → order.command ≡ command.RobustStats lost
+      → Stated (survey.RobustStats lost) order profile.now parts s output → Answered order parts s output
+  robust_told : {s : Status} {output : List ℕ} (profile : Bor (List ℕ)) (most lost : ℕ) → parts.profile ≡ Some profile → order.command ≡ command.RobustLoss most lost
+      → Stated (survey.RobustLoss most lost) order profile.now parts s output → Answered order parts s output
 
 -- ---- the steps
 
@@ -368,8 +390,11 @@ AnswersStatsFor what a context input = Holds (StatsFor what a context input)
 abbrev pub AnswersStatsIn : Survey → Accepting → Entries → List ℕ → Answer → Type 0
 AnswersStatsIn what a ctx input = Holds (StatsIn what a ctx input)
 
-abbrev pub CountsItems : Accepting → Entries → List Item → Answer → Type 0
-CountsItems a ctx items = Holds (StatsBy a ctx items)
+abbrev pub CountsItems : Accepting → Sender → List Item → Answer → Type 0
+CountsItems a s items = Holds (StatsBy a s items)
+
+abbrev pub SendsItems : Bool → Accepting → Sender → List Item → Answer → Type 0
+SendsItems shows a s items = Holds (SentBy shows a s 1 items)
 
 abbrev pub Surveys : Survey → Accepting → Entries → List Item → Answer → Type 0
 Surveys what a ctx items = Holds (SurveyBy what a ctx items)
@@ -380,14 +405,14 @@ pub record IsPrintedStats (a : Accepting) (cs : List Count) (refused : List ℕ)
   pub output_is : string_bytes answer.output ≡ stats_text a.profile.methods a.profile.top cs ++ refused ++ 10 ∷ []
 
 -- the line of a refused item below those before it, which is one line
-abbrev pub IsRefusedBelow : PackFault → ℕ → List ℕ → List ℕ → Type 0
-IsRefusedBelow e n before after = (text : List ℕ) × IsItemFault e n text × IsLine text × (after ≡ before ++ 10 ∷ text)
+abbrev pub IsRefusedBelow : RobustFault → ℕ → List ℕ → List ℕ → Type 0
+IsRefusedBelow e n before after = (text : List ℕ) × IsSenderFault e n text × IsLine text × (after ≡ before ++ 10 ∷ text)
 
--- One item more: it is packed, and counted, and the context goes on; or it is refused, and its line comes below the others.
-pub data CountsItem (a : Accepting) (old new : Entries) (before after : List Count) (above below : List ℕ) (n : ℕ) (it : Item) : Type 0 where
-  counts_packed : (f : Filling) → Best a.profile.methods a.certificate.methods a.profile.top (bits_at old) it f → new ≡ next old f → after ≡ before ++ counted f ∷ [] → below ≡ above
+-- One item more: it is packed, and counted, and the sender goes on; or it is refused, and its line comes below the others.
+pub data CountsItem (a : Accepting) (old new : Sender) (before after : List Count) (above below : List ℕ) (n : ℕ) (it : Item) : Type 0 where
+  counts_packed : (p : Packed) → Sends a old it p new → after ≡ before ++ counted p.filling ∷ [] → below ≡ above
       → CountsItem a old new before after above below n it
-  counts_refused : (text : List ℕ) → RefusesItem a old n it text → new ≡ old → after ≡ before → below ≡ above ++ 10 ∷ text → CountsItem a old new before after above below n it
+  counts_refused : (text : List ℕ) → RefusesSent a old n it text → new ≡ old → after ≡ before → below ≡ above ++ 10 ∷ text → CountsItem a old new before after above below n it
 
 -- these lines, and what follows the last
 pub record IsFinished (shows : Bool) (ctx : Entries) (lines : List ℕ) (a : Answer) : Type 0 where
@@ -444,3 +469,8 @@ IsItemStep shape a old new before after n it = IsStep (SaysItem shape a) (Faults
 
 abbrev pub IsPacketStep : Shape → Accepting → Entries → Entries → List ℕ → List ℕ → ℕ → List Bool → Bool → Type 0
 IsPacketStep shape a old new before after n packet = IsStep (SaysPacket shape a) (FaultsPacket shape a) old new before after n packet
+
+-- The output goes on by the line of an item that the sender packed, and it goes on; or by that of its fault.
+abbrev pub IsSendStep : Accepting → Sender → Sender → List ℕ → List ℕ → ℕ → Item → Bool → Type 0
+IsSendStep a old new before after n it false = (p : Packed) × Sends a old it p new × IsBitsLine p.packed before after
+IsSendStep a old new before after n it true = HasLine (RefusesSent a old n it) before after

@@ -58,6 +58,16 @@ pub fn answer(alloc: Global, order: &Order<'_>, parts: &Parts<'_>) -> Result<Ans
         }
         Command::Stats => answer_stats(alloc, Survey::Stats, order, profile, parts),
         Command::Loss(most) => answer_stats(alloc, Survey::Loss(most), order, profile, parts),
+        Command::RobustPack(lost) => {
+            let what = Survey::RobustPack(order.shows_context, lost);
+            answer_stats(alloc, what, order, profile, parts)
+        }
+        Command::RobustStats(lost) => {
+            answer_stats(alloc, Survey::RobustStats(lost), order, profile, parts)
+        }
+        Command::RobustLoss(most, lost) => {
+            answer_stats(alloc, Survey::RobustLoss(most, lost), order, profile, parts)
+        }
         Command::Line(end) => answer_line(alloc, end, order, profile, parts),
     }
 }

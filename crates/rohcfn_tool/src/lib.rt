@@ -9,4 +9,6 @@ pub mod line;
 mod loss;
 pub mod packets;
 pub mod program;
+mod sender;
+mod sending;
 mod stats;

@@ -1,16 +1,16 @@
 //! What is answered to `loss`.
 
-ghost use Rattle.std.specs.Prelude.{◌≡◌, ◌≢◌, [], IfOk, OnOk, Some};
-ghost use Rattle.fn_filling.specs.Entries.{next};
-ghost use Rattle.fn_loss.specs.Judging.{IsSent, back};
+ghost use Rattle.std.specs.Prelude.{◌≡◌, IfOk, OnOk};
+ghost use Rattle.rohcfn_tool.specs.Senders as senders;
 ghost use Rattle.rohcfn_tool.specs.Loss as spec;
 
-use crate::packets::item_fault;
+use crate::sender::Sender;
+use crate::sending::sender_fault;
 use fn_accepted::Accepted;
 use fn_context::Context;
-use fn_engine::{PackFault, pack};
-use fn_filling::{Filling, Item, advance};
+use fn_filling::Item;
 use fn_loss::{Journal, judge};
+use fn_robust::RobustFault;
 use fn_stats::{Count, count_of, tally_all};
 use rohcfn_input::refusals::refusal;
 use rohcfn_input::status::{Answer, Status};
@@ -23,13 +23,14 @@ pub(crate) fn lose_all(
     alloc: Global,
     accepted: &Accepted,
     most: u8,
-    start: Context,
+    start: Sender,
     items: &[Item],
 ) -> Result<Answer, AllocError>
     ensures { IfOk result (spec.LosesItems most accepted.now start items.now) }
 {
+    let mut sender = start;
     let mut held = Items::new(alloc);
-    held.push(start)?;
+    held.push(sender.context().copy(alloc)?)?;
     let mut counts = Items::new(alloc);
     let mut journal = Journal::new(alloc);
     for (i, item) in items.iter().enumerate() {
@@ -37,6 +38,7 @@ pub(crate) fn lose_all(
             alloc,
             accepted,
             most,
+            &mut sender,
             &mut held,
             &mut counts,
             &mut journal,
@@ -51,33 +53,30 @@ pub(crate) fn lose_all(
 }
 
 /// The line of a refused item.
-fn refuse(alloc: Global, number: usize, fault: PackFault) -> Result<Answer, AllocError>
-    requires { fault ≢ PackFault.Flow }
+fn refuse(alloc: Global, number: usize, fault: RobustFault) -> Result<Answer, AllocError>
+    requires { senders.IsOfItem fault }
     ensures { IfOk result (spec.IsRefusedLoss fault number) }
 {
-    let line = item_fault(alloc, number, fault)?;
+    let line = sender_fault(alloc, number, fault)?;
     refusal(alloc, line.as_str())
 }
 
-/// Packs an item, whose number counts from 1, in the newest of the held contexts, adds what is counted of its packet and what receivers in these contexts read of
-/// it, and holds the context after it. Or gives the fault.
+/// Packs an item, whose number counts from 1, adds what is counted of its packet and what receivers in the held contexts read of it, and holds the sender's context
+/// after it. Or gives the fault.
 fn lose_one(
     alloc: Global,
     accepted: &Accepted,
     most: u8,
+    sender: &mut Sender,
     held: &mut Items<Context>,
     counts: &mut Items<Count>,
     journal: &mut Journal,
     number: usize,
     item: &Item,
-) -> Result<Option<PackFault>, AllocError>
-    requires { held.old ≢ [] }
-    ensures { IfOk result (spec.IsLossStep accepted.now most held.old held.new counts.old counts.new journal.old journal.new number item.now) }
+) -> Result<Option<RobustFault>, AllocError>
+    ensures { IfOk result (spec.IsLossStep accepted.now most sender.old sender.new held.old held.new counts.old counts.new journal.old journal.new number item.now) }
 {
-    let Some(context) = held.as_slice().last() else {
-        return Ok(None);
-    };
-    match pack(alloc, accepted, context, item) {
+    match sender.send(alloc, accepted, item) {
         Ok(sent) => {
             judge(
                 alloc,
@@ -89,30 +88,25 @@ fn lose_one(
                 journal,
             )?;
             counts.push(count_of(alloc, &sent.filling)?)?;
-            hold(alloc, most, held, number, &sent.filling)?;
+            hold(alloc, most, held, number, sender.context())?;
             Ok(None)
         }
         Err(fault) => Ok(Some(fault)),
     }
 }
 
-/// Holds the context to which the newest one goes on by a filling. Before the first packet a receiver has read nothing, so that context goes; and where there are more
-/// than one for each number of lost packets, the oldest goes.
+/// Holds a context of the sender. Before the first packet a receiver has read nothing, so that context goes; and where there are more than one for each number of lost
+/// packets, the oldest goes.
 fn hold(
     alloc: Global,
     most: u8,
     held: &mut Items<Context>,
     number: usize,
-    filling: &Filling,
+    newest: &Context,
 ) -> Result<(), AllocError>
-    requires { held.old ≢ [] }
-    ensures { OnOk result (spec.Holds most number filling.now held.old held.new) }
+    ensures { OnOk result (held.new ≡ spec.held_after most number held.old newest.now) }
 {
-    let Some(newest) = held.as_slice().last() else {
-        return Ok(());
-    };
-    let mut context = newest.copy(alloc)?;
-    advance(alloc, &mut context, filling)?;
+    let context = newest.copy(alloc)?;
     if number == 1 {
         *held = Items::new(alloc);
     }

@@ -110,7 +110,7 @@ pub(crate) fn unpack_all(
 }
 
 /// The lines, and the context after them where it is wanted.
-fn finish(
+pub(crate) fn finish(
     alloc: Global,
     shows: bool,
     output: String,
@@ -254,7 +254,11 @@ fn push_fields(
 }
 
 /// Adds a line of bits.
-fn push_packed(alloc: Global, output: &mut String, packed: &Bits) -> Result<(), AllocError>
+pub(crate) fn push_packed(
+    alloc: Global,
+    output: &mut String,
+    packed: &Bits,
+) -> Result<(), AllocError>
     ensures { OnOk result (spec.IsBitsLine packed.now (string_bytes output.old) (string_bytes output.new)) }
 {
     push_bits(alloc, output, packed)?;

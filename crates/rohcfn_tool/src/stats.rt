@@ -1,15 +1,17 @@
-//! What is answered to `stats`, and by what to `loss`.
+//! What is answered to `stats`, and by what to `loss` and to `pack --robust`.
 
-ghost use Rattle.std.specs.Prelude.{◌≡◌, ◌≢◌, ◌++◌, IfOk, OnOk, string_bytes};
+ghost use Rattle.std.specs.Prelude.{◌≡◌, ◌++◌, IfOk, OnOk, string_bytes};
+ghost use Rattle.rohcfn_tool.specs.Senders as senders;
 ghost use Rattle.rohcfn_tool.specs.Printed as spec;
 
 use crate::answers::bad_line;
 use crate::loss::lose_all;
-use crate::packets::item_fault;
+use crate::sender::Sender;
+use crate::sending::{send_all, sender_fault};
 use fn_accepted::Accepted;
 use fn_context::Context;
-use fn_engine::{PackFault, Packed, pack};
-use fn_filling::{Item, advance};
+use fn_filling::Item;
+use fn_robust::RobustFault;
 use fn_stats::{Count, count_of};
 use rohcfn_input::bundle::Parts;
 use rohcfn_input::inputs::{BadLine, read_context, read_items};
@@ -29,9 +31,15 @@ pub(crate) enum Survey {
     Stats,
     /// What receivers read of them where up to so many packets are lost.
     Loss(u8),
+    /// Their packed bits, and the last context where it is wanted, of packets that survive losses of up to so many in a row.
+    RobustPack(bool, u8),
+    /// How many such packets there are, and how many bits they take.
+    RobustStats(u8),
+    /// What receivers read of them where up to so many are lost, the first number, and as many as the second says do no harm.
+    RobustLoss(u8, u8),
 }
 
-/// The answer to `stats` or `loss`, by the octets of a profile and the items among the parts: what is counted of the packets, and a line for each item that is refused; or the
+/// The answer to `stats`, `loss` or `pack --robust`, by the octets of a profile and the items among the parts: what is counted of the packets, and a line for each item that is refused; or the
 /// line of another fault.
 pub(crate) fn answer_stats(
     alloc: Global,
@@ -116,28 +124,40 @@ fn tell_all(
     ensures { IfOk result (spec.Surveys what accepted.now context items.now) }
 {
     match what {
-        Survey::Stats => count_all(alloc, accepted, context, items),
-        Survey::Loss(most) => lose_all(alloc, accepted, most, context, items),
+        Survey::Stats => count_all(alloc, accepted, Sender::Plain(context), items),
+        Survey::Loss(most) => lose_all(alloc, accepted, most, Sender::Plain(context), items),
+        Survey::RobustPack(shows, lost) => {
+            let sender = Sender::surviving(alloc, &context, lost)?;
+            send_all(alloc, shows, accepted, sender, items)
+        }
+        Survey::RobustStats(lost) => {
+            let sender = Sender::surviving(alloc, &context, lost)?;
+            count_all(alloc, accepted, sender, items)
+        }
+        Survey::RobustLoss(most, lost) => {
+            let sender = Sender::surviving(alloc, &context, lost)?;
+            lose_all(alloc, accepted, most, sender, items)
+        }
     }
 }
 
-/// What is counted of the packets of items, and a line for each item that is refused. After such an item the context is as before it.
+/// What is counted of the packets of items, and a line for each item that is refused. After such an item the sender is as before it.
 fn count_all(
     alloc: Global,
     accepted: &Accepted,
-    start: Context,
+    start: Sender,
     items: &[Item],
 ) -> Result<Answer, AllocError>
     ensures { IfOk result (spec.CountsItems accepted.now start items.now) }
 {
-    let mut context = start;
+    let mut sender = start;
     let mut counts = Items::new(alloc);
     let mut refused = String::new(alloc);
     for (i, item) in items.iter().enumerate() {
         count_one(
             alloc,
             accepted,
-            &mut context,
+            &mut sender,
             &mut counts,
             &mut refused,
             i + 1,
@@ -147,24 +167,24 @@ fn count_all(
     print_counts(alloc, accepted, counts.as_slice(), refused.as_str())
 }
 
-/// Packs an item, whose number counts from 1. What is counted of its packet is added to the counts, and the context goes on to the next; or its line is added to
+/// Packs an item, whose number counts from 1. What is counted of its packet is added to the counts, and the sender goes on to the next; or its line is added to
 /// those of the refused.
 fn count_one(
     alloc: Global,
     accepted: &Accepted,
-    context: &mut Context,
+    sender: &mut Sender,
     counts: &mut Items<Count>,
     refused: &mut String,
     number: usize,
     item: &Item,
 ) -> Result<(), AllocError>
-    ensures { OnOk result (spec.CountsItem accepted.now context.old context.new counts.old counts.new (string_bytes refused.old) (string_bytes refused.new) number item.now) }
+    ensures { OnOk result (spec.CountsItem accepted.now sender.old sender.new counts.old counts.new (string_bytes refused.old) (string_bytes refused.new) number item.now) }
 {
-    match pack(alloc, accepted, context, item) {
-        Ok(Packed { filling, packed: _ }) => {
-            let count = count_of(alloc, &filling)?;
+    match sender.send(alloc, accepted, item) {
+        Ok(sent) => {
+            let count = count_of(alloc, &sent.filling)?;
             counts.push(count)?;
-            advance(alloc, context, &filling)
+            Ok(())
         }
         Err(fault) => add_refused(alloc, refused, number, fault),
     }
@@ -176,12 +196,12 @@ fn add_refused(
     alloc: Global,
     refused: &mut String,
     number: usize,
-    fault: PackFault,
+    fault: RobustFault,
 ) -> Result<(), AllocError>
-    requires { fault ≢ PackFault.Flow }
+    requires { senders.IsOfItem fault }
     ensures { OnOk result (spec.IsRefusedBelow fault number (string_bytes refused.old) (string_bytes refused.new)) }
 {
-    let line = item_fault(alloc, number, fault)?;
+    let line = sender_fault(alloc, number, fault)?;
     refused.push('\n')?;
     refused.push_str(line.as_str())?;
     Ok(())

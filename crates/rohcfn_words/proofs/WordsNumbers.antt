@@ -1,14 +1,16 @@
 -- The numbers that texts spell.
-use Rattle.std.proofs.Common.{◌≡◌, ◌≢◌, ◌∙◌, sym, ap, subst, refl, ℕ, ◌<◌, ◌&&◌, Bool, true, false, List, Some, None, nat_lt, arith, if◌then◌else◌, codes, option_map}
-use Rattle.std.specs.Prelude.{decimal}
+use Rattle.std.proofs.Common.{◌≡◌, ◌≢◌, ◌∙◌, sym, ap, subst, refl, ℕ, ◌<◌, ◌&&◌, Bool, true, false, List, Option, Some, None, nat_lt, arith, if◌then◌else◌, codes, option_map}
+use Rattle.std.specs.Prelude.{decimal, option_and_then}
 use Rattle.std.specs.Str.{bytes_eq}
 use Rattle.std.specs.Str.Parse.{digits_value}
 use Rattle.std.proofs.lemmas.Bool.{ltb-true, lt-ltb}
 use Rattle.std.proofs.lemmas.Fmt.{decimal_is_IsNumeral}
 use Rattle.std.proofs.lemmas.Slice.Eq.{bytes_eq-Decides}
 use Rattle.clap.specs.Words.{Row, first_of}
-use Rattle.rohcfn_words.specs.declared.words.Command.TheVariants.{Loss}
-use Rattle.rohcfn_words.specs.Words.{Asked, ReadsLost, asked_by, asked_in, is_set, lost_in, lost_spelled}
+use Rattle.rohcfn_words.specs.declared.words.Command.{Command}
+use Rattle.rohcfn_words.specs.declared.words.Command.TheVariants.{Run, Stats, Loss, RobustPack, RobustStats, RobustLoss}
+use Rattle.rohcfn_words.specs.declared.words.Direction.TheVariants.{Pack}
+use Rattle.rohcfn_words.specs.Words.{Asked, ReadsLost, ReadsRobust, asked_by, asked_in, command_asked, command_named, is_set, lost_in, lost_spelled, robust_by, robust_command}
 
 both_true : (a b : Bool) → (a && b) ≡ true → (a ≡ true) × (b ≡ true)
 both_true true b h = (refl, h)
@@ -44,20 +46,62 @@ spelled_none text h = not_given _ _ (λ t.
     let b = both_true _ _ t in
     h (digits_value 10 text) (ltb-true _ _ b.1) (sym ((bytes_eq-Decides _ _).0 b.0)))
 
-number_asked : (rows : List Row) (n : ℕ) (top : List ℕ) → n < 64 → first_of (codes "lost") rows ≡ Some (decimal n) → first_of (codes "top") rows ≡ Some top
-    → option_map (λ (a : Asked). a.command) (asked_in (Some (codes "loss", rows))) ≡ Some (Loss n)
-number_asked rows n top below l t =
+number_asked : (rows : List Row) (n : ℕ) (top : List ℕ) → n < 64 → first_of (codes "lost") rows ≡ Some (decimal n) → first_of (codes "robust") rows ≡ None → first_of (codes "top") rows ≡ Some top → command_asked (codes "loss") rows ≡ Some (Loss n)
+number_asked rows n top below l plain t =
     let lost : lost_in (first_of (codes "lost") rows) ≡ Some n = ap lost_in l ∙ spelled_some n (decimal n) below refl in
-    λ i. option_map (λ (a : Asked). a.command) (asked_by (option_map Loss (lost i)) (t i) (is_set (first_of (codes "context") rows)) (is_set (first_of (codes "v2") rows)) (is_set (first_of (codes "wide") rows)))
+    λ i. option_map (λ (a : Asked). a.command) (asked_by (option_and_then (robust_by (plain i)) (option_map Loss (lost i))) (t i) (is_set (first_of (codes "context") rows)) (is_set (first_of (codes "v2") rows)) (is_set (first_of (codes "wide") rows)))
 
 other_refused : (rows : List Row) (text : List ℕ) → first_of (codes "lost") rows ≡ Some text → ((n : ℕ) → n < 64 → text ≢ decimal n) → asked_in (Some (codes "loss", rows)) ≡ None
 other_refused rows text l other =
     let lost : lost_in (first_of (codes "lost") rows) ≡ None = ap lost_in l ∙ spelled_none text other in
-    λ i. asked_by (option_map Loss (lost i)) (first_of (codes "top") rows) (is_set (first_of (codes "context") rows)) (is_set (first_of (codes "v2") rows)) (is_set (first_of (codes "wide") rows))
+    λ i. asked_by (option_and_then (robust_by (first_of (codes "robust") rows)) (option_map Loss (lost i))) (first_of (codes "top") rows) (is_set (first_of (codes "context") rows)) (is_set (first_of (codes "v2") rows)) (is_set (first_of (codes "wide") rows))
 
 pub lost_is_read : ReadsLost
 lost_is_read = record {
   spelled = λ text n. (spelled_means n text, λ h. spelled_some n text h.1 (sym h.0));
   asks = number_asked;
   refuses = other_refused;
+}
+
+-- ---- of the robust sender
+
+-- with the digits of a number the command is that of the robust sender
+robust_number : (rows : List Row) (n : ℕ) (command : Command) → n < 64 → first_of (codes "robust") rows ≡ Some (decimal n) → robust_by (first_of (codes "robust") rows) command ≡ robust_command command n
+robust_number rows n command below r =
+    ap (λ text. robust_by text command) r ∙ ap (option_and_then (robust_command command)) (spelled_some n (decimal n) below refl)
+
+robust_packs : (rows : List Row) (n : ℕ) (top : List ℕ) → n < 64 → first_of (codes "robust") rows ≡ Some (decimal n) → first_of (codes "top") rows ≡ Some top → command_asked (codes "pack") rows ≡ Some (RobustPack n)
+robust_packs rows n top below r t =
+    let command = robust_number rows n (Run Pack) below r in
+    λ i. option_map (λ (a : Asked). a.command) (asked_by (command i) (t i) (is_set (first_of (codes "context") rows)) (is_set (first_of (codes "v2") rows)) (is_set (first_of (codes "wide") rows)))
+
+robust_counts : (rows : List Row) (n : ℕ) (top : List ℕ) → n < 64 → first_of (codes "robust") rows ≡ Some (decimal n) → first_of (codes "top") rows ≡ Some top → command_asked (codes "stats") rows ≡ Some (RobustStats n)
+robust_counts rows n top below r t =
+    let command = robust_number rows n Stats below r in
+    λ i. option_map (λ (a : Asked). a.command) (asked_by (command i) (t i) (is_set (first_of (codes "context") rows)) (is_set (first_of (codes "v2") rows)) (is_set (first_of (codes "wide") rows)))
+
+robust_loses : (rows : List Row) (most n : ℕ) (top : List ℕ) → most < 64 → n < 64 → first_of (codes "lost") rows ≡ Some (decimal most) → first_of (codes "robust") rows ≡ Some (decimal n) → first_of (codes "top") rows ≡ Some top → command_asked (codes "loss") rows ≡ Some (RobustLoss most n)
+robust_loses rows most n top few below l r t =
+    let lost : lost_in (first_of (codes "lost") rows) ≡ Some most = ap lost_in l ∙ spelled_some most (decimal most) few refl in
+    let command : option_and_then (robust_by (first_of (codes "robust") rows)) (option_map Loss (lost_in (first_of (codes "lost") rows))) ≡ Some (RobustLoss most n) =
+    ap (λ x. option_and_then (robust_by (first_of (codes "robust") rows)) (option_map Loss x)) lost ∙ robust_number rows n (Loss most) below r in
+    λ i. option_map (λ (a : Asked). a.command) (asked_by (command i) (t i) (is_set (first_of (codes "context") rows)) (is_set (first_of (codes "v2") rows)) (is_set (first_of (codes "wide") rows)))
+
+-- with another text none is asked for
+unspelled : (text : List ℕ) (command : Option Command) → lost_spelled text ≡ None → option_and_then (robust_by (Some text)) command ≡ None
+unspelled text None none = refl
+unspelled text (Some command) none = ap (option_and_then (robust_command command)) none
+
+robust_refused : (name text : List ℕ) (rows : List Row) → first_of (codes "robust") rows ≡ Some text → ((n : ℕ) → n < 64 → text ≢ decimal n) → asked_in (Some (name, rows)) ≡ None
+robust_refused name text rows r other =
+    let plain : Option Command = command_named name (is_set (first_of (codes "receive") rows)) (is_set (first_of (codes "items") rows)) (is_set (first_of (codes "explain") rows)) (lost_in (first_of (codes "lost") rows)) in
+    let command : option_and_then (robust_by (first_of (codes "robust") rows)) plain ≡ None = ap (λ x. option_and_then (robust_by x) plain) r ∙ unspelled text plain (spelled_none text other) in
+    λ i. asked_by (command i) (first_of (codes "top") rows) (is_set (first_of (codes "context") rows)) (is_set (first_of (codes "v2") rows)) (is_set (first_of (codes "wide") rows))
+
+pub robust_is_read : ReadsRobust
+robust_is_read = record {
+  packs = robust_packs;
+  counts = robust_counts;
+  loses = robust_loses;
+  refuses = robust_refused;
 }

@@ -10,7 +10,7 @@ use Rattle.clap.specs.declared.error.kind.ErrorKind.TheVariants.{DisplayHelp, Ou
 use Rattle.fn_cert.specs.declared.certificate.Version.{Version}
 use Rattle.fn_cert.specs.declared.certificate.Version.TheVariants.{One, Two}
 use Rattle.rohcfn_words.specs.declared.words.Command.{Command}
-use Rattle.rohcfn_words.specs.declared.words.Command.TheVariants.{Show, Lint, Draw, Check, Prove, ExplainCheck, ExplainProve, Run, Fields, Why, Stats, Loss, Line}
+use Rattle.rohcfn_words.specs.declared.words.Command.TheVariants.{Show, Lint, Draw, Check, Prove, ExplainCheck, ExplainProve, Run, Fields, Why, Stats, Loss, RobustPack, RobustStats, RobustLoss, Line}
 use Rattle.rohcfn_words.specs.declared.words.Direction.{Direction}
 use Rattle.rohcfn_words.specs.declared.words.Direction.TheVariants.{Pack, Unpack}
 use Rattle.rohcfn_words.specs.declared.words.End.{End}
@@ -73,6 +73,13 @@ lost_option = record (new_rule (codes "lost")) {
   defaults = codes "8" ∷ [];
 }
 
+-- `--robust N`, which need not be there
+abbrev pub robust_option : Rule
+robust_option = record (new_rule (codes "robust")) {
+  long = Some (codes "robust");
+  value_names = 1;
+}
+
 -- a command of that name with the first flag
 abbrev pub with_top : List ℕ → App
 with_top name = with_rule (new_app name) top_flag
@@ -84,11 +91,20 @@ with_version name = with_rule (with_top name) version_flag
 abbrev pub with_lost : List ℕ → App
 with_lost name = with_rule (with_version name) lost_option
 
+abbrev pub with_robust : List ℕ → App
+with_robust name = with_rule (with_version name) robust_option
+
+abbrev pub with_losses : List ℕ → App
+with_losses name = with_rule (with_lost name) robust_option
+
 abbrev pub with_explain : List ℕ → App
 with_explain name = with_rule (with_version name) explain_flag
 
 abbrev pub with_flags : List ℕ → App
 with_flags name = with_rule (with_version name) context_flag
+
+abbrev pub with_sending : List ℕ → App
+with_sending name = with_rule (with_flags name) robust_option
 
 abbrev pub with_items : List ℕ → App
 with_items name = with_rule (with_flags name) items_flag
@@ -106,8 +122,8 @@ bare_program = on_top (λ top. record top { no_binary_name = true; subcommand_re
 
 -- with its commands
 unfoldable pub program : App
-program = with_subcommand (with_subcommand (with_subcommand (with_subcommand (with_subcommand (with_subcommand (with_subcommand (with_subcommand (with_subcommand (with_subcommand (with_subcommand (with_subcommand bare_program (with_flags (codes "pack")).top)
-    (with_flags (codes "unpack")).top) (with_items (codes "fields")).top) (with_items (codes "why")).top) (with_version (codes "stats")).top) (with_lost (codes "loss")).top) (with_top (codes "show")).top) (with_top (codes "lint")).top) (with_top (codes "draw")).top) (with_explain (codes "check")).top) (with_explain (codes "prove")).top) (with_wide (codes "line")).top
+program = with_subcommand (with_subcommand (with_subcommand (with_subcommand (with_subcommand (with_subcommand (with_subcommand (with_subcommand (with_subcommand (with_subcommand (with_subcommand (with_subcommand bare_program (with_sending (codes "pack")).top)
+    (with_flags (codes "unpack")).top) (with_items (codes "fields")).top) (with_items (codes "why")).top) (with_robust (codes "stats")).top) (with_losses (codes "loss")).top) (with_top (codes "show")).top) (with_top (codes "lint")).top) (with_top (codes "draw")).top) (with_explain (codes "check")).top) (with_explain (codes "prove")).top) (with_wide (codes "line")).top
 
 -- a command, the name of a method, whether the last context is printed, the version of a certificate that is made, and whether the line is the wide one
 pub record Asked : Type 0 where
@@ -143,6 +159,22 @@ lost_spelled text = if bytes_eq (decimal (digits_value 10 text)) text && nat_lt 
 abbrev pub lost_in : Option (List ℕ) → Option ℕ
 lost_in = option_and_then lost_spelled
 
+-- a command that packs items, of the robust sender, whose packets survive so many lost in a row
+abbrev pub robust_run : Direction → ℕ → Option Command
+robust_run Pack n = Some (RobustPack n)
+robust_run Unpack n = None
+
+abbrev pub robust_command : Command → ℕ → Option Command
+robust_command (Run direction) n = robust_run direction n
+robust_command Stats n = Some (RobustStats n)
+robust_command (Loss most) n = Some (RobustLoss most n)
+robust_command _ n = None
+
+-- that where the option is there, else the command as it stands
+abbrev pub robust_by : Option (List ℕ) → Command → Option Command
+robust_by None command = Some command
+robust_by (Some text) command = option_and_then (robust_command command) (lost_spelled text)
+
 -- a command by its name, by whether the receiving end, items and explanations are asked for, and by how many packets are lost
 abbrev pub command_named : List ℕ → Bool → Bool → Bool → Option ℕ → Option Command
 command_named name receives packs explains lost = if bytes_eq name (codes "pack") then Some (Run Pack)
@@ -175,15 +207,30 @@ asked_by (Some command) (Some top) context second wide = Some (record { command 
 -- a command's name, and the values of its flags
 abbrev pub asked_in : Option (List ℕ × List Row) → Option Asked
 asked_in None = None
-asked_in (Some met) = asked_by (command_named met.0 (is_set (first_of (codes "receive") met.1)) (is_set (first_of (codes "items") met.1)) (is_set (first_of (codes "explain") met.1)) (lost_in (first_of (codes "lost") met.1))) (first_of (codes "top") met.1) (is_set (first_of (codes "context") met.1)) (is_set (first_of (codes "v2") met.1)) (is_set (first_of (codes "wide") met.1))
+asked_in (Some met) = asked_by (option_and_then (robust_by (first_of (codes "robust") met.1)) (command_named met.0 (is_set (first_of (codes "receive") met.1)) (is_set (first_of (codes "items") met.1)) (is_set (first_of (codes "explain") met.1)) (lost_in (first_of (codes "lost") met.1)))) (first_of (codes "top") met.1) (is_set (first_of (codes "context") met.1)) (is_set (first_of (codes "v2") met.1)) (is_set (first_of (codes "wide") met.1))
+
+-- the command that is asked for by a command's name and the values of its flags
+abbrev pub command_asked : List ℕ → List Row → Option Command
+command_asked name rows = option_map (λ (a : Asked). a.command) (asked_in (Some (name, rows)))
 
 -- What `loss` makes of the text that `--lost` has: with the decimal digits of a number below 64 that number is asked for, with any other text nothing is.
 pub record ReadsLost : Type 0 where
   pub spelled : (text : List ℕ) (n : ℕ) → (lost_spelled text ≡ Some n) ↔ ((text ≡ decimal n) × (n < 64))
-  pub asks : (rows : List Row) (n : ℕ) (top : List ℕ) → n < 64 → first_of (codes "lost") rows ≡ Some (decimal n) → first_of (codes "top") rows ≡ Some top
-      → option_map (λ (a : Asked). a.command) (asked_in (Some (codes "loss", rows))) ≡ Some (Loss n)
+  pub asks : (rows : List Row) (n : ℕ) (top : List ℕ) → n < 64 → first_of (codes "lost") rows ≡ Some (decimal n) → first_of (codes "robust") rows ≡ None → first_of (codes "top") rows ≡ Some top
+      → command_asked (codes "loss") rows ≡ Some (Loss n)
   pub refuses : (rows : List Row) (text : List ℕ) → first_of (codes "lost") rows ≡ Some text → ((n : ℕ) → n < 64 → text ≢ decimal n)
       → asked_in (Some (codes "loss", rows)) ≡ None
+
+-- What `pack`, `stats` and `loss` make of the text that `--robust` has, likewise.
+pub record ReadsRobust : Type 0 where
+  pub packs : (rows : List Row) (n : ℕ) (top : List ℕ) → n < 64 → first_of (codes "robust") rows ≡ Some (decimal n) → first_of (codes "top") rows ≡ Some top
+      → command_asked (codes "pack") rows ≡ Some (RobustPack n)
+  pub counts : (rows : List Row) (n : ℕ) (top : List ℕ) → n < 64 → first_of (codes "robust") rows ≡ Some (decimal n) → first_of (codes "top") rows ≡ Some top
+      → command_asked (codes "stats") rows ≡ Some (RobustStats n)
+  pub loses : (rows : List Row) (most n : ℕ) (top : List ℕ) → most < 64 → n < 64 → first_of (codes "lost") rows ≡ Some (decimal most) → first_of (codes "robust") rows ≡ Some (decimal n) → first_of (codes "top") rows ≡ Some top
+      → command_asked (codes "loss") rows ≡ Some (RobustLoss most n)
+  pub refuses : (name text : List ℕ) (rows : List Row) → first_of (codes "robust") rows ≡ Some text → ((n : ℕ) → n < 64 → text ≢ decimal n)
+      → asked_in (Some (name, rows)) ≡ None
 
 -- words with a fault ask for nothing
 abbrev pub asked_unless : Kinds → Option (List ℕ × List Row) → Option Asked
@@ -249,6 +296,18 @@ pub record ReadsWords : Type 0 where
   pub loss_twice : asked_of (codes "loss" ∷ codes "--top" ∷ codes "plain" ∷ codes "--lost" ∷ codes "1" ∷ codes "--lost" ∷ codes "1" ∷ []) ≡ None
   pub loss_context : asked_of (codes "loss" ∷ codes "--top" ∷ codes "plain" ∷ codes "--context" ∷ []) ≡ None
   pub stats_lost : asked_of (codes "stats" ∷ codes "--top" ∷ codes "plain" ∷ codes "--lost" ∷ codes "1" ∷ []) ≡ None
+  pub pack_robust : asked_of (codes "pack" ∷ codes "--top" ∷ codes "plain" ∷ codes "--robust" ∷ codes "0" ∷ []) ≡ Some (record { command = RobustPack 0; top = codes "plain"; shows_context = false; version = One; is_wide = false })
+  pub pack_robust_context : asked_of (codes "pack" ∷ codes "--robust=63" ∷ codes "--top" ∷ codes "plain" ∷ codes "--context" ∷ codes "--v2" ∷ []) ≡ Some (record { command = RobustPack 63; top = codes "plain"; shows_context = true; version = Two; is_wide = false })
+  pub pack_robust_above : asked_of (codes "pack" ∷ codes "--top" ∷ codes "plain" ∷ codes "--robust" ∷ codes "64" ∷ []) ≡ None
+  pub pack_robust_zero_first : asked_of (codes "pack" ∷ codes "--top" ∷ codes "plain" ∷ codes "--robust" ∷ codes "01" ∷ []) ≡ None
+  pub pack_robust_twice : asked_of (codes "pack" ∷ codes "--top" ∷ codes "plain" ∷ codes "--robust" ∷ codes "1" ∷ codes "--robust" ∷ codes "1" ∷ []) ≡ None
+  pub stats_robust : asked_of (codes "stats" ∷ codes "--top" ∷ codes "plain" ∷ codes "--robust" ∷ codes "3" ∷ []) ≡ Some (record { command = RobustStats 3; top = codes "plain"; shows_context = false; version = One; is_wide = false })
+  pub stats_robust_plus : asked_of (codes "stats" ∷ codes "--top" ∷ codes "plain" ∷ codes "--robust" ∷ codes "+1" ∷ []) ≡ None
+  pub loss_robust : asked_of (codes "loss" ∷ codes "--top" ∷ codes "plain" ∷ codes "--robust" ∷ codes "3" ∷ []) ≡ Some (record { command = RobustLoss 8 3; top = codes "plain"; shows_context = false; version = One; is_wide = false })
+  pub loss_both : asked_of (codes "loss" ∷ codes "--top" ∷ codes "plain" ∷ codes "--robust" ∷ codes "15" ∷ codes "--lost" ∷ codes "2" ∷ []) ≡ Some (record { command = RobustLoss 2 15; top = codes "plain"; shows_context = false; version = One; is_wide = false })
+  pub loss_robust_empty : asked_of (codes "loss" ∷ codes "--top" ∷ codes "plain" ∷ codes "--robust=" ∷ []) ≡ None
+  pub unpack_robust : asked_of (codes "unpack" ∷ codes "--top" ∷ codes "plain" ∷ codes "--robust" ∷ codes "1" ∷ []) ≡ None
+  pub fields_robust : asked_of (codes "fields" ∷ codes "--top" ∷ codes "plain" ∷ codes "--items" ∷ codes "--robust" ∷ codes "1" ∷ []) ≡ None
   pub lint : asked_of (codes "lint" ∷ codes "--top" ∷ codes "plain" ∷ []) ≡ Some (record { command = Lint; top = codes "plain"; shows_context = false; version = One; is_wide = false })
   pub lint_second : asked_of (codes "lint" ∷ codes "--top" ∷ codes "plain" ∷ codes "--v2" ∷ []) ≡ None
   pub draw : asked_of (codes "draw" ∷ codes "--top" ∷ codes "plain" ∷ []) ≡ Some (record { command = Draw; top = codes "plain"; shows_context = false; version = One; is_wide = false })

@@ -2,7 +2,7 @@
 ghost use Rattle.std.specs.Prelude.{◌≡◌, ◌↔◌, None, Some, false, map, IfOk, IfErr, option_map};
 ghost use Rattle.clap.specs.Words.{app_of, kind_of, subcommand_rows_of};
 ghost use Rattle.clap.specs.declared.builder.command.Command.TheViews.{out-Command as fields_of};
-ghost use Rattle.rohcfn_words.specs.Words.{ReadsLost, ReadsWords, RefusesError, RefusesWords, asked, asked_in, asked_of, check_at, command_named, direction_at, end_at, prove_at, is_set, lost_in, lost_spelled, program, version_asked, with_explain, with_flags, with_items, with_lost, with_receive, with_top, with_version, with_wide};
+ghost use Rattle.rohcfn_words.specs.Words.{ReadsLost, ReadsRobust, ReadsWords, RefusesError, RefusesWords, asked, asked_in, asked_of, check_at, command_named, direction_at, end_at, prove_at, is_set, lost_in, lost_spelled, program, robust_by, robust_command, robust_run, version_asked, with_explain, with_flags, with_items, with_losses, with_lost, with_receive, with_robust, with_sending, with_top, with_version, with_wide};
 
 use clap::error::ErrorKind;
 use clap::{Arg, ArgAction, ArgMatches};
@@ -38,6 +38,12 @@ pub enum Command {
     Stats,
     /// Tells what is read of the items after losses of up to so many packets in a row, by the part `profile`.
     Loss(u8),
+    /// Turns items into lines, by packets that survive losses of up to so many in a row.
+    RobustPack(u8),
+    /// Counts those packets.
+    RobustStats(u8),
+    /// Tells what is read of them after losses of up to so many in a row, the first number, where they survive as many as the second says.
+    RobustLoss(u8, u8),
     /// Sends or receives packets of several flows on one line, by the part `profile`.
     Line(End),
 }
@@ -94,11 +100,12 @@ impl From<AllocError> for WordsError {
 
 /// Reads the words that follow the program's name: a command, `pack`, `unpack`, `fields`, `why`, `stats`, `loss`, `show`, `lint`,
 /// `draw`, `check`, `prove` or `line`, and its flags: `--top NAME`, for all commands but `show`, `lint` and `draw` also `--v2`, for `pack`, `unpack`, `fields` and `why` also
-/// `--context`, for `fields` and `why` also `--items`, for `loss` also `--lost N`, for `check` and `prove` also `--explain`, and for `line` also `--receive` and `--wide`.
+/// `--context`, for `fields` and `why` also `--items`, for `loss` also `--lost N`, for `pack`, `stats` and `loss` also `--robust N`, for `check` and `prove` also
+/// `--explain`, and for `line` also `--receive` and `--wide`.
 ///
 /// The clauses say it by clap's own account of a command line (`asked_of`), on which clap's parse is
-/// proved exact. N is a decimal number from 0 to 63 without a sign or a leading zero (`lost_is_read`), and 8 where
-/// it isn't given. Words that ask for help alone are no usage fault. The clauses say nothing of the text, and not
+/// proved exact. N is a decimal number from 0 to 63 without a sign or a leading zero (`lost_is_read`, `robust_is_read`), and that
+/// of `--lost` is 8 where it isn't given. Words that ask for help alone are no usage fault. The clauses say nothing of the text, and not
 /// which usage fault it tells.
 pub fn read_order<'a>(alloc: Global, words: &'a [&'a str]) -> Result<Order<'a>, WordsError>
     ensures order { IfOk result (λ order. asked_of (map (λ word. word.now) words.entry.now) ≡ Some (asked order)) }
@@ -126,10 +133,18 @@ pub fn lost_is_read()
     ensures { ReadsLost }
 {}
 
-// The most that `--lost` may say, and what is taken where it isn't given.
+/// A law of the texts that `--robust` takes: which ones they are, and what `pack`, `stats` and `loss` ask for with each.
+#[tactic(auto, using(crate::proofs::WordsNumbers::robust_is_read))]
+pub fn robust_is_read()
+    ensures { ReadsRobust }
+{}
+
+// The most that `--lost` and `--robust` may say, and what is taken where `--lost` isn't given.
 const MOST_LOST: u8 = 63;
 
 const USUALLY_LOST: &str = "8";
+
+const ROBUST_HELP: &str = "Packets survive losses of up to N in a row, 0 to 63";
 
 const NO_ORDER: &str = "error: a command and --top NAME are needed\n";
 
@@ -144,6 +159,7 @@ A bundle is read from standard input: parts, each after a line `=== PART`. For e
   rohcfn check --top plain <BUNDLE           profile > `accepted`
   rohcfn check --top plain --explain <BUNDLE the same, and below a refusal what explains it
   rohcfn pack --top plain <BUNDLE            profile, items > a line of bits for each item
+  rohcfn pack --top plain --robust 3 <BUNDLE the same, of packets that survive 3 lost in a row
   rohcfn unpack --top plain <BUNDLE          profile, packets > the item of each packet
   rohcfn fields --top plain <BUNDLE          profile, packets > the fields of each packet
   rohcfn fields --top plain --items <BUNDLE  profile, items > the fields of each item's packet
@@ -171,7 +187,7 @@ fn program<'a>(alloc: Global) -> Result<clap::Command<'a>, AllocError>
         .bin_name("rohcfn")?
         .no_binary_name(true)
         .subcommand_required(true);
-    let pack = with_flags(alloc, "pack", "Packs the part items")?;
+    let pack = with_sending(alloc, "pack", "Packs the part items")?;
     let one = bare.subcommand(pack)?;
     let unpack = with_flags(alloc, "unpack", "Unpacks the part packets")?;
     let two = one.subcommand(unpack)?;
@@ -179,9 +195,9 @@ fn program<'a>(alloc: Global) -> Result<clap::Command<'a>, AllocError>
     let three = two.subcommand(fields)?;
     let why = with_items(alloc, "why", "Tells why one of the part packets is refused")?;
     let reasons = three.subcommand(why)?;
-    let stats = with_version(alloc, "stats", "Counts the packed bits of the part items")?;
+    let stats = with_robust(alloc, "stats", "Counts the packed bits of the part items")?;
     let counted = reasons.subcommand(stats)?;
-    let loss = with_lost(
+    let loss = with_losses(
         alloc,
         "loss",
         "Tells what is read of the part items after lost packets",
@@ -270,6 +286,38 @@ fn with_lost<'a>(
     with_version(alloc, name, about)?.arg(lost)
 }
 
+// A command with the flags `--top` and `--v2`, and the option `--robust`.
+fn with_robust<'a>(
+    alloc: Global,
+    name: &'a str,
+    about: &'a str,
+) -> Result<clap::Command<'a>, AllocError>
+    ensures app { IfOk result (λ command. app_of command ≡ with_robust name.entry.now) }
+    ensures local { IfOk result (λ command. (fields_of command).has_globals ≡ false) }
+{
+    let robust = Arg::new(alloc, "robust")
+        .long("robust")
+        .value_name("N")
+        .help(ROBUST_HELP);
+    with_version(alloc, name, about)?.arg(robust)
+}
+
+// A command with the flags `--top` and `--v2`, and the options `--lost` and `--robust`.
+fn with_losses<'a>(
+    alloc: Global,
+    name: &'a str,
+    about: &'a str,
+) -> Result<clap::Command<'a>, AllocError>
+    ensures app { IfOk result (λ command. app_of command ≡ with_losses name.entry.now) }
+    ensures local { IfOk result (λ command. (fields_of command).has_globals ≡ false) }
+{
+    let robust = Arg::new(alloc, "robust")
+        .long("robust")
+        .value_name("N")
+        .help(ROBUST_HELP);
+    with_lost(alloc, name, about)?.arg(robust)
+}
+
 // A command that makes or checks a certificate, with the flags `--top`, `--v2` and `--explain`.
 fn with_explain<'a>(
     alloc: Global,
@@ -300,6 +348,22 @@ fn with_flags<'a>(
         .help("Prints the last context after the lines")
         .action(ArgAction::SetTrue);
     with_version(alloc, name, about)?.arg(context)
+}
+
+// A command with the flags `--top`, `--v2` and `--context`, and the option `--robust`.
+fn with_sending<'a>(
+    alloc: Global,
+    name: &'a str,
+    about: &'a str,
+) -> Result<clap::Command<'a>, AllocError>
+    ensures app { IfOk result (λ command. app_of command ≡ with_sending name.entry.now) }
+    ensures local { IfOk result (λ command. (fields_of command).has_globals ≡ false) }
+{
+    let robust = Arg::new(alloc, "robust")
+        .long("robust")
+        .value_name("N")
+        .help(ROBUST_HELP);
+    with_flags(alloc, name, about)?.arg(robust)
 }
 
 // A command with the flags `--top`, `--v2`, `--context` and `--items`.
@@ -359,7 +423,8 @@ fn order_in<'a>(matches: &ArgMatches<'a>) -> Option<Order<'a>>
     let packs = is_set(flags.get_str("items"));
     let explains = is_set(flags.get_str("explain"));
     let lost = lost_in(flags.get_str("lost"));
-    let command = command_of(name, receives, packs, explains, lost)?;
+    let plain = command_of(name, receives, packs, explains, lost)?;
+    let command = robust_in(flags.get_str("robust"), plain)?;
     let top = flags.get_str("top")?;
     let shows_context = is_set(flags.get_str("context"));
     let version = version_asked(is_set(flags.get_str("v2")));
@@ -400,6 +465,46 @@ fn lost_in(text: Option<&str>) -> Option<u8>
     }
 }
 
+// The command, or where the option is there that of the robust sender.
+fn robust_in(text: Option<&str>, command: Command) -> Option<Command>
+    ensures { result ≡ robust_by (option_map (λ text. text.now) text.entry) command }
+{
+    match text {
+        Some(text) => robust_spelled(text, command),
+        None => Some(command),
+    }
+}
+
+// The command of the robust sender, whose number of lost packets the text spells.
+fn robust_spelled(text: &str, command: Command) -> Option<Command>
+    ensures { result ≡ robust_by (Some text.now) command }
+{
+    match lost_spelled(text) {
+        Some(lost) => robust_of(command, lost),
+        None => None,
+    }
+}
+
+fn robust_of(command: Command, lost: u8) -> Option<Command>
+    ensures { result ≡ robust_command command lost }
+{
+    match command {
+        Command::Run(direction) => robust_run(direction, lost),
+        Command::Stats => Some(Command::RobustStats(lost)),
+        Command::Loss(most) => Some(Command::RobustLoss(most, lost)),
+        _ => None,
+    }
+}
+
+fn robust_run(direction: Direction, lost: u8) -> Option<Command>
+    ensures { result ≡ robust_run direction lost }
+{
+    match direction {
+        Direction::Pack => Some(Command::RobustPack(lost)),
+        Direction::Unpack => None,
+    }
+}
+
 // The number of lost packets that a text spells, without a sign or a leading zero.
 fn lost_spelled(text: &str) -> Option<u8>
     ensures { result ≡ lost_spelled text.now }
@@ -421,17 +526,28 @@ fn lost_spelled(text: &str) -> Option<u8>
 // What is told of words that clap takes and that are no order.
 fn no_order<'a>(alloc: Global, matches: &ArgMatches<'a>) -> Result<String, AllocError> {
     match misspelled(matches) {
-        Some(text) => format!(in alloc;
-            "error: invalid value '{text}' for '--lost <N>': a number from 0 to {MOST_LOST} is needed\n\nFor more information, try '--help'.\n\n{INPUT}"
+        Some((option, text)) => format!(in alloc;
+            "error: invalid value '{text}' for '--{option} <N>': a number from 0 to {MOST_LOST} is needed\n\nFor more information, try '--help'.\n\n{INPUT}"
         ),
         None => format!(in alloc; "{NO_ORDER}\n{INPUT}"),
     }
 }
 
-// What `--lost` has, where that is no such number.
-fn misspelled<'a>(matches: &ArgMatches<'a>) -> Option<&'a str> {
+// What `--lost` or `--robust` has, where that is no such number, behind the option's name.
+fn misspelled<'a>(matches: &ArgMatches<'a>) -> Option<(&'static str, &'a str)> {
     let (_, flags) = matches.subcommand()?;
-    let text = flags.get_str("lost")?;
+    if let Some(text) = not_spelled(flags.get_str("lost")) {
+        return Some(("lost", text));
+    }
+    if let Some(text) = not_spelled(flags.get_str("robust")) {
+        return Some(("robust", text));
+    }
+    None
+}
+
+// The text, where it spells no such number.
+fn not_spelled<'a>(text: Option<&'a str>) -> Option<&'a str> {
+    let text = text?;
     if lost_spelled(text).is_some() {
         return None;
     }
