@@ -29,15 +29,15 @@ INPUTS = {
     "line": ("events", "octets", "certificate", "pcap"),
 }
 TOLD = ("v2", "context")
-FLAGS = {"pack": TOLD, "unpack": TOLD, "fields": TOLD, "why": TOLD, "stats": ("v2",), "loss": ("v2", "lost"), "show": (), "lint": (), "draw": (), "check": ("v2", "explain"), "prove": ("v2", "explain"), "line": ("v2", "receive", "wide")}
+FLAGS = {"pack": (*TOLD, "robust"), "unpack": TOLD, "fields": TOLD, "why": TOLD, "stats": ("v2", "robust"), "loss": ("v2", "lost", "robust"), "show": (), "lint": (), "draw": (), "check": ("v2", "explain"), "prove": ("v2", "explain"), "line": ("v2", "receive", "wide")}
 PACKED, READ = ("item", "items", "pcap"), ("packet", "packets")
 # One of these at least is needed.
 NEEDED = {"pack": PACKED, "unpack": READ, "fields": PACKED + READ, "why": PACKED + READ, "stats": PACKED, "loss": PACKED, "line": ("events", "octets", "pcap")}
-OWN = ("top", "lost")  # options of the program that have a value
+OWN = ("top", "lost", "robust")  # options of the program that have a value
 VALUED = (*OWN, "item", "items", "packet", "packets", "from_context", "certificate", "events", "octets", "pcap", "flow")
 PLAIN = ("v2", "context", "explain", "receive", "wide", "diagnose")
 LINES = {"item": "items", "items": "items", "packet": "packets", "packets": "packets"}
-LOST = re.compile("[0-9]|[1-5][0-9]|6[0-3]")  # what --lost takes
+LOST = re.compile("[0-9]|[1-5][0-9]|6[0-3]")  # what --lost and --robust take
 TOP = re.compile(rb"(?:^| )--top[ =](\w+)")
 
 
@@ -106,8 +106,9 @@ def judge(order):
     for name in sorted({it for every in (*INPUTS.values(), *FLAGS.values()) for it in every}):
         if order.has(name) and name not in known:
             raise Usage("%s is no option of %s" % (option(name), order.command))
-    if order.has("lost") and not LOST.fullmatch(order.lost):
-        raise Usage("invalid value '%s' for '--lost <N>': a number from 0 to 63 is needed" % order.lost)
+    for name in ("lost", "robust"):
+        if order.has(name) and not LOST.fullmatch(getattr(order, name)):
+            raise Usage("invalid value '%s' for '%s <N>': a number from 0 to 63 is needed" % (getattr(order, name), option(name)))
     if order.takes_bundle():
         return
     if order.profile is None:

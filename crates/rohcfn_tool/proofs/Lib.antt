@@ -10,3 +10,5 @@ pub mod PrintedReplying
 pub mod PrintedStepping
 pub mod PrintedTallying
 pub mod Losing
+pub mod SenderLemmas
+pub mod SendingLines

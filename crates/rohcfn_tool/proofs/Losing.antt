@@ -1,111 +1,85 @@
 -- What receivers hear of packets, one after the other.
-use Rattle.std.proofs.Common.{◌≡◌, ◌∙◌, refl, sym, ap, subst, ℕ, suc, ◌+◌, ◌-◌, ◌<◌, ◌≤◌, Bool, true, false, nat_eq, nat_lt, cond, List, [], ◌∷◌, ◌++◌, length, map, drop, get_or, append_assoc, length-append, arith}
-use Rattle.std.specs.Prelude.{◌≢◌, Option, Some, None, Result, Ok, Err, IfOk, OnOk, String, string_bytes, slice_get}
-use Rattle.std.specs.Global.{Global}
+use Rattle.std.proofs.Common.{◌≡◌, ◌∙◌, refl, sym, ap, subst, ℕ, ◌+◌, ◌<◌, ◌≤◌, List, [], ◌∷◌, ◌++◌, length, map, drop, get_or, append_assoc}
+use Rattle.std.specs.Prelude.{Result, Ok, Err, IfOk, string_bytes}
 use Rattle.std.specs.declared.alloc.AllocError.{AllocError}
-use Rattle.std.proofs.lemmas.Bool.{leb-true}
 use Rattle.std.proofs.lemmas.List.{append-nil, drop_all, drop_more, map-append}
 use Rattle.fn_accepted.specs.Accepted.{Accepting}
 use Rattle.fn_context.specs.Entries.{Entries}
-use Rattle.fn_engine.specs.declared.writer.PackFault.{PackFault}
-use Rattle.fn_filling.specs.Entries.{next}
 use Rattle.fn_filling.specs.declared.filling.Filling.{Filling}
 use Rattle.fn_filling.specs.declared.filling.Item.{Item}
 use Rattle.fn_loss.specs.declared.judging.Journal.{Journal}
-use Rattle.fn_loss.specs.Judging.{Entry, IsJournal, back}
+use Rattle.fn_loss.specs.Judging.{Entry, IsJournal}
+use Rattle.fn_robust.specs.declared.sender.RobustFault.{RobustFault}
 use Rattle.fn_stats.specs.declared.counts.Count.{Count}
 use Rattle.fn_stats.specs.Counts.{counted, tally_all}
 use Rattle.rohcfn_input.specs.Refusals as refusals
 use Rattle.rohcfn_input.specs.declared.status.Answer.{Answer}
 use Rattle.rohcfn_input.specs.declared.status.Status.TheVariants as status
 use Rattle.rohcfn_items.specs.Loss.{loss_text}
-use Rattle.rohcfn_tool.specs.Loss.{Loses, none_left, one_sent, IsLossFault, refused_now, refused_later, LossBy, losses_told, item_refused, held_after, fewer, kept, Holds, IsLost, IsBlamed, IsRefusedLoss, IsPrintedLoss}
+use Rattle.rohcfn_tool.specs.Loss.{Loses, none_left, one_lost, IsLossFault, refused_now, refused_later, LossBy, losses_told, item_refused, IsLost, IsRefusedLoss, IsPrintedLoss}
+use Rattle.rohcfn_tool.specs.Senders.{Blames, own_of}
+use Rattle.rohcfn_tool.specs.declared.sender.Sender.{Sender}
 
--- some context is held, and the fillings, what is counted and the journal so far are those of the items so far: whatever comes of the others, all together come of all
-pub record LosesSoFar (a : Accepting) (most : ℕ) (start : Entries) (items : List Item) (i : ℕ) (held : List Entries) (cs : List Count) (j : Journal) : Type 0 where
-  pub some : held ≢ []
+-- The fillings, what is counted and the journal so far are those of the items so far: whatever comes of the others, all together come of all.
+pub record LosesSoFar (a : Accepting) (most : ℕ) (start : Sender) (items : List Item) (i : ℕ) (s : Sender) (held : List Entries) (cs : List Count) (j : Journal) : Type 0 where
   pub fillings : List Filling
   pub entries : List Entry
   pub counts_are : cs ≡ map counted fillings
   pub journal_is : IsJournal a entries j
-  pub goes_on : (fs : List Filling) (es : List Entry) → Loses a most held (i + 1) (drop i items) fs es → Loses a most (start ∷ []) 1 items (fillings ++ fs) (entries ++ es)
-  pub fails_on : (text : List ℕ) → IsLossFault a most held (i + 1) (drop i items) text → IsLossFault a most (start ∷ []) 1 items text
+  pub goes_on : (fs : List Filling) (es : List Entry) → Loses a most s held (i + 1) (drop i items) fs es → Loses a most start (own_of start ∷ []) 1 items (fillings ++ fs) (entries ++ es)
+  pub fails_on : (text : List ℕ) → IsLossFault a s (i + 1) (drop i items) text → IsLossFault a start 1 items text
 
--- ---- what is held after a packet
-
-not_empty : {A : Type 0} (xs : List A) (x : A) → xs ++ x ∷ [] ≢ []
-not_empty [] x e = absurd (cc)
-not_empty (y ∷ ys) x e = absurd (cc)
-
-long_tail : (most : ℕ) (cs : List Entries) → most + 1 < length cs → drop 1 cs ≢ []
-long_tail most [] lt e = absurd (omega (arith, lt))
-long_tail most (c ∷ []) lt e = absurd (omega (arith, lt))
-long_tail most (c ∷ d ∷ ds) lt e = absurd (cc)
-
-held_on : (most n : ℕ) (held : List Entries) (c : Entries) → held_after most n held c ≢ []
-held_on most n held c = by (nat_lt (most + 1) (length (kept n held ++ c ∷ []))) refl
-  where
-    by : (b : Bool) → nat_lt (most + 1) (length (kept n held ++ c ∷ [])) ≡ b → cond b (drop 1 (kept n held ++ c ∷ [])) (kept n held ++ c ∷ []) ≢ []
-    by true e = long_tail most (kept n held ++ c ∷ []) (lt_is e)
-      where
-        lt_is : nat_lt (most + 1) (length (kept n held ++ c ∷ [])) ≡ true → most + 1 < length (kept n held ++ c ∷ [])
-        lt_is e = let le = leb-true (suc (most + 1)) (length (kept n held ++ c ∷ [])) e in omega (arith, le)
-    by false e = not_empty (kept n held) c
-
-module _ (a : Accepting) (most : ℕ) (start : Entries) (items : List Item) where
-  pub begin : (held : List Entries) (cs : List Count) (j : Journal) → held ≡ start ∷ [] → cs ≡ [] → IsJournal a [] j → LosesSoFar a most start items 0 held cs j
+module _ (a : Accepting) (most : ℕ) (start : Sender) (items : List Item) where
+  pub begin : (held : List Entries) (cs : List Count) (j : Journal) → held ≡ own_of start ∷ [] → cs ≡ [] → IsJournal a [] j → LosesSoFar a most start items 0 start held cs j
   begin held cs j one none journal = record {
-    some = λ e. not_empty [] start (sym one ∙ e);
     fillings = [];
     entries = [];
     counts_are = none;
     journal_is = journal;
-    goes_on = λ fs es h. subst (λ hs. Loses a most hs 1 items fs es) one h;
-    fails_on = λ text h. subst (λ hs. IsLossFault a most hs 1 items text) one h;
+    goes_on = λ fs es h. subst (λ hs. Loses a most start hs 1 items fs es) one h;
+    fails_on = λ text h. h;
   }
 
-  pub onward : (i : ℕ) (d x : Item) (held after : List Entries) (cs more : List Count) (was is : Journal) → i < length items → x ≡ get_or items i d → LosesSoFar a most start items i held cs was
-      → IsLost a most held after cs more was is (i + 1) x → LosesSoFar a most start items (i + 1) after more is
-  onward i d x held after cs more was is lt e so step =
+  pub onward : (i : ℕ) (d x : Item) (s to : Sender) (held after : List Entries) (cs more : List Count) (was is : Journal) → i < length items → x ≡ get_or items i d → LosesSoFar a most start items i s held cs was
+      → IsLost a most s to held after cs more was is (i + 1) x → LosesSoFar a most start items (i + 1) to after more is
+  onward i d x s to held after cs more was is lt e so step =
       let here : drop i items ≡ x ∷ drop (i + 1) items = drop_more items i d lt ∙ ap (λ y. y ∷ drop (i + 1) items) (sym e) in
       let f = step.packed.filling in
       record {
-        some = λ none. held_on most (i + 1) held (next step.context f) (sym step.new_is ∙ none);
         fillings = so.fillings ++ f ∷ [];
         entries = so.entries ++ step.adds.entries;
         counts_are = step.counts_are ∙ ap (λ z. z ++ counted f ∷ []) so.counts_are ∙ sym (map-append counted so.fillings (f ∷ []));
         journal_is = step.adds.grows so.entries so.journal_is;
         goes_on = λ fs es then.
-            let one : Loses a most held (i + 1) (x ∷ drop (i + 1) items) (f ∷ fs) (step.adds.entries ++ es) =
-            one_sent step.context step.packed step.newest step.packed_is step.adds.are_heard (subst (λ hs. Loses a most hs (i + 1 + 1) (drop (i + 1) items) fs es) step.new_is then) in
-            let whole : Loses a most (start ∷ []) 1 items (so.fillings ++ (f ∷ fs)) (so.entries ++ (step.adds.entries ++ es)) =
-            so.goes_on (f ∷ fs) (step.adds.entries ++ es) (subst (λ xs. Loses a most held (i + 1) xs (f ∷ fs) (step.adds.entries ++ es)) (sym here) one) in
-            subst (λ z. Loses a most (start ∷ []) 1 items ((so.fillings ++ f ∷ []) ++ fs) z) (sym (append_assoc so.entries step.adds.entries es))
-            (subst (λ gs. Loses a most (start ∷ []) 1 items gs (so.entries ++ (step.adds.entries ++ es))) (sym (append_assoc so.fillings (f ∷ []) fs)) whole);
+            let one : Loses a most s held (i + 1) (x ∷ drop (i + 1) items) (f ∷ fs) (step.adds.entries ++ es) =
+            one_lost step.packed to step.sent step.adds.are_heard (subst (λ hs. Loses a most to hs (i + 1 + 1) (drop (i + 1) items) fs es) step.new_is then) in
+            let whole : Loses a most start (own_of start ∷ []) 1 items (so.fillings ++ (f ∷ fs)) (so.entries ++ (step.adds.entries ++ es)) =
+            so.goes_on (f ∷ fs) (step.adds.entries ++ es) (subst (λ xs. Loses a most s held (i + 1) xs (f ∷ fs) (step.adds.entries ++ es)) (sym here) one) in
+            subst (λ z. Loses a most start (own_of start ∷ []) 1 items ((so.fillings ++ f ∷ []) ++ fs) z) (sym (append_assoc so.entries step.adds.entries es))
+            (subst (λ gs. Loses a most start (own_of start ∷ []) 1 items gs (so.entries ++ (step.adds.entries ++ es))) (sym (append_assoc so.fillings (f ∷ []) fs)) whole);
         fails_on = λ text then.
-            let one : IsLossFault a most held (i + 1) (x ∷ drop (i + 1) items) text =
-            refused_later step.context step.packed step.newest step.packed_is (subst (λ hs. IsLossFault a most hs (i + 1 + 1) (drop (i + 1) items) text) step.new_is then) in
-            so.fails_on text (subst (λ xs. IsLossFault a most held (i + 1) xs text) (sym here) one);
+            let one : IsLossFault a s (i + 1) (x ∷ drop (i + 1) items) text = refused_later step.packed to step.sent then in
+            so.fails_on text (subst (λ xs. IsLossFault a s (i + 1) xs text) (sym here) one);
       }
 
-  pub fault_here : (i : ℕ) (d x : Item) (held : List Entries) (cs : List Count) (j : Journal) (e : PackFault) (r : Result Answer AllocError) → i < length items → x ≡ get_or items i d
-      → LosesSoFar a most start items i held cs j → IsBlamed a held x e → IfOk r (IsRefusedLoss e (i + 1)) → IfOk r (refusals.Holds (LossBy most a start items))
-  fault_here i d x held cs j e (Err w) lt is so blamed told = tt
-  fault_here i d x held cs j e (Ok answer) lt is so blamed told =
+  pub fault_here : (i : ℕ) (d x : Item) (s : Sender) (held : List Entries) (cs : List Count) (j : Journal) (e : RobustFault) (r : Result Answer AllocError) → i < length items → x ≡ get_or items i d
+      → LosesSoFar a most start items i s held cs j → Blames e a s x → IfOk r (IsRefusedLoss e (i + 1)) → IfOk r (refusals.Holds (LossBy most a start items))
+  fault_here i d x s held cs j e (Err w) lt is so blamed told = tt
+  fault_here i d x s held cs j e (Ok answer) lt is so blamed told =
       let here : drop i items ≡ x ∷ drop (i + 1) items = drop_more items i d lt ∙ ap (λ y. y ∷ drop (i + 1) items) (sym is) in
-      let one : IsLossFault a most held (i + 1) (x ∷ drop (i + 1) items) told.0 = refused_now blamed.context blamed.newest (e, blamed.blames, told.1, told.2) in
-      let all : LossBy most a start items status.Refused (told.0 ++ 10 ∷ []) = item_refused told.0 (so.fails_on told.0 (subst (λ xs. IsLossFault a most held (i + 1) xs told.0) (sym here) one)) in
-      subst (λ s. LossBy most a start items s (string_bytes answer.output)) (sym told.3.status_is) (subst (λ z. LossBy most a start items status.Refused z) (sym told.3.line_is) all)
+      let one : IsLossFault a s (i + 1) (x ∷ drop (i + 1) items) told.0 = refused_now (e, blamed, told.1, told.2) in
+      let all : LossBy most a start items status.Refused (told.0 ++ 10 ∷ []) = item_refused told.0 (so.fails_on told.0 (subst (λ xs. IsLossFault a s (i + 1) xs told.0) (sym here) one)) in
+      subst (λ st. LossBy most a start items st (string_bytes answer.output)) (sym told.3.status_is) (subst (λ z. LossBy most a start items status.Refused z) (sym told.3.line_is) all)
 
-  pub ending : (i : ℕ) (held : List Entries) (cs shown : List Count) (j : Journal) (r : Result Answer AllocError) → length items ≤ i → LosesSoFar a most start items i held cs j → shown ≡ cs
+  pub ending : (i : ℕ) (s : Sender) (held : List Entries) (cs shown : List Count) (j : Journal) (r : Result Answer AllocError) → length items ≤ i → LosesSoFar a most start items i s held cs j → shown ≡ cs
       → IfOk r (IsPrintedLoss a most shown j) → IfOk r (refusals.Holds (LossBy most a start items))
-  ending i held cs shown j (Err w) le so same told = tt
-  ending i held cs shown j (Ok answer) le so same told =
-      let rest : Loses a most held (i + 1) (drop i items) [] [] = subst (λ xs. Loses a most held (i + 1) xs [] []) (sym (drop_all i items le)) none_left in
-      let whole : Loses a most (start ∷ []) 1 items so.fillings so.entries =
-      subst (λ z. Loses a most (start ∷ []) 1 items so.fillings z) (append-nil so.entries)
-      (subst (λ z. Loses a most (start ∷ []) 1 items z (so.entries ++ [])) (append-nil so.fillings) (so.goes_on [] [] rest)) in
+  ending i s held cs shown j (Err w) le so same told = tt
+  ending i s held cs shown j (Ok answer) le so same told =
+      let rest : Loses a most s held (i + 1) (drop i items) [] [] = subst (λ xs. Loses a most s held (i + 1) xs [] []) (sym (drop_all i items le)) none_left in
+      let whole : Loses a most start (own_of start ∷ []) 1 items so.fillings so.entries =
+      subst (λ z. Loses a most start (own_of start ∷ []) 1 items so.fillings z) (append-nil so.entries)
+      (subst (λ z. Loses a most start (own_of start ∷ []) 1 items z (so.entries ++ [])) (append-nil so.fillings) (so.goes_on [] [] rest)) in
       let all = losses_told so.fillings so.entries j whole so.journal_is in
       let text : string_bytes answer.output ≡ loss_text a.profile.methods a.profile.top most (tally_all (map counted so.fillings)) j.readings j.cases ++ 10 ∷ [] =
       told.output_is ∙ ap (λ z. loss_text a.profile.methods a.profile.top most (tally_all z) j.readings j.cases ++ 10 ∷ []) (same ∙ so.counts_are) in
-      subst (λ s. LossBy most a start items s (string_bytes answer.output)) (sym told.status_is) (subst (λ z. LossBy most a start items status.Done z) (sym text) all)
+      subst (λ st. LossBy most a start items st (string_bytes answer.output)) (sym told.status_is) (subst (λ z. LossBy most a start items status.Done z) (sym text) all)

@@ -7,10 +7,8 @@ use Rattle.std.specs.declared.alloc.AllocError.{AllocError}
 use Rattle.std.proofs.lemmas.List.{append-nil, drop_all, drop_more, map-append}
 use Rattle.fn_accepted.specs.Accepted.{Accepting}
 use Rattle.fn_context.specs.Entries.{Entries}
-use Rattle.fn_engine.specs.Writing as writing
-use Rattle.fn_engine.specs.declared.writer.PackFault.{PackFault}
+use Rattle.fn_robust.specs.declared.sender.RobustFault.{RobustFault}
 use Rattle.fn_engine.specs.declared.search.Packed.{Packed}
-use Rattle.fn_filling.specs.Entries.{next}
 use Rattle.fn_filling.specs.declared.filling.Filling.{Filling}
 use Rattle.fn_filling.specs.declared.filling.Item.{Item}
 use Rattle.fn_normal.specs.declared.profile.Method.{Method}
@@ -28,27 +26,30 @@ use Rattle.rohcfn_input.proofs.RefusalsHeld.{refusal_is}
 use Rattle.rohcfn_items.specs.Stats.{stats_text}
 use Rattle.rohcfn_words.specs.declared.words.Direction.TheVariants.{Pack}
 use Rattle.rohcfn_tool.specs.declared.stats.Survey.{Survey}
-use Rattle.rohcfn_tool.specs.Printed.{CountsItem, CountsItems, IsItemFault, IsPrintedStats, IsRefusedBelow, Packs, StatsBy, StatsFor, StatsIn, bad_entry, bad_item, bad_line_text, counted_by, counts_packed, counts_refused, packs_none, packs_one, refuses_one}
+use Rattle.rohcfn_tool.specs.Senders.{Blames, IsSenderFault, Sends}
+use Rattle.rohcfn_tool.specs.declared.sender.Sender.{Sender}
+use Rattle.rohcfn_tool.specs.Printed.{CountsItem, CountsItems, IsPrintedStats, IsRefusedBelow, Packs, StatsBy, StatsFor, StatsIn, bad_entry, bad_item, bad_line_text, counted_by, counts_packed, counts_refused, packs_none, packs_one, refuses_one}
 
 -- the counts and the lines so far are those of the items so far: whatever comes of the others, all together come of all
-pub record CountedSoFar (a : Accepting) (start : Entries) (items : List Item) (i : ℕ) (ctx : Entries) (cs : List Count) (refused : List ℕ) : Type 0 where
+pub record CountedSoFar (a : Accepting) (start : Sender) (items : List Item) (i : ℕ) (ctx : Sender) (cs : List Count) (refused : List ℕ) : Type 0 where
   pub fillings : List Filling
   pub counts_are : cs ≡ map counted fillings
   pub goes_on : (fs : List Filling) (rest : List ℕ) → Packs a ctx (i + 1) (drop i items) fs rest → Packs a start 1 items (fillings ++ fs) (refused ++ rest)
 
-module _ (a : Accepting) (start : Entries) (items : List Item) where
+module _ (a : Accepting) (start : Sender) (items : List Item) where
   pub counted_start : (cs : List Count) (refused : List ℕ) → cs ≡ [] → refused ≡ [] → CountedSoFar a start items 0 start cs refused
   counted_start cs refused none empty = record { fillings = []; counts_are = none; goes_on = λ fs rest h. subst (λ r. Packs a start 1 items fs (r ++ rest)) (sym empty) h }
 
-  pub counted_on : (i : ℕ) (d x : Item) (ctx reached : Entries) (cs more : List Count) (refused below : List ℕ) → i < length items → x ≡ get_or items i d → CountedSoFar a start items i ctx cs refused → CountsItem a ctx reached cs more refused below (i + 1) x
+  pub counted_on : (i : ℕ) (d x : Item) (ctx reached : Sender) (cs more : List Count) (refused below : List ℕ) → i < length items → x ≡ get_or items i d → CountedSoFar a start items i ctx cs refused → CountsItem a ctx reached cs more refused below (i + 1) x
       → CountedSoFar a start items (i + 1) reached more below
-  counted_on i d x ctx reached cs more refused below h e so (counts_packed f best goes grown same) =
+  counted_on i d x ctx reached cs more refused below h e so (counts_packed p sent grown same) =
       let here : drop i items ≡ x ∷ drop (i + 1) items = drop_more items i d h ∙ ap (λ y. y ∷ drop (i + 1) items) (sym e) in
+      let f = p.filling in
       record {
         fillings = so.fillings ++ f ∷ [];
         counts_are = grown ∙ ap (λ z. z ++ counted f ∷ []) so.counts_are ∙ sym (map-append counted so.fillings (f ∷ []));
         goes_on = λ fs rest then.
-            let one : Packs a ctx (i + 1) (x ∷ drop (i + 1) items) (f ∷ fs) rest = packs_one f best (subst (λ c. Packs a c (i + 1 + 1) (drop (i + 1) items) fs rest) goes then) in
+            let one : Packs a ctx (i + 1) (x ∷ drop (i + 1) items) (f ∷ fs) rest = packs_one p reached sent then in
             let whole : Packs a start 1 items (so.fillings ++ (f ∷ fs)) (refused ++ rest) = so.goes_on (f ∷ fs) rest (subst (λ xs. Packs a ctx (i + 1) xs (f ∷ fs) rest) (sym here) one) in
             subst (λ r. Packs a start 1 items ((so.fillings ++ f ∷ []) ++ fs) (r ++ rest)) (sym same) (subst (λ gs. Packs a start 1 items gs (refused ++ rest)) (sym (append_assoc so.fillings (f ∷ []) fs)) whole);
       }
@@ -63,7 +64,7 @@ module _ (a : Accepting) (start : Entries) (items : List Item) where
             subst (λ r. Packs a start 1 items (so.fillings ++ fs) r) (sym (append_assoc refused (10 ∷ text) rest) ∙ ap (λ r. r ++ rest) (sym grown)) whole;
       }
 
-  pub counted_end : (i : ℕ) (ctx : Entries) (cs shown : List Count) (refused lines : List ℕ) (r : Result Answer AllocError) → length items ≤ i → CountedSoFar a start items i ctx cs refused → shown ≡ cs → lines ≡ refused → IfOk r (IsPrintedStats a shown lines) → IfOk r (CountsItems a start items)
+  pub counted_end : (i : ℕ) (ctx : Sender) (cs shown : List Count) (refused lines : List ℕ) (r : Result Answer AllocError) → length items ≤ i → CountedSoFar a start items i ctx cs refused → shown ≡ cs → lines ≡ refused → IfOk r (IsPrintedStats a shown lines) → IfOk r (CountsItems a start items)
   counted_end i ctx cs shown refused lines (Err e) h so same all is = tt
   counted_end i ctx cs shown refused lines (Ok told) h so same all is =
       let last : Packs a ctx (i + 1) (drop i items) [] [] = subst (λ xs. Packs a ctx (i + 1) xs [] []) (sym (drop_all i items h)) packs_none in
@@ -75,18 +76,15 @@ module _ (a : Accepting) (start : Entries) (items : List Item) where
 
 -- ---- one item
 
-pub one_counted : {T : Type 0} (a : Accepting) (old new : Entries) (before after : List Count) (above : List ℕ) (n : ℕ) (it : Item) (w : Packed) (c : Count) (r : Result T AllocError) → writing.IsPacked a old it w → c ≡ counted w.filling → after ≡ before ++ c ∷ []
-    → OnOk r (new ≡ next old w.filling) → OnOk r (CountsItem a old new before after above above n it)
-one_counted a old new before after above n it w c (Err e) is same grown reached = tt
-one_counted a old new before after above n it w c (Ok x) is same grown reached =
-    counts_packed w.filling is.best reached (grown ∙ ap (λ z. before ++ z ∷ []) same) refl
+pub one_counted : (a : Accepting) (old new : Sender) (before after : List Count) (above : List ℕ) (n : ℕ) (it : Item) (w : Packed) (c : Count) → Sends a old it w new → c ≡ counted w.filling → after ≡ before ++ c ∷ [] → CountsItem a old new before after above above n it
+one_counted a old new before after above n it w c is same grown = counts_packed w is (grown ∙ ap (λ z. before ++ z ∷ []) same) refl
 
-pub one_refused : {T : Type 0} (a : Accepting) (ctx : Entries) (cs : List Count) (above below : List ℕ) (n : ℕ) (it : Item) (e : PackFault) (r : Result T AllocError) → writing.Blames e a ctx it → OnOk r (IsRefusedBelow e n above below) → OnOk r (CountsItem a ctx ctx cs cs above below n it)
-one_refused a ctx cs above below n it e (Err x) blames is = tt
-one_refused a ctx cs above below n it e (Ok x) blames is = counts_refused is.0 (e, blames, is.1, is.2) refl refl is.3
+pub one_refused : {T : Type 0} (a : Accepting) (old new : Sender) (cs : List Count) (above below : List ℕ) (n : ℕ) (it : Item) (e : RobustFault) (r : Result T AllocError) → new ≡ old → Blames e a old it → OnOk r (IsRefusedBelow e n above below) → OnOk r (CountsItem a old new cs cs above below n it)
+one_refused a old new cs above below n it e (Err x) same blames is = tt
+one_refused a old new cs above below n it e (Ok x) same blames is = counts_refused is.0 (e, blames, is.1, is.2) same refl is.3
 
 -- the line of a refused item, below those before it
-pub line_below : (e : PackFault) (n : ℕ) (above mid below line text : List ℕ) → IsItemFault e n line → IsLine line → mid ≡ above ++ 10 ∷ [] → text ≡ line → below ≡ mid ++ text → IsRefusedBelow e n above below
+pub line_below : (e : RobustFault) (n : ℕ) (above mid below line text : List ℕ) → IsSenderFault e n line → IsLine line → mid ≡ above ++ 10 ∷ [] → text ≡ line → below ≡ mid ++ text → IsRefusedBelow e n above below
 line_below e n above mid below line text is single begun same grown = (line, is, single, grown ∙ (λ j. begun j ++ same j) ∙ append_assoc above (10 ∷ []) line)
 
 pub counts_printed : (a : Accepting) (p : Resolved) (methods : List Method) (top : ℕ) (cs : List Count) (text refused : List ℕ) (output : String Global) → p ≡ a.profile → methods ≡ p.methods → top ≡ p.top → text ≡ stats_text methods top cs → string_bytes output ≡ text ++ refused ++ 10 ∷ []

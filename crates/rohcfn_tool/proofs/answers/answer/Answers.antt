@@ -1,7 +1,7 @@
 use Rattle.std.proofs.Common.{refl, subst}
 use Rattle.rohcfn_tool.specs.Line.{Lined}
 use Rattle.rohcfn_tool.specs.declared.stats.Survey.TheVariants as survey
-use Rattle.rohcfn_tool.specs.Printed.{Answered, AnsweredRun, no_profile, shown, linted, drawn, checked, proved, check_explained, prove_explained, ran, told, explained, lined, stated, lost_told, Stated}
+use Rattle.rohcfn_tool.specs.Printed.{Answered, AnsweredRun, no_profile, shown, linted, drawn, checked, proved, check_explained, prove_explained, ran, told, explained, lined, stated, lost_told, robust_packed, robust_stated, robust_told, Stated}
 use Rattle.rohcfn_tool.specs.declared.packets.Shape.TheVariants.{Line, Tree, Why}
 use Rattle.rohcfn_report.specs.Explained.{Explained}
 use Rattle.rohcfn_report.specs.Surveys.{DrawnBy}
@@ -66,3 +66,15 @@ returns-in-Stats c =
 pub returns-in-Loss : goal.returns-in-Loss
 returns-in-Loss c =
     passed_on (Stated (survey.Loss c.in-Loss.most) c.args.order.now c.in-Some.profile.now c.args.parts.now) (Answered c.args.order.now c.args.parts.now) c.answer_stats-in-Loss.result (λ s out h. lost_told c.in-Some.profile c.in-Loss.most c.in-Some.is c.in-Loss.is h) c.answer_stats-in-Loss.ensures
+
+pub returns-in-RobustPack : goal.returns-in-RobustPack
+returns-in-RobustPack c =
+    passed_on (Stated (survey.RobustPack c.args.order.now.shows_context c.in-RobustPack.lost) c.args.order.now c.in-Some.profile.now c.args.parts.now) (Answered c.args.order.now c.args.parts.now) c.answer_stats-in-RobustPack.result (λ s out h. robust_packed c.in-Some.profile c.in-RobustPack.lost c.in-Some.is c.in-RobustPack.is h) c.answer_stats-in-RobustPack.ensures
+
+pub returns-in-RobustStats : goal.returns-in-RobustStats
+returns-in-RobustStats c =
+    passed_on (Stated (survey.RobustStats c.in-RobustStats.lost) c.args.order.now c.in-Some.profile.now c.args.parts.now) (Answered c.args.order.now c.args.parts.now) c.answer_stats-in-RobustStats.result (λ s out h. robust_stated c.in-Some.profile c.in-RobustStats.lost c.in-Some.is c.in-RobustStats.is h) c.answer_stats-in-RobustStats.ensures
+
+pub returns-in-RobustLoss : goal.returns-in-RobustLoss
+returns-in-RobustLoss c =
+    passed_on (Stated (survey.RobustLoss c.in-RobustLoss.most c.in-RobustLoss.lost) c.args.order.now c.in-Some.profile.now c.args.parts.now) (Answered c.args.order.now c.args.parts.now) c.answer_stats-in-RobustLoss.result (λ s out h. robust_told c.in-Some.profile c.in-RobustLoss.most c.in-RobustLoss.lost c.in-Some.is c.in-RobustLoss.is h) c.answer_stats-in-RobustLoss.ensures

@@ -4,4 +4,4 @@ use Rattle.rohcfn_tool.proofs.stats.count_all.Given as goal
 
 -- the counts and the lines so far, and what comes of the items that are left
 abbrev pub invariant-loop-i : goal.invariant-loop-i
-invariant-loop-i l = CountedSoFar l.accepted l.fn.start l.items l.i l.context l.counts (string_bytes l.refused)
+invariant-loop-i l = CountedSoFar l.accepted l.fn.start l.items l.i l.sender l.counts (string_bytes l.refused)

@@ -1,0 +1,30 @@
+-- What is said of senders, their packets and their refusals.
+use Rattle.std.proofs.Common.{◌≡◌, ◌∙◌, ap, refl, sym, subst, ℕ, List, ◌++◌, codes, decimal}
+use Rattle.std.specs.Prelude.{Result, Ok, Err, OnOk, IfErr, IfOk}
+use Rattle.fn_accepted.specs.Accepted.{Accepting}
+use Rattle.fn_context.specs.Entries.{Entries, bits_at}
+use Rattle.fn_engine.specs.declared.search.Packed.{Packed}
+use Rattle.fn_filling.specs.declared.filling.Item.{Item}
+use Rattle.fn_loss.specs.Judging.{IsSent}
+use Rattle.fn_robust.specs.declared.sender.RobustFault.{RobustFault}
+use Rattle.fn_robust.specs.declared.sender.RobustFault.TheVariants.{Pack, NoReach, Contexts}
+use Rattle.rohcfn_tool.specs.Senders.{Blames, IsOfItem, Sends}
+use Rattle.rohcfn_tool.specs.declared.sender.Sender.{Sender}
+use Rattle.rohcfn_tool.specs.declared.sender.Sender.TheVariants.{Plain, Surviving}
+use Rattle.rohcfn_tool.proofs.PrintedStepping.{no_flow_blamed}
+
+-- of an item no missing flow is blamed
+pub of_item : (a : Accepting) (s : Sender) (it : Item) (e : RobustFault) → Blames e a s it → IsOfItem e
+of_item a (Plain ctx) it (Pack e) blames = no_flow_blamed a ctx it e blames
+of_item a (Plain ctx) it NoReach blames = tt
+of_item a (Plain ctx) it Contexts blames = tt
+of_item a (Surviving s) it (Pack e) blames = no_flow_blamed a s.own it e blames
+of_item a (Surviving s) it NoReach blames = tt
+of_item a (Surviving s) it Contexts blames = tt
+
+-- what is sent fits somewhere, and has its bits
+pub sent_anywhere : (a : Accepting) (s after : Sender) (it : Item) (p : Packed) → Sends a s it p after → IsSent a p
+sent_anywhere a (Plain ctx) (Plain after) it p is = record { fits = record { context = bits_at ctx; fits = is.0.best.fits }; packed_is = is.0.packed_is }
+sent_anywhere a (Plain ctx) (Surviving after) it p is = absurd is
+sent_anywhere a (Surviving s) (Surviving after) it p is = record { fits = record { context = bits_at s.own; fits = is.best.best.fits }; packed_is = is.best.packed_is }
+sent_anywhere a (Surviving s) (Plain after) it p is = absurd is

@@ -1,0 +1,60 @@
+-- The lines for items that a sender packs, one after the other.
+use Rattle.std.proofs.Common.{◌≡◌, ◌∙◌, refl, ap, sym, subst, ℕ, ◌+◌, ◌<◌, ◌≤◌, Bool, true, false, List, [], ◌∷◌, ◌++◌, length, drop, get_or, append_assoc}
+use Rattle.std.specs.Prelude.{Result, Ok, Err, IfOk, string_bytes}
+use Rattle.std.specs.declared.alloc.AllocError.{AllocError}
+use Rattle.std.proofs.lemmas.List.{drop_all, drop_more}
+use Rattle.fn_accepted.specs.Accepted.{Accepting}
+use Rattle.fn_context.specs.Entries.{Entries}
+use Rattle.fn_filling.specs.declared.filling.Item.{Item}
+use Rattle.fn_robust.specs.declared.sender.RobustFault.{RobustFault}
+use Rattle.rohcfn_input.specs.OneLine.{IsLine}
+use Rattle.rohcfn_input.specs.Refusals.{Holds}
+use Rattle.rohcfn_input.specs.declared.status.Answer.{Answer}
+use Rattle.rohcfn_input.specs.declared.status.Status.{Status}
+use Rattle.rohcfn_input.specs.declared.status.Status.TheVariants as status
+use Rattle.rohcfn_tool.specs.Printed.{HasLine, IsFinished, IsSendStep, SendsItems, SentBy, all_sent, one_refused, one_sent}
+use Rattle.rohcfn_tool.specs.Senders.{Blames, IsSenderFault, RefusesSent, own_of}
+use Rattle.rohcfn_tool.specs.declared.sender.Sender.{Sender}
+
+-- the lines so far and those for what is left, by the sender as it is now, are all lines
+abbrev pub SentSoFar : Bool → Accepting → Sender → List Item → ℕ → Sender → List ℕ → Type 0
+SentSoFar shows a start items i s out = (st : Status) (rest : List ℕ) → SentBy shows a s (i + 1) (drop i items) st rest → SentBy shows a start 1 items st (out ++ rest)
+
+joined : (out text rest : List ℕ) → out ++ (text ++ 10 ∷ rest) ≡ (out ++ text ++ 10 ∷ []) ++ rest
+joined out text rest = simp append_assoc
+
+-- the line of a refused item
+pub refused_line : (a : Accepting) (s : Sender) (before after : List ℕ) (n : ℕ) (it : Item) (e : RobustFault) (line text : List ℕ) → Blames e a s it → IsSenderFault e n line → IsLine line → text ≡ line → after ≡ before ++ text ++ 10 ∷ [] → HasLine (RefusesSent a s n it) before after
+refused_line a s before after n it e line text blames is single same grown = (line, (e, blames, is, single), grown ∙ ap (λ l. before ++ l ++ 10 ∷ []) same)
+
+module _ (shows : Bool) (a : Accepting) (start : Sender) (items : List Item) where
+  pub sending_start : (out : List ℕ) → out ≡ [] → SentSoFar shows a start items 0 start out
+  sending_start out e st rest h = subst (λ o. SentBy shows a start 1 items st (o ++ rest)) (sym e) h
+
+  -- a line more
+  pub sending_on : (i : ℕ) (d x : Item) (s reached : Sender) (out new : List ℕ) (b : Bool) → i < length items → x ≡ get_or items i d → SentSoFar shows a start items i s out → IsSendStep a s reached out new (i + 1) x b → b ≡ false → SentSoFar shows a start items (i + 1) reached new
+  sending_on i d x s reached out new b h e so step is st rest more =
+      let l = subst (λ (y : Bool). IsSendStep a s reached out new (i + 1) x y) is step in
+      let text = l.2.0 in
+      let here : drop i items ≡ x ∷ drop (i + 1) items = drop_more items i d h ∙ ap (λ y. y ∷ drop (i + 1) items) (sym e) in
+      let lines : SentBy shows a s (i + 1) (x ∷ drop (i + 1) items) st (text ++ 10 ∷ rest) = one_sent l.0 reached text rest l.1 l.2.1 more in
+      subst (λ o. SentBy shows a start 1 items st o) (joined out text rest ∙ ap (λ o. o ++ rest) (sym l.2.2))
+      (so st (text ++ 10 ∷ rest) (subst (λ xs. SentBy shows a s (i + 1) xs st (text ++ 10 ∷ rest)) (sym here) lines))
+
+  -- the line that refuses
+  pub sending_stop : (i : ℕ) (d x : Item) (s reached : Sender) (out new : List ℕ) (b : Bool) → i < length items → x ≡ get_or items i d → SentSoFar shows a start items i s out → IsSendStep a s reached out new (i + 1) x b → b ≡ true → SentBy shows a start 1 items status.Refused new
+  sending_stop i d x s reached out new b h e so step is =
+      let f = subst (λ (y : Bool). IsSendStep a s reached out new (i + 1) x y) is step in
+      let here : drop i items ≡ x ∷ drop (i + 1) items = drop_more items i d h ∙ ap (λ y. y ∷ drop (i + 1) items) (sym e) in
+      let last : SentBy shows a s (i + 1) (x ∷ drop (i + 1) items) status.Refused (f.0 ++ 10 ∷ []) = one_refused f.0 f.1 in
+      let whole = so status.Refused (f.0 ++ 10 ∷ []) (subst (λ xs. SentBy shows a s (i + 1) xs status.Refused (f.0 ++ 10 ∷ [])) (sym here) last) in
+      subst (λ o. SentBy shows a start 1 items status.Refused o) (sym (f.2 ∙ append_assoc out f.0 (10 ∷ []))) whole
+
+  -- after the last
+  pub sending_end : (i : ℕ) (s : Sender) (ctx : Entries) (out : List ℕ) (r : Result Answer AllocError) → length items ≤ i → SentSoFar shows a start items i s out → ctx ≡ own_of s → IfOk r (IsFinished shows ctx out) → IfOk r (SendsItems shows a start items)
+  sending_end i s ctx out (Err e) h so own f = tt
+  sending_end i s ctx out (Ok answer) h so own f =
+      let ends = subst (λ c. IsFinished shows c out answer) own f in
+      let last : SentBy shows a s (i + 1) (drop i items) status.Done ends.text = subst (λ xs. SentBy shows a s (i + 1) xs status.Done ends.text) (sym (drop_all i items h)) (all_sent ends.ends) in
+      let whole = so status.Done ends.text last in
+      subst (λ st. SentBy shows a start 1 items st (string_bytes answer.output)) (sym ends.status_is) (subst (λ o. SentBy shows a start 1 items status.Done o) (sym ends.output_is) whole)

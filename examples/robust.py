@@ -1,0 +1,263 @@
+#!/usr/bin/env python3
+"""Packets that survive losses, through the built program: `pack`, `stats` and `loss` with `--robust N`.
+
+    robust.py            `--robust 0` changes nothing of the stored cases; `pack --robust N` and `stats --robust N` against a slow search over what a receiver may hold, on small profiles; and the headers
+                         of data/ over a link that loses packets, never more than N in a row: what `unpack` reads of those that come through, in the receiver's own context, is compared with their items
+    robust.py --all      the same with 100,000 packets that come through
+    robust.py bits       prints how many bits a header of data/ takes for each N
+"""
+import collections
+import concurrent.futures
+import itertools
+import pathlib
+import random
+import subprocess
+import sys
+
+import cases
+import headers
+import roundtrip
+import stats
+from reading import Field, Format, Method
+from samples import bracket, literal
+
+HERE = pathlib.Path(__file__).parent
+NUMBERS = (0, 1, 3, 8)
+PART, ALL = 6_000, 100_000  # packets that come through
+SMALL = 20  # items of a small profile
+PAIRS = 256
+SHARES = (0.05, 0.2, 0.5, 0.8, 1.0)  # of the packets that may be lost
+
+# Its formats don't call alike: which value of `part` a receiver holds hangs on which packets it heard.
+TURNS = """part { UNCOMPRESSED { v [1]; }
+  COMPRESSED keep { d =:= '0' [1]; v =:= static [0]; }
+  COMPRESSED send { d =:= '1' [1]; v =:= irregular(1) [1]; } }
+turns { UNCOMPRESSED { g [1]; f [1]; h [1]; }
+  COMPRESSED near { d =:= '0' [1]; g =:= uncompressed_value(1, 0); f =:= part [1, 2]; h =:= irregular(1) [1]; }
+  COMPRESSED far { d =:= '1' [1]; g =:= uncompressed_value(1, 1); f =:= irregular(1) [1]; h =:= part [1, 2]; } }
+"""
+HOP = """hop { UNCOMPRESSED { sn [3]; hops [3]; }
+  COMPRESSED same { d =:= '0' [1]; sn =:= lsb(1, 0) [1]; hops =:= static [0]; }
+  COMPRESSED near { d =:= '10' [2]; sn =:= irregular(3) [3]; hops =:= lsb(1, 1) [1]; }
+  COMPRESSED full { d =:= '11' [2]; sn =:= irregular(3) [3]; hops =:= irregular(3) [3]; } }
+"""
+CALL, SENT, KEPT = ("call", 0, []), ("irregular", 1), ("static",)
+
+
+def turning(name, bit, number, f, h):
+    """A format of `turns`, with the encodings of f and h and the lengths of their compressed sides."""
+    fields = [Field("g", "header", ("uncompressed_value", 1, number), (1, 1)), Field("f", "header", f[0], (1, 1), (1, f[-1])), Field("h", "header", h[0], (1, 1), (1, h[-1])), literal("d", bit)]
+    return Format(name, fields, ["d", "g", "f", "h"], [bracket(it, "U", 1) for it in "gfh"] + [bracket("d", "C", 1), bracket("f", "C", *f[1:]), bracket("h", "C", *h[1:])])
+
+
+def hopping(name, bits, sn, hops):
+    """A format of `hop`, with the encodings of its fields and the lengths of their compressed sides."""
+    fields = [Field("sn", "header", sn[0], (3, 3), (sn[1],) * 2), Field("hops", "header", hops[0], (3, 3), (hops[1],) * 2), literal("d", bits)]
+    return Format(name, fields, ["d", "sn", "hops"], [bracket(it, "U", 3) for it in ("sn", "hops")] + [bracket("d", "C", len(bits)), bracket("sn", "C", sn[1]), bracket("hops", "C", hops[1])])
+
+
+def part(name, bit, encoding, size):
+    return Format(name, [Field("v", "header", encoding, (1, 1), (size, size)), literal("d", bit)], ["d", "v"], [bracket("v", "U", 1), bracket("d", "C", 1), bracket("v", "C", size)])
+
+
+def own_subjects():
+    parts = Method("part", {}, [part("keep", "0", KEPT, 0), part("send", "1", SENT, 1)])
+    tops = Method("turns", {}, [turning("near", "0", 0, (CALL, 1, 2), (SENT, 1)), turning("far", "1", 1, (SENT, 1), (CALL, 1, 2))])
+    yield roundtrip.Subject("turns", TURNS, [parts, tops], {}, 1)
+    whole = ("irregular", 3), 3
+    formats = [hopping("same", "0", (("lsb", 1, 0), 1), (KEPT, 0)), hopping("near", "10", whole, (("lsb", 1, 1), 1)), hopping("full", "11", whole, whole)]
+    yield roundtrip.Subject("hop", HOP, [Method("hop", {}, formats)], {}, 1)
+
+
+# ---- with none lost
+
+
+def without_loss():
+    """For each stored case of `pack`, `stats` and `loss` that is no usage fault whether it prints the same with `--robust 0`."""
+    def tried(case):
+        name, bundle, status, output = case
+        run = subprocess.run([roundtrip.PROGRAM], input=bundle, capture_output=True, check=False)
+        return name, (run.stdout, run.returncode) == (output, status)
+
+    found = []
+    for name, bundle, status, output in cases.cases():
+        for command in (b"pack", b"stats", b"loss"):
+            head = b"=== words\n" + command + b" "
+            words = bundle.partition(head)[2].partition(b"\n")[0]
+            if bundle.count(head) == 1 and status != 2 and b"--robust" not in words:
+                found.append((name, bundle.replace(head, head + b"--robust 0 "), status, output))
+    with concurrent.futures.ThreadPoolExecutor(max_workers=4) as pool:
+        return list(pool.map(tried, found))
+
+
+# ---- against a slow search
+
+
+class Holding:
+    """What a receiver may hold: pairs of a gap and a context. Two contexts are one where they are equal maps."""
+
+    def __init__(self, subject, start, lost):
+        self.subject, self.lost, self.known = subject, lost, {}
+        self.own, self.pairs = dict(start), {(0, self.frozen(start))}
+
+    @staticmethod
+    def frozen(context):
+        return frozenset(context.items())
+
+    def fillings(self, context, header, asked):
+        """Those that fit in a context, the best one first, by what tells them apart."""
+        key = context, header, frozenset(asked.items())
+        if key not in self.known:
+            self.known[key] = {shape(it): it for it in self.subject.fillings(dict(context), header, asked)}
+        return self.known[key]
+
+    def pack(self, header, asked):
+        """The filling, or the fault."""
+        own = self.fillings(self.frozen(self.own), header, asked)
+        others = [self.fillings(context, header, asked) for _, context in self.pairs]
+        reaching = [it for key, it in own.items() if all(key in other for other in others)]
+        if not reaching:
+            return None, "F5 NoReach" if own else "F3 NoFormat"
+        after = {(0, self.frozen({**dict(context), **dict(reaching[0].entries)})) for _, context in self.pairs} | {(gap + 1, context) for gap, context in self.pairs if gap < self.lost}
+        if len(after) > PAIRS:
+            return None, "F6 Contexts"
+        self.pairs = after
+        self.own.update(reaching[0].entries)
+        return reaching[0], None
+
+
+def shape(filling):
+    """What tells a filling from others: the formats and the sides of all fields."""
+    return filling.index, tuple(sorted(filling.level.sides.items())), tuple(sorted((name, shape(it)) for name, it in filling.inner.items()))
+
+
+def printed(subject, words, start, lines):
+    entries = "".join("%s %s\n" % (path, roundtrip.text(bits)) for path, bits in start.items())
+    data = "=== words\n%s\n=== profile\n%s=== context\n%s=== items\n%s" % (subject.words(words), subject.profile, entries, "".join(it + "\n" for it in lines))
+    run = subprocess.run([roundtrip.PROGRAM], input=data.encode(), stdout=subprocess.PIPE, check=False)
+    return run.stdout.decode().splitlines(), run.returncode
+
+
+def searched(subject, start, lost, draw):
+    """Whether `pack` and `stats` with `--robust` print what the search finds, how many items they were given, and which faults were found."""
+    holding, kept, packets, faults, counted = Holding(subject, start, lost), [], [], [], []
+    well = True
+    every = roundtrip.items(subject, draw)
+    for number, (header, asked) in enumerate([draw.choice(every[:8]) if draw.random() < 0.5 else draw.choice(every) for _ in range(SMALL)], 1):
+        line = roundtrip.line_of(header, asked)
+        found, fault = holding.pack(header, asked)
+        if fault:
+            if len(faults) < 3:
+                due = [*packets, "item %d: %s" % (len(kept) + 1, fault)], 1
+                well = well and printed(subject, "pack --robust %d --context" % lost, start, [*kept, line]) == due
+            faults.append("item %d: %s" % (number, fault))
+        else:
+            kept.append(line)
+            packets.append(roundtrip.text(found.packed))
+        counted.append(line)
+    due = [*packets, "=== context", *("%s %s" % (path, roundtrip.text(bits)) for path, bits in holding.own.items())], 0
+    well = well and printed(subject, "pack --context --robust=%d" % lost, start, kept) == due
+    bits = sum(int(it.partition(":")[0]) for it in packets)
+    lines, status = printed(subject, "stats --robust %d" % lost, start, counted)
+    told = ["items %d bits %d mean %s" % (len(kept), bits, stats.mean(bits, len(kept))), *faults]
+    well = well and status == 0 and lines[:1] + [it for it in lines if it.startswith("item ")] == told
+    return well, 2 * len(counted), faults
+
+
+def against_search():
+    draw = random.Random(5795)
+    subjects = [(roundtrip.sample(name), start) for name, starts in roundtrip.CONTEXTS.items() for start in starts]
+    subjects += [(it, {}) for it in own_subjects()] + list(roundtrip.referring(draw))[::4]
+    for subject, start in subjects:
+        for lost in (0, 1, 2, 3):
+            yield "%s from %s, %d lost" % (subject.profile, start, lost), searched(subject, start, lost, draw)
+
+
+# ---- headers over a link
+
+
+Flow = collections.namedtuple("Flow", "kind items packets")  # packets by N
+
+
+def answer(kind, words, part, lines):
+    run = subprocess.run([roundtrip.PROGRAM], input=headers.bundle(kind, words, part, lines).encode(), stdout=subprocess.PIPE, check=False)
+    return run.stdout.decode().splitlines()
+
+
+def flows():
+    """The flows of data/ with their packets for each N."""
+    for kind in headers.TOPS:
+        every = headers.headers_of(kind, (HERE / "data" / (kind + "-headers.hex")).read_text().splitlines())
+        for flow in headers.by_flow(every).values():
+            items = list(headers.items(kind, flow))
+            yield Flow(kind, items, {lost: answer(kind, "pack --robust %d" % lost, "items", items) for lost in NUMBERS})
+
+
+def come_through(count, lost, share, draw):
+    """The places of the packets that come through: a packet may be lost where fewer than so many were right before."""
+    gap, found = 0, []
+    for place in range(count):
+        if gap < lost and draw.random() < share:
+            gap += 1
+        else:
+            found.append(place)
+            gap = 0
+    return found
+
+
+def arrive(flow, lost, places):
+    """How many packets that come through aren't read as their items."""
+    read = answer(flow.kind, "unpack", "packets", [flow.packets[lost][it] for it in places])
+    due = ["%s took %s" % (flow.items[it], flow.packets[lost][it].partition(":")[0]) for it in places]
+    return len(due) - sum(seen == it for seen, it in zip(read, due))
+
+
+def over_link(every, count):
+    """How many packets came through, how many were lost, and how many were read wrong or refused."""
+    draw, asked, came, gone = random.Random(63), [], 0, 0
+    for turn in itertools.count():
+        flow, lost, share = every[turn % len(every)], NUMBERS[turn // len(every) % len(NUMBERS)], draw.choice(SHARES)
+        places = come_through(len(flow.items), lost, share, draw)
+        asked.append((flow, lost, places))
+        came, gone = came + len(places), gone + len(flow.items) - len(places)
+        if came >= count and turn + 1 >= len(every) * len(NUMBERS):
+            break
+    with concurrent.futures.ThreadPoolExecutor(max_workers=4) as pool:
+        return came, gone, sum(pool.map(lambda it: arrive(*it), asked))
+
+
+def figures(every):
+    """The rows of the tables of README and docs/LOSS.md: for each N how many bits a header of udp and of rtp takes."""
+    for lost in NUMBERS:
+        means = []
+        for kind in headers.TOPS:
+            sizes = [int(it.partition(":")[0]) for flow in every if flow.kind == kind for it in flow.packets[lost]]
+            means.append(stats.mean(sum(sizes), len(sizes)))
+        yield "| %d | %s |\n" % (lost, " | ".join(means))
+
+
+def main(words):
+    every = list(flows())
+    if words == ["bits"]:
+        print("".join(figures(every)), end="")
+        return 0
+    wrong = ["%s flow of %d headers: %d lost: a header is refused" % (it.kind, len(it.items), lost) for it in every for lost in NUMBERS if len(it.packets[lost]) != len(it.items) or "item" in it.packets[lost][-1]]
+    same = without_loss()
+    wrong += ["%s: --robust 0 prints something else" % name for name, is_right in same if not is_right]
+    found = list(against_search())
+    wrong += ["the search finds something else: " + name for name, (is_right, *_) in found if not is_right]
+    came, gone, bad = over_link(every, ALL if words == ["--all"] else PART)
+    wrong += ["%d packets that came through were not read as their items" % bad] if bad else []
+    for page in ("README.md", "docs/LOSS.md"):
+        text = (HERE.parent / page).read_text()
+        wrong += ["%s lacks %s" % (page, it.strip()) for it in figures(every) if it not in text]
+    for it in wrong:
+        print("robust: " + it)
+    faults = collections.Counter(it.partition(": ")[2] for _, (_, _, faults) in found for it in faults)
+    print("robust: %d cases with --robust 0, %d items against a search (%s), %d packets came through and %d were lost, %d wrong"
+          % (len(same), sum(count for _, (_, count, _) in found), ", ".join("%s %d" % it for it in sorted(faults.items())), came, gone, len(wrong)))
+    return 1 if wrong or not same or not found else 0
+
+
+if __name__ == "__main__":
+    sys.exit(main(sys.argv[1:]))
