@@ -18,7 +18,7 @@ _rohcfn_has_profile() {
   for ((at = 2; at < COMP_CWORD; at++)); do
     case ${COMP_WORDS[at]} in
       = | : | [\<\>]*) at=$((at + 1)) ;;
-      --top | --lost | --item | --items | --packet | --packets | --from-context | --certificate | --events | --octets | --pcap | --flow)
+      --top | --robust | --lost | --item | --items | --packet | --packets | --from-context | --certificate | --events | --octets | --pcap | --flow)
         at=$((at + 1))
         if [[ ${COMP_WORDS[at]} == = ]]; then at=$((at + 1)); fi
         ;;
@@ -47,15 +47,15 @@ _rohcfn() {
       _rohcfn_files "$word"
       return
       ;;
-    : | --top | --lost | --item | --packet | --flow) return ;;
+    : | --top | --robust | --lost | --item | --packet | --flow) return ;;
   esac
   case ${COMP_WORDS[1]} in
-    pack) options='--top --v2 --context --help --item --items --from-context --certificate --pcap --flow --diagnose' ;;
+    pack) options='--top --v2 --context --robust --help --item --items --from-context --certificate --pcap --flow --diagnose' ;;
     unpack) options='--top --v2 --context --help --packet --packets --from-context --certificate --diagnose' ;;
     fields) options='--top --v2 --context --help --items --item --packet --packets --from-context --certificate --pcap --flow --diagnose' ;;
     why) options='--top --v2 --context --help --items --item --packet --packets --from-context --certificate --pcap --flow --diagnose' ;;
-    stats) options='--top --v2 --help --item --items --from-context --certificate --pcap --flow --diagnose' ;;
-    loss) options='--top --v2 --help --lost --item --items --from-context --certificate --pcap --flow --diagnose' ;;
+    stats) options='--top --v2 --robust --help --item --items --from-context --certificate --pcap --flow --diagnose' ;;
+    loss) options='--top --v2 --robust --help --lost --item --items --from-context --certificate --pcap --flow --diagnose' ;;
     show) options='--top --help --diagnose' ;;
     lint) options='--top --help --from-context --diagnose' ;;
     draw) options='--top --help --diagnose' ;;

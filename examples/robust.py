@@ -19,12 +19,12 @@ import headers
 import roundtrip
 import stats
 from reading import Field, Format, Method
-from samples import bracket, literal
+from samples import bracket, enforce, literal
 
 HERE = pathlib.Path(__file__).parent
 NUMBERS = (0, 1, 3, 8)
 PART, ALL = 6_000, 100_000  # packets that come through
-SMALL = 20  # items of a small profile
+SMALL, MANY = 16, 64  # items of a small profile
 PAIRS = 256
 SHARES = (0.05, 0.2, 0.5, 0.8, 1.0)  # of the packets that may be lost
 
@@ -32,22 +32,28 @@ SHARES = (0.05, 0.2, 0.5, 0.8, 1.0)  # of the packets that may be lost
 TURNS = """part { UNCOMPRESSED { v [1]; }
   COMPRESSED keep { d =:= '0' [1]; v =:= static [0]; }
   COMPRESSED send { d =:= '1' [1]; v =:= irregular(1) [1]; } }
-turns { UNCOMPRESSED { g [1]; f [1]; h [1]; }
-  COMPRESSED near { d =:= '0' [1]; g =:= uncompressed_value(1, 0); f =:= part [1, 2]; h =:= irregular(1) [1]; }
-  COMPRESSED far { d =:= '1' [1]; g =:= uncompressed_value(1, 1); f =:= irregular(1) [1]; h =:= part [1, 2]; } }
+turns { UNCOMPRESSED { g [2]; a [1]; b [1]; c [1]; }
+  COMPRESSED in_a { d =:= '0' [1]; g =:= uncompressed_value(2, 0); a =:= part [1, 2]; b =:= irregular(1) [1]; c =:= irregular(1) [1]; }
+  COMPRESSED in_b { d =:= '10' [2]; g =:= uncompressed_value(2, 1); a =:= irregular(1) [1]; b =:= part [1, 2]; c =:= irregular(1) [1]; }
+  COMPRESSED in_c { d =:= '11' [2]; g =:= uncompressed_value(2, 2); a =:= irregular(1) [1]; b =:= irregular(1) [1]; c =:= part [1, 2]; } }
 """
 HOP = """hop { UNCOMPRESSED { sn [3]; hops [3]; }
   COMPRESSED same { d =:= '0' [1]; sn =:= lsb(1, 0) [1]; hops =:= static [0]; }
   COMPRESSED near { d =:= '10' [2]; sn =:= irregular(3) [3]; hops =:= lsb(1, 1) [1]; }
   COMPRESSED full { d =:= '11' [2]; sn =:= irregular(3) [3]; hops =:= irregular(3) [3]; } }
 """
+LOW = """low { UNCOMPRESSED { sn [4]; }
+  COMPRESSED near { d =:= '0' [1]; sn =:= lsb(3, 3) [3]; }
+  COMPRESSED small { d =:= '1' [1]; ENFORCE(sn.UVALUE < 10); sn =:= irregular(4) [4]; } }
+"""
 CALL, SENT, KEPT = ("call", 0, []), ("irregular", 1), ("static",)
 
 
-def turning(name, bit, number, f, h):
-    """A format of `turns`, with the encodings of f and h and the lengths of their compressed sides."""
-    fields = [Field("g", "header", ("uncompressed_value", 1, number), (1, 1)), Field("f", "header", f[0], (1, 1), (1, f[-1])), Field("h", "header", h[0], (1, 1), (1, h[-1])), literal("d", bit)]
-    return Format(name, fields, ["d", "g", "f", "h"], [bracket(it, "U", 1) for it in "gfh"] + [bracket("d", "C", 1), bracket("f", "C", *f[1:]), bracket("h", "C", *h[1:])])
+def turning(own, bits, number):
+    """The format of `turns` that calls `part` in a field."""
+    encoded = {it: (CALL, 1, 2) if it == own else (SENT, 1) for it in "abc"}
+    fields = [Field("g", "header", ("uncompressed_value", 2, number), (2, 2)), *(Field(it, "header", words[0], (1, 1), (1, words[-1])) for it, words in encoded.items()), literal("d", bits)]
+    return Format("in_" + own, fields, ["d", "g", "a", "b", "c"], [bracket("g", "U", 2)] + [bracket(it, "U", 1) for it in "abc"] + [bracket("d", "C", len(bits))] + [bracket(it, "C", *words[1:]) for it, words in encoded.items()])
 
 
 def hopping(name, bits, sn, hops):
@@ -56,17 +62,24 @@ def hopping(name, bits, sn, hops):
     return Format(name, fields, ["d", "sn", "hops"], [bracket(it, "U", 3) for it in ("sn", "hops")] + [bracket("d", "C", len(bits)), bracket("sn", "C", sn[1]), bracket("hops", "C", hops[1])])
 
 
+def lower(name, bit, sn, size, more):
+    """A format of `low`, with the encoding of its field, the length of that one's compressed side, and conditions."""
+    return Format(name, [Field("sn", "header", sn, (4, 4), (size, size)), literal("d", bit)], ["d", "sn"], [bracket("sn", "U", 4), bracket("d", "C", 1), *more, bracket("sn", "C", size)])
+
+
 def part(name, bit, encoding, size):
     return Format(name, [Field("v", "header", encoding, (1, 1), (size, size)), literal("d", bit)], ["d", "v"], [bracket("v", "U", 1), bracket("d", "C", 1), bracket("v", "C", size)])
 
 
 def own_subjects():
     parts = Method("part", {}, [part("keep", "0", KEPT, 0), part("send", "1", SENT, 1)])
-    tops = Method("turns", {}, [turning("near", "0", 0, (CALL, 1, 2), (SENT, 1)), turning("far", "1", 1, (SENT, 1), (CALL, 1, 2))])
+    tops = Method("turns", {}, [turning("a", "0", 0), turning("b", "10", 1), turning("c", "11", 2)])
     yield roundtrip.Subject("turns", TURNS, [parts, tops], {}, 1)
     whole = ("irregular", 3), 3
     formats = [hopping("same", "0", (("lsb", 1, 0), 1), (KEPT, 0)), hopping("near", "10", whole, (("lsb", 1, 1), 1)), hopping("full", "11", whole, whole)]
     yield roundtrip.Subject("hop", HOP, [Method("hop", {}, formats)], {}, 1)
+    low = [lower("near", "0", ("lsb", 3, 3), 3, []), lower("small", "1", ("irregular", 4), 4, [enforce("<", ("sn", "UVALUE"), 10)])]
+    yield roundtrip.Subject("low", LOW, [Method("low", {}, low)], {}, 1)
 
 
 # ---- with none lost
@@ -138,12 +151,19 @@ def printed(subject, words, start, lines):
     return run.stdout.decode().splitlines(), run.returncode
 
 
-def searched(subject, start, lost, draw):
+def wanted(subject, draw, count):
+    """Items of a small profile: many are the one before, or one of a few."""
+    every, found = roundtrip.items(subject, draw), []
+    for _ in range(count):
+        found.append(draw.choice([*found[-1:], draw.choice(every[:6]), draw.choice(every)]))
+    return found
+
+
+def searched(subject, start, lost, draw, count=SMALL):
     """Whether `pack` and `stats` with `--robust` print what the search finds, how many items they were given, and which faults were found."""
     holding, kept, packets, faults, counted = Holding(subject, start, lost), [], [], [], []
     well = True
-    every = roundtrip.items(subject, draw)
-    for number, (header, asked) in enumerate([draw.choice(every[:8]) if draw.random() < 0.5 else draw.choice(every) for _ in range(SMALL)], 1):
+    for number, (header, asked) in enumerate(wanted(subject, draw, count), 1):
         line = roundtrip.line_of(header, asked)
         found, fault = holding.pack(header, asked)
         if fault:
@@ -165,12 +185,14 @@ def searched(subject, start, lost, draw):
 
 
 def against_search():
+    """For each small profile whether what is printed is what the search finds. Those in which some item has a filling serve."""
     draw = random.Random(5795)
     subjects = [(roundtrip.sample(name), start) for name, starts in roundtrip.CONTEXTS.items() for start in starts]
     subjects += [(it, {}) for it in own_subjects()] + list(roundtrip.referring(draw))[::4]
     for subject, start in subjects:
-        for lost in (0, 1, 2, 3):
+        for lost in (1,) if subject.name == "opt" else (0, 1, 3):
             yield "%s from %s, %d lost" % (subject.profile, start, lost), searched(subject, start, lost, draw)
+    yield TURNS, searched(next(own_subjects()), {}, 63, draw, MANY)
 
 
 # ---- headers over a link
