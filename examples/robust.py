@@ -4,7 +4,7 @@
     robust.py            `--robust 0` changes nothing of the stored cases; `pack --robust N` and `stats --robust N` against a slow search over what a receiver may hold, on small profiles; and the headers
                          of data/ over a link that loses packets, never more than N in a row: what `unpack` reads of those that come through, in the receiver's own context, is compared with their items
     robust.py --all      the same with 100,000 packets that come through
-    robust.py bits       prints how many bits a header of data/ takes for each N
+    robust.py tables     prints the rows of README and docs/LOSS.md: how many bits a header of data/ takes for each N, and what is read after lost packets
 """
 import collections
 import concurrent.futures
@@ -258,10 +258,26 @@ def figures(every):
         yield "| %d | %s |\n" % (lost, " | ".join(means))
 
 
+def lost_rows(kind, every):
+    """The rows of the table of docs/LOSS.md: for each number of packets lost in a row how many packets of all flows come after them, and how many are right, refused and wrong for each N."""
+    tables = {}
+    for lost in NUMBERS:
+        sums = collections.Counter()
+        for flow in every:
+            if flow.kind == kind:
+                for row in answer(kind, "loss --lost %d --robust %d" % (NUMBERS[-1] + 1, lost), "items", flow.items)[2:NUMBERS[-1] + 4]:
+                    count, *cells = map(int, row.split())
+                    sums.update({(count, place): it for place, it in enumerate(cells)})
+        tables[lost] = sums
+    for count in range(NUMBERS[-1] + 2):
+        cells = ["%d, %d, %d" % tuple(tables[lost][count, place] for place in (1, 2, 3)) for lost in NUMBERS]
+        yield "| %d | %d | %s |\n" % (count, tables[0][count, 0], " | ".join(cells))
+
+
 def main(words):
     every = list(flows())
-    if words == ["bits"]:
-        print("".join(figures(every)), end="")
+    if words == ["tables"]:
+        print("".join([*figures(every), *lost_rows("udp", every), *lost_rows("rtp", every)]), end="")
         return 0
     wrong = ["%s flow of %d headers: %d lost: a header is refused" % (it.kind, len(it.items), lost) for it in every for lost in NUMBERS if len(it.packets[lost]) != len(it.items) or "item" in it.packets[lost][-1]]
     same = without_loss()
@@ -270,9 +286,10 @@ def main(words):
     wrong += ["the search finds something else: " + name for name, (is_right, *_) in found if not is_right]
     came, gone, bad = over_link(every, ALL if words == ["--all"] else PART)
     wrong += ["%d packets that came through were not read as their items" % bad] if bad else []
-    for page in ("README.md", "docs/LOSS.md"):
+    rows = list(figures(every))
+    for page, due in (("README.md", rows), ("docs/LOSS.md", [*rows, *lost_rows("udp", every), *lost_rows("rtp", every)])):
         text = (HERE.parent / page).read_text()
-        wrong += ["%s lacks %s" % (page, it.strip()) for it in figures(every) if it not in text]
+        wrong += ["%s lacks %s" % (page, it.strip()) for it in due if it not in text]
     for it in wrong:
         print("robust: " + it)
     faults = collections.Counter(it.partition(": ")[2] for _, (_, _, faults) in found for it in faults)
