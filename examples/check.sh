@@ -2,7 +2,7 @@
 # Runs each example and each step of the tutorial through the built program and compares what it prints; then what the pages show, what is left out of RFC
 # 4997 and the pieces of profiles, what editors colour, headers of an operating system and back, the cases of cases/ and of built.py, fronts of texts,
 # certificates with a slip and with drawn trees against a second reading, packets by certificates with a slip, round trips, fields, counts, reasons, dead formats and lines of flows against a
-# slow search, traces with losses, runs that are refused memory, what the program does with its words and streams, what bin/rohcfn and bin/prove do where no program stands,
+# slow search, traces with losses, packets that survive them, runs that are refused memory, what the program does with its words and streams, what bin/rohcfn and bin/prove do where no program stands,
 # what bin/rohcfn does with files, and the man page and completion.
 set -u
 cd "$(dirname "$0")"
@@ -30,7 +30,7 @@ echo "examples: $passed passed, $failed failed"
 ./cases.py || failed=1
 
 # The long ones run side by side; what each prints comes in this order.
-beside=(prefixes certificates forged trees roundtrip fields stats why lint lines loss refusals)
+beside=(prefixes certificates forged trees roundtrip fields stats why lint lines loss robust refusals)
 printed=$(mktemp -d)
 trap 'rm -rf "$printed"' EXIT
 running=()

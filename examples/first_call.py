@@ -211,6 +211,8 @@ def at_once(place, texts):
     due += [(["pack", "--top", *rest], 2, no_value, "pack") for rest in ([], ["--help"], ["--v2", "--help"])]
     due += [(["loss", "--lost", *rest], 2, no_value.replace("--top <NAME>", "--lost <N>"), "loss") for rest in ([], ["--help"], ["-1"])]
     no_number = "error: invalid value '%s' for '--lost <N>': a number from 0 to 63 is needed\n\n"
+    due += [([command, *words], 2, no_number.replace("--lost", "--robust") % it, command) for command in ("pack", "stats", "loss") for it in ("64", "01", "") for words in (["--robust", it], ["--top", "x", "--robust=" + it])]
+    due += [(["pack", "--robust", *rest], 2, no_value.replace("--top <NAME>", "--robust <N>"), "pack") for rest in ([], ["--help"], ["-1"])]
     due += [(["loss", *words], 2, no_number % it, "loss") for it in ("64", "+1", "01", "", "1x", "100", "\u0661") for words in (["--lost", it], ["--top", "x", "--lost=" + it])]
     due += [(["loss", "--top", "x", "--lost=-1"], 2, no_number % "-1", "loss")]
     due += [(words, 2, "error: the argument '%s' cannot be used multiple times\n\n" % words[1].partition("=")[0], "pack")
@@ -218,7 +220,7 @@ def at_once(place, texts):
     due += [(["loss", "--lost=1", "--lost", "1"], 2, "error: the argument '--lost' cannot be used multiple times\n\n", "loss")]
     due += [(words, 2, "error: unexpected argument '%s' found\n\n" % words[-1], words[0])
             for words in (["show", "--top", "x", "--v2"], ["line", "--context"], ["pack", "--receive"], ["unpack", "--wide"], ["prove", "--top=x", "-v"], ["pack", "--v2=3"], ["stats", "--top", "x", "--lost=3"],
-                          ["pack", "--top", "x", "--lost"], ["loss", "--lost", "3", "--context"])]
+                          ["pack", "--top", "x", "--lost"], ["unpack", "--top", "x", "--robust"], ["loss", "--lost", "3", "--context"])]
     for words, status, error, name in due:
         seen = place.call(place.program, *words, given=b"junk")
         more = "" if status else texts["files"]
@@ -229,7 +231,7 @@ def at_once(place, texts):
     os.close(above)
     os.close(below)
     check("no words and a terminal: it says what it waits for, and goes on", seen[2].startswith("rohcfn: a bundle is awaited") and seen[3] == [CALL], seen)
-    numbers = ["loss --top plain --lost %d" % it for it in range(64)]
+    numbers = ["loss --top plain --lost %d --robust %d" % (it, 63 - it) for it in range(64)]
     for words in map(str.split, ["pack --top=plain", "pack --top -", "pack --top plain --", "show --top plain -- x", "loss --lost=8 --v2 --top plain", *numbers]):
         seen = place.call(place.program, *words)
         check("left to the program: %s" % words, seen[3] == [CALL + "|" + "|".join(words)], seen)

@@ -127,6 +127,9 @@ def composed(place):
         (["loss", "a profile.fn", "--items", "items", "--lost", "3", "--v2", "--from-context", "context"], ["loss", *top, "--v2", "--lost=3"], {"items": "8:01\n", "context": FILES["context"]}),
         (["loss", "--lost=63", "a profile.fn", "--item", "8:03", "--certificate", "certificate"], ["loss", *top, "--lost=63"], {"items": "8:03\n", **certificate}),
         (["loss", "a profile.fn", "--item", "8:03"], ["loss", *top], {"items": "8:03\n"}),
+        (["pack", "a profile.fn", "--item", "8:03", "--robust", "3", "--context"], ["pack", *top, "--context", "--robust=3"], {"items": "8:03\n"}),
+        (["stats", "--robust=0", "a profile.fn", "--items", "items"], ["stats", *top, "--robust=0"], {"items": "8:01\n"}),
+        (["loss", "a profile.fn", "--robust", "63", "--item", "8:03", "--lost=2"], ["loss", *top, "--lost=2", "--robust=63"], {"items": "8:03\n"}),
         (["fields", "--item=8:02", "a profile.fn", "--v2", "--certificate", "certificate"], ["fields", *top, "--v2", "--items"], {"items": "8:02\n", **certificate}),
         (["show", "a profile.fn"], ["show", *top], {}),
         (["lint", "a profile.fn", "--from-context", "context"], ["lint", *top], {"context": "x 8:07\n"}),
@@ -207,6 +210,10 @@ def usage(place):
         ("loss", "a profile.fn", "--item", "8:01", "--lost"): "--lost needs a value",
         ("loss", "a profile.fn", "--item", "8:01", "--lost", "1", "--lost=2"): "--lost stands twice",
         ("stats", "a profile.fn", "--item", "8:01", "--lost", "1"): "--lost is no option of stats",
+        ("pack", "a profile.fn", "--robust", "3"): "pack needs one of --item, --items, --pcap",
+        ("pack", "a profile.fn", "--item", "8:01", "--robust"): "--robust needs a value",
+        ("loss", "a profile.fn", "--item", "8:01", "--robust", "1", "--robust=2"): "--robust stands twice",
+        ("unpack", "a profile.fn", "--packet", "8:01", "--robust", "1"): "--robust is no option of unpack",
         ("line", "a profile.fn"): "line needs one of --events, --octets, --pcap",
         ("line", "a profile.fn", "--octets", "x", "--events", "y"): "--events and --octets don't go together",
         ("line", "a profile.fn", "--events", "x", "--receive"): "--receive needs --octets",
@@ -227,7 +234,8 @@ def usage(place):
         ("show", "a profile.fn", "--tip"): "unexpected argument '--tip' found",
     }
     for value in ("64", "+1", "-1", "01", "", "1x", " 1", "100", "\u0661"):
-        due["loss", "a profile.fn", "--item", "8:01", "--lost", value] = "invalid value '%s' for '--lost <N>': a number from 0 to 63 is needed" % value
+        for command, name in (("loss", "--lost"), ("loss", "--robust"), ("pack", "--robust"), ("stats", "--robust")):
+            due[command, "a profile.fn", "--item", "8:01", name, value] = "invalid value '%s' for '%s <N>': a number from 0 to 63 is needed" % (value, name)
     for command, names in (("pack", "item items from-context certificate pcap flow"), ("unpack", "packet packets"), ("line", "events octets"),
                            ("fields", "item items packet packets from-context certificate pcap flow"), *((it, "item items from-context certificate pcap flow") for it in ("stats", "loss"))):
         due.update({(command, "--%s=1" % name): "the file of a profile is needed" for name in names.split()})
