@@ -5,7 +5,7 @@ use Rattle.rohcfn_tool.proofs.SenderLemmas.{sent_anywhere}
 use Rattle.rohcfn_tool.proofs.loss.lose_one.Goals as goal
 
 pub judge-requires : goal.judge-requires
-judge-requires c = sent_anywhere c.args.accepted.now c.args.sender.now _ c.args.item.now c.in-Ok.sent c.in-Ok.ensures.sent
+judge-requires c = record { sent = sent_anywhere c.args.accepted.now c.args.sender.now _ c.args.item.now c.in-Ok.sent c.in-Ok.ensures.sent }
 
 pub returns-in_ok-hold-in-Ok : goal.returns-in_ok-hold-in-Ok
 returns-in_ok-hold-in-Ok c = record {

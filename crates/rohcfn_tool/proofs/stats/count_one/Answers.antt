@@ -6,8 +6,8 @@ pub returns-in_ok-push-in-Ok : goal.returns-in_ok-push-in-Ok
 returns-in_ok-push-in-Ok c =
     one_counted c.args.accepted.now c.args.sender.now _ _ _ _ c.args.number c.args.item.now c.in-Ok.sent _ c.in-Ok.ensures.sent c.in_ok-count-in-Ok.ensures c.in_ok-push-in-Ok.ensures.ok
 
-pub returns : goal.returns
-returns c = one_refused c.args.accepted.now c.args.sender.now _ _ _ _ c.args.number c.args.item.now c.in-Err.fault c.add_refused.result c.in-Err.ensures.stays c.in-Err.ensures.fault c.add_refused.ensures
+pub returns-in-Err : goal.returns-in-Err
+returns-in-Err c = one_refused c.args.accepted.now c.args.sender.now _ _ _ _ c.args.number c.args.item.now c.in-Err.fault c.add_refused.result c.in-Err.ensures.stays c.in-Err.ensures.fault c.add_refused.ensures
 
 pub add_refused-requires : goal.add_refused-requires
 add_refused-requires c = of_item c.args.accepted.now c.args.sender.now c.args.item.now c.in-Err.fault c.in-Err.ensures.fault
