@@ -43,10 +43,8 @@ pub(crate) fn keep_staying(after: &mut Vec<Held>, held: Vec<Held>, lost: usize)
     for one in held {
         let Held { gap, context } = one;
         if gap < lost {
-            after.push_reserved(Held {
-                gap: gap + 1,
-                context,
-            });
+            let gap = gap + 1;
+            after.push_reserved(Held { gap, context });
         }
     }
 }
