@@ -79,7 +79,9 @@ pub fn judge(
     for lost in 0..held.len() {
         let context = &held[held.len() - 1 - lost];
         let uses = uses.as_slice();
-        judge_in(alloc, accepted, context, lost, number, item, sent, own, uses, journal)?;
+        judge_in(
+            alloc, accepted, context, lost, number, item, sent, own, uses, journal,
+        )?;
     }
     Ok(())
 }

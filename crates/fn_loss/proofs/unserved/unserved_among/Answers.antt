@@ -1,4 +1,4 @@
-use Rattle.std.proofs.Common.{◌≡◌, ◌+◌, refl, sym, subst, take, [], arith}
+use Rattle.std.proofs.Common.{◌+◌, refl, sym, subst, take, [], arith}
 use Rattle.std.proofs.lemmas.Option.{slice_get_read}
 use Rattle.fn_context.specs.Entries.{bits_at}
 use Rattle.fn_loss.specs.Unserved.{AreUnserved, none_used}

@@ -1,7 +1,6 @@
 use Rattle.std.proofs.Common.{◌∙◌, sym, ap, subst, [], ◌∷◌, ◌++◌}
 use Rattle.fn_expr.specs.Known.{assignment_of}
-use Rattle.fn_elsewhere.specs.Uses.{use_of}
-use Rattle.fn_loss.specs.Uses.{UsesBy, method}
+use Rattle.fn_loss.specs.Uses.{UsesBy}
 use Rattle.fn_loss.proofs.Walking.{none_by, one_by}
 use Rattle.fn_loss.proofs.uses.own_uses.Goals as goal
 
