@@ -1,5 +1,5 @@
 -- The values of asked fields, compared with a list value by value.
-use Rattle.std.proofs.Common.{◌≡◌, ◌∙◌, refl, sym, ap, ℕ, ◌+◌, zero, suc, Bool, true, false, cond, List, [], ◌∷◌, ◌≤◌, length, map, filter, drop, add-one, arith}
+use Rattle.std.proofs.Common.{◌≡◌, ◌∙◌, refl, sym, ap, ℕ, ◌+◌, zero, suc, true, false, List, [], ◌∷◌, ◌≤◌, length, map, drop, add-one, arith}
 use Rattle.std.specs.Prelude.{Some, None, slice_get, ◌↔◌}
 use Rattle.fn_filling.specs.declared.filling.AskedValue.{AskedValue}
 use Rattle.fn_filling.specs.declared.filling.FilledField.{FilledField}

@@ -1,4 +1,4 @@
--- What is told field by field is told of the filling.
+-- The uses of the fields of a filling are its own.
 use Rattle.std.proofs.Common.{◌≡◌, ◌∙◌, refl, sym, subst, ℕ, ◌+◌, List, [], ◌∷◌, ◌++◌, Bool, true, length}
 use Rattle.std.specs.Prelude.{slice_get, Option, Some, None, ℤ, IsTrue, ◌↔◌}
 use Rattle.fn_expr.specs.declared.expr.Expr.{Expr}
@@ -21,7 +21,7 @@ use Rattle.fn_filling.specs.declared.filling.Filling.{Filling}
 use Rattle.fn_filling.specs.declared.filling.FilledField.{FilledField}
 use Rattle.fn_filling.specs.Fillings.{fields_of, inner_of, level}
 use Rattle.fn_filling.specs.Entries.{Path, below}
-use Rattle.fn_fits.specs.Fits.{Context, Fits, reference_of, side_of, vals}
+use Rattle.fn_fits.specs.Fits.{Fits, side_of, vals}
 use Rattle.fn_fits.specs.Ready.{ArgumentsLieAt, HasLevel}
 use Rattle.fn_fits.proofs.Coded.{is_only}
 use Rattle.fn_fits.proofs.FitsInverted.{called_parts}
@@ -29,13 +29,11 @@ use Rattle.fn_fits.proofs.FitsSized.{one_value}
 use Rattle.fn_fits.proofs.FitsValues.{vals_same}
 use Rattle.fn_model.proofs.HoldingAlike.{all_fit, method_alike}
 use Rattle.fn_model.proofs.Levels.{ready_level}
-use Rattle.fn_elsewhere.specs.Uses.{Use, Serves, refers, use_of}
-use Rattle.fn_elsewhere.specs.Listed.{of_fields, FirstUse, none_yet, one_more, FieldUses, bare_uses, own_use, no_use, inside_use, none_inside}
-use Rattle.fn_loss.specs.declared.unserved.Referring.{Referring}
-use Rattle.fn_loss.specs.declared.unserved.Referring.TheVariants as referring
-use Rattle.fn_loss.specs.declared.unserved.Unserved.{Unserved}
-use Rattle.fn_loss.specs.Unserved.{none_used, it_serves, it_fails, Says, RefersNot, IsReferring, FitsAnywhere, AllFitAnywhere, FieldFitsAnywhere, CallFitsAnywhere, HasUnserved, FirstUnserved, HasUnservedAt, HasUnservedBy, HasUnservedInside, HasUnservedWithin, InnerFitsAnywhere, method, sides}
-use Rattle.fn_loss.proofs.Unserving.{joined}
+use Rattle.fn_elsewhere.specs.Uses.{Use, refers, use_of}
+use Rattle.fn_elsewhere.specs.Listed.{UsesAre, of_fields, FirstUse, none_yet, one_more, FieldUses, bare_uses, own_use, no_use, inside_use, none_inside}
+use Rattle.fn_loss.specs.declared.uses.Referring.{Referring}
+use Rattle.fn_loss.specs.declared.uses.Referring.TheVariants as referring
+use Rattle.fn_loss.specs.Uses.{AllFitAnywhere, CallFitsAnywhere, FieldFitsAnywhere, FirstUses, FitsAnywhere, InnerFitsAnywhere, IsReferring, RefersNot, UsesAt, UsesBy, UsesInside, UsesWithin, method, sides}
 
 -- ---- under numbers that give a format's expressions the same values, the same uses are listed
 
@@ -53,19 +51,15 @@ first_alike : {methods : List Method} {side : Subject → Side → List Bool} {a
 first_alike same none_yet = none_yet
 first_alike same (one_more {n = n} d g before at at' field) = one_more d g (first_alike same before) at at' (uses_alike (λ m x here. same n m d x at here) field)
 
--- what is told of all fields of a level is told of its filling
-pub level_told : (p : Resolved) → IsSound p → (k : ℕ) (args : List ℤ) (f : Filling) (format : Format) (known : Known) → HasLevel p k args f format known → ArgumentsLieAt p k args
-    → (ctx : Context) (path : Path) (xs : List Unserved) → FirstUnserved p.methods ctx path format f (assignment_of known) (length format.fields) xs → HasUnserved p.methods ctx k args path f xs
-level_told p sound k args f format known has lies ctx path xs told =
+-- the uses of all fields of a level are those of its filling
+pub level_uses : (p : Resolved) → IsSound p → (k : ℕ) (args : List ℤ) (f : Filling) (format : Format) (known : Known) → HasLevel p k args f format known → ArgumentsLieAt p k args
+    → (path : Path) (us : List Use) → FirstUses p.methods path format f (assignment_of known) (length format.fields) us → UsesAre p.methods k args path f us
+level_uses p sound k args f format known has lies path us first =
     let can = (ready_level p sound k args f format known has lies).1 in
     let listing = has.level.place.shaped.listing_is in
-    record {
-      uses = told.uses;
-      uses_are = of_fields format has.level.place.format_is
-          (first_alike (λ i m d x at here. can.value_is x (in_encoding i m at here))
-          (subst (λ l. FirstUse p.methods (side_of l (level f)) (assignment_of known) path format f (length format.fields) told.uses) listing told.first));
-      unserved = told.unserved;
-    }
+    of_fields format has.level.place.format_is
+    (first_alike (λ i m d x at here. can.value_is x (in_encoding i m at here))
+    (subst (λ l. FirstUse p.methods (side_of l (level f)) (assignment_of known) path format f (length format.fields) us) listing first))
 
 -- ---- what fits somewhere
 
@@ -90,83 +84,48 @@ call_fits_anywhere methods path format f a i g any d k es at is args inner value
 
 -- ---- one field
 
-module _ (ctx : Context) (path : Path) (d : Field) (a : Assignment) (l : Library) (g : FilledField) where
-  pub none_by : RefersNot a l → HasUnservedBy ctx path d a l g []
-  none_by none = record { uses = []; uses_are = λ methods side. no_use (none side); unserved = none_used }
-
-  -- the use of a referring method
-  abbrev of : Referring → Use
-  of r = use_of path d g (method r)
-
-  uses_by : (r : Referring) → IsReferring a l r → refers (method r) ≡ true → (methods : List Method) (side : Subject → Side → List Bool) → FieldUses methods side a path d (encoding.Library l) g (of r ∷ [])
-  uses_by r is refers_is methods side = own_use (method r) (is side) refers_is
-
-  pub serves_by : (r : Referring) → IsReferring a l r → refers (method r) ≡ true → Serves ctx (of r) → HasUnservedBy ctx path d a l g []
-  serves_by r is refers_is s = record { uses = of r ∷ []; uses_are = uses_by r is refers_is; unserved = it_serves s none_used }
-
-  pub fails_by : (r : Referring) → IsReferring a l r → refers (method r) ≡ true → (Serves ctx (of r) → ⊥) → (x : Unserved)
-      → Says path d (method r) (reference_of d.declared.part ctx (below path d.declared.name) d.initial) g x → HasUnservedBy ctx path d a l g (x ∷ [])
-  fails_by r is refers_is fails x says = record {
-    uses = of r ∷ [];
-    uses_are = uses_by r is refers_is;
-    unserved = it_fails fails (record { path_is = says.path_is; method_is = says.method_is; reference_is = says.reference_is; needed_is = says.needed_is }) none_used;
-  }
+pub none_by : (path : Path) (d : Field) (a : Assignment) (l : Library) (g : FilledField) → RefersNot a l → UsesBy path d a l g []
+none_by path d a l g none methods side = no_use (none side)
 
 -- each such method refers
-pub they_refer : (r : Referring) → refers (method r) ≡ true
+they_refer : (r : Referring) → refers (method r) ≡ true
 they_refer referring.Static = refl
 they_refer (referring.Lsb bits offset) = refl
 
-module _ (methods : List Method) (ctx : Context) (path : Path) (format : Format) (f : Filling) (a : Assignment) where
-  pub bare_at : (i : ℕ) (g : FilledField) (d : Field) → slice_get format.fields i ≡ Some d → d.encoding ≡ encoding.Bare → HasUnservedAt methods ctx path format f a i g []
-  bare_at i g d at is = record { field = d; field_is = at; uses = []; uses_are = subst (λ e. FieldUses methods (sides f) a path d e g []) (sym is) bare_uses; unserved = none_used }
+pub one_by : (path : Path) (d : Field) (a : Assignment) (l : Library) (g : FilledField) (r : Referring) → IsReferring a l r → UsesBy path d a l g (use_of path d g (method r) ∷ [])
+one_by path d a l g r is methods side = own_use (method r) (is side) (they_refer r)
 
-  pub coded_at : (i : ℕ) (g : FilledField) (d : Field) (l : Library) (xs : List Unserved) → slice_get format.fields i ≡ Some d → d.encoding ≡ encoding.Library l → HasUnservedBy ctx path d a l g xs
-      → HasUnservedAt methods ctx path format f a i g xs
-  coded_at i g d l xs at is told = record {
-    field = d;
-    field_is = at;
-    uses = told.uses;
-    uses_are = subst (λ e. FieldUses methods (sides f) a path d e g told.uses) (sym is) (told.uses_are methods (sides f));
-    unserved = told.unserved;
-  }
+module _ (methods : List Method) (path : Path) (format : Format) (f : Filling) (a : Assignment) where
+  pub bare_at : (i : ℕ) (g : FilledField) (d : Field) → slice_get format.fields i ≡ Some d → d.encoding ≡ encoding.Bare → UsesAt methods path format f a i g []
+  bare_at i g d at is = record { field = d; field_is = at; uses_are = subst (λ e. FieldUses methods (sides f) a path d e g []) (sym is) bare_uses }
 
-  pub called_at : (i : ℕ) (g : FilledField) (d : Field) (k : ℕ) (es : List Expr) (xs : List Unserved) → slice_get format.fields i ≡ Some d → d.encoding ≡ encoding.Call k es
-      → HasUnservedInside methods ctx path d a k es g xs → HasUnservedAt methods ctx path format f a i g xs
-  called_at i g d k es xs at is told = record {
-    field = d;
-    field_is = at;
-    uses = told.uses;
-    uses_are = subst (λ e. FieldUses methods (sides f) a path d e g told.uses) (sym is) (told.uses_are (sides f));
-    unserved = told.unserved;
-  }
+  pub coded_at : (i : ℕ) (g : FilledField) (d : Field) (l : Library) (us : List Use) → slice_get format.fields i ≡ Some d → d.encoding ≡ encoding.Library l → UsesBy path d a l g us → UsesAt methods path format f a i g us
+  coded_at i g d l us at is by = record { field = d; field_is = at; uses_are = subst (λ e. FieldUses methods (sides f) a path d e g us) (sym is) (by methods (sides f)) }
+
+  pub called_at : (i : ℕ) (g : FilledField) (d : Field) (k : ℕ) (es : List Expr) (us : List Use) → slice_get format.fields i ≡ Some d → d.encoding ≡ encoding.Call k es → UsesInside methods path d a k es g us
+      → UsesAt methods path format f a i g us
+  called_at i g d k es us at is inside = record { field = d; field_is = at; uses_are = subst (λ e. FieldUses methods (sides f) a path d e g us) (sym is) (inside (sides f)) }
 
   -- ---- field after field
 
-  pub first_none : FirstUnserved methods ctx path format f a 0 []
-  first_none = record { uses = []; first = none_yet; unserved = none_used }
+  pub first_none : FirstUses methods path format f a 0 []
+  first_none = none_yet
 
-  pub first_next : (i : ℕ) (g : FilledField) (xs ys : List Unserved) → slice_get (fields_of f) i ≡ Some g → FirstUnserved methods ctx path format f a i xs → HasUnservedAt methods ctx path format f a i g ys
-      → FirstUnserved methods ctx path format f a (i + 1) (xs ++ ys)
-  first_next i g xs ys at before here =
-      record { uses = before.uses ++ here.uses; first = one_more here.field g before.first here.field_is at here.uses_are; unserved = joined before.unserved here.unserved }
+  pub first_next : (i : ℕ) (g : FilledField) (us more : List Use) → slice_get (fields_of f) i ≡ Some g → FirstUses methods path format f a i us → UsesAt methods path format f a i g more
+      → FirstUses methods path format f a (i + 1) (us ++ more)
+  first_next i g us more at before here = one_more here.field g before here.field_is at here.uses_are
 
 -- ---- a field that calls a method
 
-module _ (methods : List Method) (ctx : Context) (path : Path) (d : Field) (a : Assignment) (k : ℕ) (es : List Expr) (g : FilledField) where
-  pub none_inside_told : ((values : List ℤ) (inner : Filling) → vals a es ≡ Some values → inner_of g ≡ Some inner → ⊥) → HasUnservedInside methods ctx path d a k es g []
-  none_inside_told none = record { uses = []; uses_are = λ side. none_inside none; unserved = none_used }
+module _ (methods : List Method) (path : Path) (d : Field) (a : Assignment) (k : ℕ) (es : List Expr) (g : FilledField) where
+  pub none_is_inside : ((values : List ℤ) (inner : Filling) → vals a es ≡ Some values → inner_of g ≡ Some inner → ⊥) → UsesInside methods path d a k es g []
+  none_is_inside none side = none_inside none
 
-  inside_told : (values : List ℤ) (inner : Filling) (xs : List Unserved) → vals a es ≡ Some values → inner_of g ≡ Some inner → HasUnserved methods ctx k values (below path d.declared.name) inner xs
-      → HasUnservedInside methods ctx path d a k es g xs
-  inside_told values inner xs is inner_is told = record { uses = told.uses; uses_are = λ side. inside_use values inner is inner_is told.uses_are; unserved = told.unserved }
-
-  -- what is told of the filling, if there is one, is told of the field
-  pub within_told : (values : List ℤ) (xs : List Unserved) → vals a es ≡ Some values → (o : Option Filling) → inner_of g ≡ o → HasUnservedWithin methods ctx k values (below path d.declared.name) o xs
-      → HasUnservedInside methods ctx path d a k es g xs
-  within_told values xs is (Some inner) inner_is told = inside_told values inner xs is inner_is told
-  within_told values xs is None inner_is told =
-      subst (HasUnservedInside methods ctx path d a k es g) (sym told) (none_inside_told (λ others inner others_are there. let wrong : None ≡ Some inner = sym inner_is ∙ there in absurd (cc)))
+  -- the uses of the filling, if there is one, are those of the field
+  pub within_uses : (values : List ℤ) (us : List Use) → vals a es ≡ Some values → (o : Option Filling) → inner_of g ≡ o → UsesWithin methods k values (below path d.declared.name) o us → UsesInside methods path d a k es g us
+  within_uses values us is (Some inner) inner_is uses = λ side. inside_use values inner is inner_is uses
+  within_uses values us is None inner_is none =
+      subst (UsesInside methods path d a k es g) (sym none) (none_is_inside (λ others inner others_are there. let wrong : None ≡ Some inner = sym inner_is ∙ there in absurd (cc)))
 
 -- what is inside a field fits, if anything is
 pub within_fits : (methods : List Method) (path : Path) (d : Field) (a : Assignment) (k : ℕ) (es : List Expr) (g : FilledField) → CallFitsAnywhere methods path d a k es g

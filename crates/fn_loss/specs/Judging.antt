@@ -13,7 +13,8 @@ use Rattle.fn_loss.specs.declared.judging.Case.{Case}
 use Rattle.fn_loss.specs.declared.judging.Journal.{Journal}
 use Rattle.fn_loss.specs.declared.judging.Reading.{Reading}
 use Rattle.fn_loss.specs.Hearing.{IsHeard, kind}
-use Rattle.fn_loss.specs.Unserved.{FitsAnywhere, HasUnserved}
+use Rattle.fn_loss.specs.Unserved.{HasUnserved}
+use Rattle.fn_loss.specs.Uses.{FitsAnywhere}
 
 -- what was sent fits somewhere, and its bits are those that were packed
 pub record IsSent (a : Accepting) (p : Packed) : Type 0 where

@@ -1,4 +1,5 @@
 pub mod Hearing
+pub mod Uses
 pub mod Unserved
 pub mod Judging
 pub mod Scores

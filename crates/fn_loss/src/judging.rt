@@ -1,15 +1,20 @@
 //! What is read of packets after losses, one after the other.
 
-ghost use Rattle.std.specs.Prelude.{◌≡◌, OnOk};
+ghost use Rattle.std.specs.Prelude.{◌≡◌, IfOk, IsTrue, OnOk, []};
 ghost use Rattle.std.specs.Option.{option_copied};
+ghost use Rattle.fn_elsewhere.specs.Listed.{UsesAre};
+ghost use Rattle.fn_filling.specs.Fillings as sides;
+ghost use Rattle.fn_loss.specs.Hearing.{IsHeard};
 ghost use Rattle.fn_loss.specs.Judging as spec;
 
 use crate::hearing::{Heard, Kind, hear};
-use crate::unserved::{Unserved, unserved_uses};
+use crate::unserved::{Unserved, all_serve, unserved_among};
+use crate::uses::{Using, uses_of};
 use fn_accepted::Accepted;
 use fn_context::Context;
-use fn_engine::Packed;
-use fn_filling::Item;
+use fn_engine::{Packed, has_item};
+use fn_filling::{Filling, Item};
+use fn_fits::whole_sides::header_of;
 use sqlite_items::Items;
 use std::alloc::{AllocError, Global};
 
@@ -69,11 +74,26 @@ pub fn judge(
     requires sent { spec.IsSent accepted.now sent.now }
     ensures { OnOk result (spec.AddsAll accepted.now held.now number item.now sent.now journal.old journal.new) }
 {
+    let uses = uses_of(alloc, accepted, &sent.filling)?;
+    let own = has_own_item(alloc, item, &sent.filling)?;
     for lost in 0..held.len() {
         let context = &held[held.len() - 1 - lost];
-        judge_in(alloc, accepted, context, lost, number, item, sent, journal)?;
+        let uses = uses.as_slice();
+        judge_in(
+            alloc, accepted, context, lost, number, item, sent, own, uses, journal,
+        )?;
     }
     Ok(())
+}
+
+/// Whether the item is that of the filling.
+fn has_own_item(alloc: Global, item: &Item, filling: &Filling) -> Result<bool, AllocError>
+    ensures { IfOk result (λ own. IsTrue own → sides.item filling.now ≡ item.now) }
+{
+    let Some(header) = header_of(alloc, filling)? else {
+        return Ok(false);
+    };
+    Ok(has_item(item, filling, &header))
 }
 
 /// Adds what a receiver in the context reads.
@@ -85,19 +105,23 @@ fn judge_in(
     number: usize,
     item: &Item,
     sent: &Packed,
+    own: bool,
+    uses: &[Using],
     journal: &mut Journal,
 ) -> Result<(), AllocError>
     requires sent { spec.IsSent accepted.now sent.now }
+    requires own { IsTrue own → sides.item sent.now.filling ≡ item.now }
+    requires uses { UsesAre accepted.now.profile.methods accepted.now.profile.top [] [] sent.now.filling uses.now }
     ensures { OnOk result (spec.AddsOne accepted.now context.now lost number item.now sent.now journal.old journal.new) }
 {
-    let heard = hear(alloc, accepted, context, item, &sent.packed)?;
+    let heard = hear_sent(alloc, accepted, context, item, sent, own, uses)?;
     let kind = heard.kind();
     let format = sent.filling.format;
     journal.readings.push(Reading { lost, format, kind })?;
     if is_known(journal.cases.as_slice(), lost, kind) {
         return Ok(());
     }
-    let unserved = unserved_uses(alloc, accepted, context, &sent.filling)?;
+    let unserved = unserved_among(alloc, context, uses)?;
     journal.cases.push(Case {
         lost,
         number,
@@ -105,6 +129,30 @@ fn judge_in(
         heard,
         unserved,
     })
+}
+
+/// The same as `hear`, of a filling with the item, if it is one: where each of its uses serves it is read, and nothing has to be unpacked.
+fn hear_sent(
+    alloc: Global,
+    accepted: &Accepted,
+    context: &Context,
+    item: &Item,
+    sent: &Packed,
+    own: bool,
+    uses: &[Using],
+) -> Result<Heard, AllocError>
+    requires sent { spec.IsSent accepted.now sent.now }
+    requires own { IsTrue own → sides.item sent.now.filling ≡ item.now }
+    requires uses { UsesAre accepted.now.profile.methods accepted.now.profile.top [] [] sent.now.filling uses.now }
+    ensures { IfOk result (IsHeard accepted.now context.now item.now sent.now.packed) }
+{
+    if own {
+        let is_read = all_serve(alloc, context, uses)?;
+        if is_read {
+            return Ok(Heard::Right);
+        }
+    }
+    hear(alloc, accepted, context, item, &sent.packed)
 }
 
 /// Whether nothing is to be told of that kind after so many lost packets: it is right, or there is a case of it.

@@ -15,7 +15,7 @@ use Rattle.fn_filling.specs.Entries.{Path, entries, next}
 use Rattle.fn_fits.proofs.Each.{Before, before_end, before_next}
 use Rattle.fn_elsewhere.specs.Held.{Holding, IsHeld}
 use Rattle.fn_elsewhere.proofs.Agreeing.{agree_after}
-use Rattle.fn_elsewhere.proofs.Pathing.{has, has-reverse}
+use Rattle.fn_elsewhere.proofs.Pathing.{has-reverse}
 use Rattle.fn_robust.specs.Sending.{AreApart, AreSame, CameOf, HasCome, HaveCome, HoldsOutside, IsAmong, IsSamePair, SameOutside}
 use Rattle.fn_robust.proofs.Staying.{alone, apart_joined, at_either, at_left, at_right, past}
 
@@ -143,12 +143,12 @@ module _ (first : Entries) (before : List Holding) (f : Filling) (n : ℕ) (foun
 
   pub as_first : HasCome f first → SameOutside (entries f) first h.context → ComeTo first before f (n + 1) found
   as_first came same = held_by (record {
-      place = 0;
-      one = record { gap = 0; context = first };
-      at = refl;
-      gap_is = refl;
-      same = subst (λ z. AreSame z (next h.context f)) (sym came.context_is) (same_after f came.before h.context (subst (λ z. SameOutside (entries f) z h.context) came.context_is same));
-    })
+    place = 0;
+    one = record { gap = 0; context = first };
+    at = refl;
+    gap_is = refl;
+    same = subst (λ z. AreSame z (next h.context f)) (sym came.context_is) (same_after f came.before h.context (subst (λ z. SameOutside (entries f) z h.context) came.context_is same));
+  })
 
   pub as_found : IsAmong (entries f) found h.context → ComeTo first before f (n + 1) found
   as_found among =

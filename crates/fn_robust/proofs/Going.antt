@@ -1,11 +1,13 @@
 -- What is held after a filling.
-use Rattle.std.proofs.Common.{◌≡◌, ◌∙◌, refl, sym, ap, subst, ℕ, zero, suc, ◌<◌, inl, inr, List, [], ◌∷◌, ◌++◌}
+use Rattle.std.proofs.Common.{◌≡◌, ◌∙◌, refl, sym, ap, subst, ℕ, zero, suc, ◌+◌, ◌<◌, inl, inr, List, ◌∷◌, ◌++◌, length, arith}
+use Rattle.std.proofs.lemmas.List.{length-append}
 use Rattle.std.specs.Prelude.{Some, slice_get}
 use Rattle.fn_context.specs.Entries.{Entries, bits_at}
 use Rattle.fn_filling.specs.declared.filling.Filling.{Filling}
 use Rattle.fn_filling.specs.Entries.{next}
-use Rattle.fn_elsewhere.specs.Held.{Holding, IsHeld, GoOn}
+use Rattle.fn_elsewhere.specs.Held.{Holding, IsHeld}
 use Rattle.fn_robust.specs.Sending.{AreHeldAfter, ComesFrom, HaveCome, IsSamePair, Sending, held, stayed, was_lost, was_read}
+use Rattle.fn_robust.specs.Answers.{GoesOn, HasTooMany, pair_limit}
 use Rattle.fn_robust.proofs.Staying.{apart_joined, apart_stayed, at_either, at_left, at_right, past, stays_from, stays_there}
 
 some_same : {A : Type 0} {x y : A} → Some x ≡ Some y → x ≡ y
@@ -63,3 +65,15 @@ module _ (s : Sending) (f : Filling) (own : Entries) (own_is : own ≡ next s.ow
     only = only;
     once = λ apart. apart_joined came (stayed s.lost (held s)) c.once (apart_stayed s.lost (held s) apart) across;
   }
+
+  module _ (count kept : ℕ) (count_is : count ≡ length found) (kept_is : kept ≡ length (stayed s.lost (held s))) where
+    all_of : length after ≡ suc (count + kept)
+    all_of = ap suc (length-append found (stayed s.lost (held s)) ∙ ap (λ n. n + length (stayed s.lost (held s))) (sym count_is) ∙ ap (λ n. count + n) (sym kept_is))
+
+    pub too_many : pair_limit < 1 + (count + kept) → HasTooMany s f
+    too_many many = record { after = after; held_are = held_after; many = let l = all_of in omega (arith, many, l) }
+
+    pub gone_on : (pair_limit < 1 + (count + kept) → ⊥) → (came_now : List Holding) → came_now ≡ found → (new : Sending) → new ≡ record { own = own; others = came_now ++ stayed s.lost (held s); lost = s.lost } → GoesOn s f new
+    gone_on few came_now same new new_is =
+        let is : new ≡ record { own = own; others = found ++ stayed s.lost (held s); lost = s.lost } = new_is ∙ ap (λ xs. record { own = own; others = xs ++ stayed s.lost (held s); lost = s.lost }) same in
+        subst (GoesOn s f) (sym is) (record { own_is = own_is; lost_is = refl; held_are = held_after; few = let l = all_of in omega (arith, few, l) })

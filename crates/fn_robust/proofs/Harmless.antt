@@ -1,17 +1,17 @@
 -- What the robust sender packed is read, whatever is lost.
-use Rattle.std.proofs.Common.{◌≡◌, ◌∙◌, refl, sym, ap, subst, ℕ, zero, suc, ◌<◌, ◌≤◌, List, Bool, [], ◌∷◌, map, length, arith}
+use Rattle.std.proofs.Common.{◌≡◌, ◌∙◌, refl, sym, ap, subst, ℕ, zero, suc, ◌<◌, ◌≤◌, List, [], ◌∷◌, map, length, arith}
 use Rattle.std.specs.Prelude.{Some, slice_get}
 use Rattle.fn_context.specs.Entries.{Entries, bits_at}
 use Rattle.fn_filling.specs.declared.filling.Filling.{Filling}
 use Rattle.fn_filling.specs.declared.filling.Item.{Item}
 use Rattle.fn_filling.specs.Fillings.{item}
 use Rattle.fn_filling.specs.Entries.{next}
-use Rattle.fn_accepted.specs.Accepted.{Accepting, IsDeterminate}
+use Rattle.fn_accepted.specs.Accepted.{Accepting}
 use Rattle.fn_candidates.specs.Best.{Best}
 use Rattle.fn_fits.specs.Fronts.{FitsTop}
 use Rattle.fn_elsewhere.specs.Held.{Holding, IsHeld, GoOn}
 use Rattle.fn_elsewhere.specs.Robust.{ComesThrough, all_over, comes, is_lost}
-use Rattle.fn_elsewhere.specs.Runs.{Arrives, Survives, all_survive, survives}
+use Rattle.fn_elsewhere.specs.Runs.{Survives, all_survive, survives}
 use Rattle.fn_elsewhere.proofs.Agreeing.{repaired}
 use Rattle.fn_elsewhere.proofs.Holdings.{held_as}
 use Rattle.fn_engine.specs.declared.search.Packed.{Packed}
@@ -102,8 +102,8 @@ module _ (a : Accepting) (s : Sending) (alone : s.others ≡ []) (sure : s.lost 
       let x_is = comes_of f x (h.only 0 x refl) in
       let y_is = comes_of f y (h.only 1 y refl) in
       let same : x ≡ y = x_is ∙ sym y_is in
-      let never : 0 ≡ 1 = h.once one_held 0 1 x y refl refl (ap (λ z. z.gap) same, λ path. ap (λ z. bits_at z.context path) same) in
-      absurd (cc)
+      let never : 0 ≡ 1 = h.once one_held 0 1 x y refl refl (ap (λ (z : Holding). z.gap) same, λ path. ap (λ (z : Holding). bits_at z.context path) same) in
+      absurd (omega (arith, never))
 
   none_left : (xs : List Holding) (x : Holding) → length (x ∷ xs) ≤ 1 → xs ≡ []
   none_left [] x l = refl

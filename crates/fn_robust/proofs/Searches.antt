@@ -1,10 +1,8 @@
 -- What the search for a filling that fits in all contexts finds.
-use Rattle.std.proofs.Common.{◌≡◌, ◌∙◌, refl, sym, ap, subst, ℕ, zero, suc, ◌+◌, ◌<◌, ◌≤◌, inl, inr, arith}
-use Rattle.std.specs.Prelude.{Some, slice_get}
+use Rattle.std.proofs.Common.{◌≡◌, subst, ℕ, zero, suc, ◌+◌, ◌<◌, ◌≤◌, List, inl, inr, arith}
+use Rattle.std.specs.Prelude.{slice_index_or}
 use Rattle.std.proofs.lemmas.Bool.{cases_lt}
 use Rattle.fn_context.specs.Entries.{Entries}
-use Rattle.fn_candidates.specs.Best.{IsUpTo}
-use Rattle.fn_candidates.specs.Codes.{code}
 use Rattle.fn_filling.specs.declared.filling.Filling.{Filling}
 use Rattle.fn_filling.specs.declared.filling.Item.{Item}
 use Rattle.fn_filling.specs.Fillings.{item}
@@ -12,13 +10,17 @@ use Rattle.fn_profile.specs.Resolved.{Resolved, IsSound}
 use Rattle.fn_accepted.specs.Accepted.{Accepting, IsAccepted}
 use Rattle.fn_elsewhere.specs.Held.{Holding}
 use Rattle.fn_engine.specs.declared.search.Candidate.{Candidate}
+use Rattle.fn_engine.specs.declared.search.Packed.{Packed}
 use Rattle.fn_engine.specs.declared.writer.PackFault.{PackFault}
 use Rattle.fn_engine.specs.declared.writer.PackFault.TheVariants as pack
 use Rattle.fn_engine.specs.Reading.{Fitting}
-use Rattle.fn_engine.specs.Searching.{IsFirstFrom, number_in}
-use Rattle.fn_engine.specs.Writing.{BlamesFrom, HasNoneFrom, IsPackedFrom, IsWritable}
-use Rattle.fn_engine.proofs.Searching.{order_of_numbers}
-use Rattle.fn_robust.specs.Answers.{FitsEach, HasNoReach, IsBest, IsBestFor, LacksReach, refusal}
+use Rattle.fn_engine.specs.Searching.{number_in}
+use Rattle.fn_engine.specs.Writing.{BlamesFrom, IsPackedFrom}
+use Rattle.fn_engine.proofs.Searching.{order_of_numbers, searched_start}
+use Rattle.fn_robust.specs.declared.sender.RobustFault.{RobustFault}
+use Rattle.fn_robust.specs.declared.sender.RobustFault.TheVariants as fault
+use Rattle.fn_robust.specs.Sending.{Sending}
+use Rattle.fn_robust.specs.Answers.{Blames, FitsEach, IsBestFor, LacksReach, Overflows, refusal}
 
 module _ (a : Accepting) (own : Entries) (others : List Holding) (it : Item) where
   -- what fits in all has no number below this one, and where that isn't the first one some filling fits in the own context
@@ -67,3 +69,17 @@ module _ (a : Accepting) (own : Entries) (others : List Holding) (it : Item) whe
   refused from (pack.Asked name) p h = h
   refused from pack.Flow p h = h
   refused from pack.OutOfMemory p h = h
+
+  -- the number of a candidate is below their count, as the code has it
+  pub below_count : (p : Resolved) → IsSound p → p ≡ a.profile → IsAccepted a → (counts : List ℕ) → counts ≡ a.counts → (m : ℕ) → m ≡ p.top → (from : ℕ) (c : Candidate) → IsPackedFrom a own it from c → c.number < slice_index_or counts m 0
+  below_count p sound is accepted counts same m at from c h = h.first.below (slice_index_or counts m 0) (searched_start a own it p sound is accepted from counts same m at).counted
+
+-- why what was found isn't packed
+pub blamed : (a : Accepting) (s : Sending) (it : Item) (p : Packed) → IsBestFor a s.own s.others it p → (e : RobustFault) → Overflows e s p.filling → Blames e a s it
+blamed a s it p best (fault.Pack pack.OutOfMemory) h = tt
+blamed a s it p best (fault.Pack pack.HeaderLength) h = absurd h
+blamed a s it p best (fault.Pack (pack.Asked name)) h = absurd h
+blamed a s it p best (fault.Pack pack.NoFormat) h = absurd h
+blamed a s it p best (fault.Pack pack.Flow) h = absurd h
+blamed a s it p best fault.NoReach h = absurd h
+blamed a s it p best fault.Contexts h = record { packed = p; best = best; many = h }

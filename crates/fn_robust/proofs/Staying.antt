@@ -45,13 +45,13 @@ pub apart_joined : (xs ys : List Holding) → AreApart xs → AreApart ys → ((
 apart_joined xs ys first later apart i j g h at_i at_j same =
     elim (at_either xs ys i g at_i) [
       | inl a ↦ elim (at_either xs ys j h at_j) [
-          | inl b ↦ first i j g h a b same
-          | inr b ↦ absurd (apart i b.0 g h a b.2 same)
-        ]
+        | inl b ↦ first i j g h a b same
+        | inr b ↦ absurd (apart i b.0 g h a b.2 same)
+      ]
       | inr a ↦ elim (at_either xs ys j h at_j) [
-          | inl b ↦ absurd (apart j a.0 h g b a.2 (same_back g h same))
-          | inr b ↦ a.1 ∙ ap (past xs) (later a.0 b.0 g h a.2 b.2 same) ∙ sym b.1
-        ]
+        | inl b ↦ absurd (apart j a.0 h g b a.2 (same_back g h same))
+        | inr b ↦ a.1 ∙ ap (past xs) (later a.0 b.0 g h a.2 b.2 same) ∙ sym b.1
+      ]
     ]
 
 -- ---- what stays

@@ -1,5 +1,5 @@
 -- What the robust sender answers (docs/DEFINITIONS.md, Losses).
-use Rattle.std.specs.Prelude.{◌≡◌, ℕ, suc, zero, ◌<◌, ◌≤◌, List, [], ◌∷◌, Some, length, slice_get}
+use Rattle.std.specs.Prelude.{◌≡◌, ℕ, suc, zero, ◌<◌, ◌≤◌, List, Some, length, slice_get}
 use Rattle.fn_context.specs.Entries.{Entries}
 use Rattle.fn_candidates.specs.Best.{IsUpTo}
 use Rattle.fn_candidates.specs.Codes.{code}

@@ -1,9 +1,9 @@
 -- What a receiver may hold, and how it goes on packet by packet (docs/DEFINITIONS.md, Losses).
-use Rattle.std.specs.Prelude.{◌≡◌, ℕ, suc, ◌<◌, nat_lt, Bool, List, [], ◌∷◌, None, Some, slice_get, IsSome, if◌then◌else◌}
+use Rattle.std.specs.Prelude.{◌≡◌, ℕ, suc, ◌<◌, nat_lt, List, [], ◌∷◌, None, Some, slice_get, IsSome, if◌then◌else◌}
 use Rattle.std.specs.List.{flat_map}
 use Rattle.fn_context.specs.Entries.{Entries, bits_at}
 use Rattle.fn_filling.specs.declared.filling.Filling.{Filling}
-use Rattle.fn_filling.specs.Entries.{entries, next}
+use Rattle.fn_filling.specs.Entries.{next}
 use Rattle.fn_elsewhere.specs.Held.{Holding, IsHeld, GoOn}
 
 -- a sender: its own context, the others that a receiver may hold, and how many packets in a row may be lost

@@ -59,7 +59,7 @@ fn is_known(first: &Context, found: &[Held], context: &Context, left: &[(String,
 }
 
 /// Whether one of these is the same outside of what is left.
-fn is_among(found: &[Held], context: &Context, left: &[(String, Bits)]) -> bool
+pub(crate) fn is_among(found: &[Held], context: &Context, left: &[(String, Bits)]) -> bool
     ensures { IsTrue result ↔ spec.IsAmong (shown left.now) found.now context.now }
 {
     for i in 0..found.len() {

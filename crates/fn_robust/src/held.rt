@@ -23,7 +23,8 @@ impl Model for Held {
 
 /// How many of these stay held after one packet more, which may be lost where fewer than so many were.
 pub(crate) fn staying(held: &[Held], lost: usize) -> usize
-    ensures { result ≡ length (spec.stayed lost held.now) }
+    ensures value { result ≡ length (spec.stayed lost held.now) }
+    ensures few { result ≤ length held.now }
 {
     let mut count: usize = 0;
     for i in 0..held.len() {
@@ -43,10 +44,8 @@ pub(crate) fn keep_staying(after: &mut Vec<Held>, held: Vec<Held>, lost: usize)
     for one in held {
         let Held { gap, context } = one;
         if gap < lost {
-            after.push_reserved(Held {
-                gap: gap + 1,
-                context,
-            });
+            let gap = gap + 1;
+            after.push_reserved(Held { gap, context });
         }
     }
 }

@@ -10,7 +10,7 @@ use fn_accepted::Accepted;
 use fn_context::Context;
 use fn_engine::{Candidate, PackFault, Packed, pack_from};
 use fn_filling::{Filling, Item};
-use fn_loss::unserved_uses;
+use fn_loss::{all_serve, uses_of};
 use std::alloc::{AllocError, Global};
 
 /// The best filling for the item that fits in the sender's own context and in each of the others, with its packed bits.
@@ -60,7 +60,7 @@ fn refusal(fault: PackFault, from: u64) -> RobustFault
     }
 }
 
-/// Whether a filling that fits in the sender's own context fits in each of the others.
+/// Whether a filling that fits in the sender's own context fits in each of the others: whether there each reference that it uses serves.
 fn fits_each(
     alloc: Global,
     accepted: &Accepted,
@@ -71,26 +71,14 @@ fn fits_each(
     requires { Fitting accepted.now own.now filling.now }
     ensures { IfOk result (λ b. IsTrue b ↔ spec.FitsEach accepted.now others.now filling.now) }
 {
+    let _ = own;
+    let uses = uses_of(alloc, accepted, filling)?;
     for i in 0..others.len() {
         let other = &others[i];
-        if !fits_in(alloc, accepted, own, &other.context, filling)? {
+        let fits = all_serve(alloc, &other.context, uses.as_slice())?;
+        if !fits {
             return Ok(false);
         }
     }
     Ok(true)
-}
-
-/// Whether it fits in another one: whether each reference that it uses serves there.
-fn fits_in(
-    alloc: Global,
-    accepted: &Accepted,
-    own: &Context,
-    other: &Context,
-    filling: &Filling,
-) -> Result<bool, AllocError>
-    requires { Fitting accepted.now own.now filling.now }
-    ensures { IfOk result (λ b. IsTrue b ↔ Fitting accepted.now other.now filling.now) }
-{
-    let unserved = unserved_uses(alloc, accepted, other, filling)?;
-    Ok(unserved.is_empty())
 }

@@ -1,6 +1,6 @@
 //! The sender.
 
-ghost use Rattle.std.specs.Prelude.{◌≡◌, ◌+◌, ◌≤◌, ◌++◌, [], length, vec_len, vec_capacity, IfOk, IfErr, OnOk, OnErr};
+ghost use Rattle.std.specs.Prelude.{◌≡◌, ◌↔◌, ◌+◌, ◌<◌, ◌≤◌, ◌++◌, [], IsTrue, length, vec_len, vec_capacity, IfOk, IfErr, OnOk, OnErr};
 ghost use Rattle.fn_robust.specs.Sending as sending;
 ghost use Rattle.fn_robust.specs.Answers as spec;
 
@@ -113,7 +113,7 @@ impl Robust {
         let own = next_of(alloc, &self.own, filling)?;
         let mut came = others_of(alloc, &own, self.others.as_slice(), filling)?;
         let kept = self.staying();
-        if came.len().saturating_add(kept) >= PAIR_LIMIT {
+        if are_too_many(came.as_slice().len(), kept) {
             return Err(RobustFault::Contexts);
         }
         came.reserve(kept)?;
@@ -146,4 +146,11 @@ impl Robust {
         }
         keep_staying(&mut self.others, others, self.lost);
     }
+}
+
+/// Whether so many pairs that came, so many that stay and one more are above 256.
+fn are_too_many(came: usize, kept: usize) -> bool
+    ensures { IsTrue result ↔ (spec.pair_limit < 1 + (came + kept)) }
+{
+    kept >= PAIR_LIMIT || came >= PAIR_LIMIT - kept
 }

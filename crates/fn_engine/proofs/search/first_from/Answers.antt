@@ -11,8 +11,8 @@ pub returns-in-Found-clause-found : goal.returns-in-Found-clause-found
 returns-in-Found-clause-found c =
     first_found c.args.accepted.now c.args.context.now c.args.item.now c.args.from _ (c.loop-number.number + c.in_ok-number.field-0) c.in-Found.packed
     (searched_past c.args.accepted.now c.args.context.now c.args.item.now c.args.from _ c.loop-number.number c.in_ok-number.field-0 c.loop-number.invariant c.in_ok-number.ensures)
-    c.if-number.true
-    (rw c.in-Found.is at c.in_ok-found.ensures)
+    c.if-number-count.true
+    (rw c.in-Found.is at c.in_ok-packed.ensures)
 
 pub returns-clause-none : goal.returns-clause-none
 returns-clause-none c =

@@ -9,4 +9,4 @@ returns-then-is_known c =
 pub returns : goal.returns
 returns c =
     adds_case c.args.accepted.now c.args.context.now c.args.lost c.args.number c.args.item.now c.args.sent.now c.args.journal.now c.in_ok-heard.heard c.in_ok-heard.ensures c.kind-kind.result c.kind-kind.ensures
-    c.push.new.self c.in_ok-push.ensures.ok c.push-2.result _ c.in_ok-unserved.unserved c.push-2.ensures.ok c.in_ok-unserved.ensures
+    c.push.new.self c.in_ok-push.ensures.ok c.push-2.result _ c.in_ok-unserved.unserved c.push-2.ensures.ok (record { uses = c.args.uses.now; uses_are = c.requires.uses; unserved = c.in_ok-unserved.ensures })

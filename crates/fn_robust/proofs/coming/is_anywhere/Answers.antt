@@ -1,6 +1,4 @@
-use Rattle.std.proofs.Common.{◌≡◌, ◌∙◌, refl, arith}
-use Rattle.std.specs.Prelude.{IsSome}
-use Rattle.fn_context.specs.Entries.{bits_at}
+use Rattle.std.proofs.Common.{refl, arith}
 use Rattle.fn_context.specs.Placing.{shown}
 use Rattle.fn_robust.proofs.Comings.{length-shown, place_of_some, place_within, some_at}
 use Rattle.fn_robust.proofs.coming.is_anywhere.Goals as goal

@@ -1,4 +1,3 @@
-use Rattle.fn_elsewhere.specs.Held.{Holding}
 use Rattle.fn_engine.specs.Reading.{Fitting}
 use Rattle.fn_fits.proofs.Each.{Before}
 use Rattle.fn_robust.proofs.searching.fits_each.Given as goal

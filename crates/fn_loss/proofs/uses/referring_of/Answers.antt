@@ -2,8 +2,8 @@ use Rattle.std.proofs.Common.{refl, sym, subst}
 use Rattle.std.specs.Prelude.{MatchOption}
 use Rattle.fn_expr.specs.Known.{assignment_of}
 use Rattle.fn_fits.proofs.Coded.{argument_ranged}
-use Rattle.fn_loss.specs.Unserved.{RefersNot, IsReferring}
-use Rattle.fn_loss.proofs.unserved.referring_of.Goals as goal
+use Rattle.fn_loss.specs.Uses.{RefersNot, IsReferring}
+use Rattle.fn_loss.proofs.uses.referring_of.Goals as goal
 
 pub near_of-requires-clause-bits : goal.near_of-requires-clause-bits
 near_of-requires-clause-bits c = argument_ranged c.args.known.now 0 c.requires c.in-Lsb.is refl
