@@ -18,3 +18,5 @@ mod NeedsAdding
 mod NeedsComplete
 mod NeedsTelling
 mod NeedsLacking
+mod UnlikeSilent
+mod UnnoticedReaching
