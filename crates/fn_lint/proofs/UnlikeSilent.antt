@@ -68,7 +68,7 @@ empty_both : {T : Type 0} (xs ys : List T) → xs ≡ [] → ys ≡ [] → xs ++
 empty_both [] ys e h = h
 empty_both (x ∷ xs) ys e h = absurd (cc)
 
-calls_of : (e : Encoding) (j : ℕ) → called_by e ≡ Some j → (es : List Expr) × (e ≡ encoding.Call j es)
+pub calls_of : (e : Encoding) (j : ℕ) → called_by e ≡ Some j → (es : List Expr) × (e ≡ encoding.Call j es)
 calls_of encoding.Bare j e = absurd (cc)
 calls_of (encoding.Library l) j e = absurd (cc)
 calls_of (encoding.Call m es) j e = (es, let same : m ≡ j = cc in ap (λ x. encoding.Call x es) same)

@@ -73,12 +73,12 @@ pub record IsPlace {A : Type 0} (test : ℕ → A → Bool) (b : ℕ) (xs : List
 
 has_place : {A : Type 0} (test : ℕ → A → Bool) (b : ℕ) (xs : List A) → any_place test b xs ≡ true → IsPlace test b xs
 has_place test b [] e = absurd (true≢false (sym e))
-has_place {A} test b (y ∷ xs) e = by (either (test b y) _ e)
+has_place {A} test b (y ∷ xs) e = by (either (test b y) _ e) (λ there. has_place test (suc b) xs there)
   where
-    by : (test b y ≡ true) ⊎ (any_place test (suc b) xs ≡ true) → IsPlace test b (y ∷ xs)
-    by (inl here) = record { place = 0; from = b; from_is = omega arith; one = y; one_at = refl; passes = here }
-    by (inr there) =
-        let p = has_place test (suc b) xs there in
+    by : (test b y ≡ true) ⊎ (any_place test (suc b) xs ≡ true) → (any_place test (suc b) xs ≡ true → IsPlace test (suc b) xs) → IsPlace test b (y ∷ xs)
+    by (inl here) rest = record { place = 0; from = b; from_is = omega arith; one = y; one_at = refl; passes = here }
+    by (inr there) rest =
+        let p = rest there in
         record { place = suc p.place; from = p.from; from_is = let is = p.from_is in omega (arith, is); one = p.one; one_at = p.one_at; passes = p.passes }
 
 -- ---- members of lists that are made of others
@@ -123,12 +123,13 @@ pub record IsMade {A : Type 0} (f : ℕ → A → List ℕ) (b : ℕ) (xs : List
 
 in_flat : {A : Type 0} (f : ℕ → A → List ℕ) (b : ℕ) (xs : List A) (j : ℕ) → IsIn (flat_map (λ (y : ℕ × A). f y.0 y.1) (enumerate_from b xs)) j → IsMade f b xs j
 in_flat f b [] j q = absurd (let e = q.1 in cc)
-in_flat {A} f b (y ∷ xs) j q = by (one_of (f b y) _ q.0 j q.1)
+in_flat {A} f b (y ∷ xs) j q = by (one_of (f b y) _ q.0 j q.1) (λ r. in_flat f (b + 1) xs j r)
   where
-    by : IsIn (f b y) j ⊎ IsIn (flat_map (λ (z : ℕ × A). f z.0 z.1) (enumerate_from (b + 1) xs)) j → IsMade f b (y ∷ xs) j
-    by (inl r) = record { place = 0; from = b; from_is = omega arith; one = y; one_at = refl; inside = r }
-    by (inr r) =
-        let m = in_flat f (b + 1) xs j r in
+    by : IsIn (f b y) j ⊎ IsIn (flat_map (λ (z : ℕ × A). f z.0 z.1) (enumerate_from (b + 1) xs)) j
+        → (IsIn (flat_map (λ (z : ℕ × A). f z.0 z.1) (enumerate_from (b + 1) xs)) j → IsMade f (b + 1) xs j) → IsMade f b (y ∷ xs) j
+    by (inl r) rest = record { place = 0; from = b; from_is = omega arith; one = y; one_at = refl; inside = r }
+    by (inr r) rest =
+        let m = rest r in
         record { place = suc m.place; from = m.from; from_is = let is = m.from_is in omega (arith, is); one = m.one; one_at = m.one_at; inside = m.inside }
 
 -- one is made of each
@@ -218,7 +219,7 @@ module _ (methods : List Method) (dead : List (List Bool)) where
 
   -- the graph has as many methods
   graph_length : length (graph_of dead methods) ≡ length methods
-  graph_length = length-map (λ (m : ℕ × Method). callees dead m.0 m.1) (enumerate_from 0 methods) ∙ length-enumerate_from 0 methods
+  graph_length = length-map (enumerate_from 0 methods) (λ (m : ℕ × Method). callees dead m.0 m.1) ∙ length-enumerate_from 0 methods
 
   graph_calls : (k j : ℕ) → Calls (graph_of dead methods) k j → CallsUnchecked methods dead k j
   graph_calls k j (lt, has) =
@@ -318,7 +319,7 @@ module _ (methods : List Method) (dead : List (List Bool)) where
     are_open top k = (to, from)
       where
         to : open_by table top k ≡ true → IsOpen methods dead top k
-        to e = elim either (nat_eq k top) _ e as (λ _. IsOpen methods dead top k) [ inl here ↦ inl ((Decides-eqb k top).0 here) | inr there ↦ inr (from_mark top k there) ]
+        to e = elim (either (nat_eq k top) _ e) as (λ _. IsOpen methods dead top k) [ inl here ↦ inl ((Decides-eqb k top).0 here) | inr there ↦ inr (from_mark top k there) ]
 
         from : IsOpen methods dead top k → open_by table top k ≡ true
         from (inl here) = or_first (nat_eq k top) _ ((Decides-eqb k top).1 here)
@@ -336,7 +337,7 @@ module _ (methods : List Method) (dead : List (List Bool)) where
             (p.place, from_mark k p.place (subst (λ z. is_marked table k z ≡ true) same c.1), there_own p.place own)
 
         to : loose_by table (own_of dead methods) k ≡ true → IsLoose methods dead k
-        to e = elim either (marked_at (own_of dead methods) k) _ e as (λ _. IsLoose methods dead k) [ inl here ↦ inl (there_own k here) | inr there ↦ inr (reaching there) ]
+        to e = elim (either (marked_at (own_of dead methods) k) _ e) as (λ _. IsLoose methods dead k) [ inl here ↦ inl (there_own k here) | inr there ↦ inr (reaching there) ]
 
         reached : (j : ℕ) → Reaches (CallsUnchecked methods dead) k j → (o : Option Bool) → slice_get (own_of dead methods) j ≡ o → unwrap_or o false ≡ true → reaches_own table (own_of dead methods) k ≡ true
         reached j way None at e = absurd (true≢false (sym e))
@@ -377,3 +378,9 @@ all_unnoticed p methods dead graph own table top found tells ms gs os t tops is 
 
     rows : (length table ≡ length (graph_of dead p.methods)) × Table (graph_of dead p.methods) table
     rows = subst (λ g. (length table ≡ length g) × Table g table) (gs ∙ ap (graph_of dead) ms) t
+
+pub told_unnoticed : {E : Type 0} (p : Resolved) (methods : List Method) (dead : List (List Bool)) (graph : List (List ℕ)) (own : List Bool) (table : List (List Bool)) (top : ℕ) (r : Result (List Unnoticed) E)
+    → TellsObstacles p dead → methods ≡ p.methods → graph ≡ graph_of dead methods → own ≡ own_of dead methods → (length table ≡ length graph) × Table graph table → top ≡ p.top
+    → IfOk r (λ found. found ≡ unnoticed_among methods dead (loose_by table own) (open_by table top)) → IfOk r (AreUnnoticed p)
+told_unnoticed p methods dead graph own table top (Err e) tells ms gs os t tops is = tt
+told_unnoticed p methods dead graph own table top (Ok found) tells ms gs os t tops is = all_unnoticed p methods dead graph own table top found tells ms gs os t tops is
