@@ -20,3 +20,4 @@ mod NeedsTelling
 mod NeedsLacking
 mod UnlikeSilent
 mod UnnoticedReaching
+mod UnnoticedAlone

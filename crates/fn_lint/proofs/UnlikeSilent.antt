@@ -1,7 +1,7 @@
 -- No call is told just where the formats of each method call alike.
-use Rattle.std.proofs.Common.{◌≡◌, ◌↔◌, ◌∙◌, refl, sym, ap, subst, ℕ, zero, suc, ◌+◌, Bool, true, false, List, [], ◌∷◌, ◌++◌, arith}
-use Rattle.std.specs.Prelude.{◌||◌, ◌&&◌, not, nat_eq, Option, Some, None, slice_get, flat_map, if◌then◌else◌}
-use Rattle.std.specs.List.{enumerate_from, list_all}
+use Rattle.std.proofs.Common.{◌≡◌, ◌∙◌, refl, sym, ap, subst, ℕ, zero, suc, ◌+◌, Bool, true, false, List, [], ◌∷◌, ◌++◌, arith}
+use Rattle.std.specs.Prelude.{◌||◌, ◌&&◌, not, Option, Some, None, slice_get, flat_map, if◌then◌else◌}
+use Rattle.std.specs.List.{enumerate_from}
 use Rattle.std.specs.Option.{option_or, option_and_then}
 use Rattle.std.proofs.lemmas.Bool.{true≢false}
 use Rattle.std.proofs.lemmas.Bool.Decides.{Decides-eqb}
@@ -200,7 +200,7 @@ silent methods are = no_methods 0 methods (λ k c m at. ap told_call (no_formats
         let far = λ (here : d.declared.part ≡ Local). are.no_local k n i j call.0 f d (format_is k m at n f fat) dat here call.1 in
         tests_none (is_local d.declared.part) _ (no_local_is d.declared.part far)
         (all_call i j m.formats (λ m2 g gat. called_it j i (slice_get g.fields i) (λ e eat.
-          ap called_by (are.same k n m2 i j call.0 f g d e (format_is k m at n f fat) (format_is k m at m2 g gat) dat eat far call.1).1)))
+        ap called_by (are.same k n m2 i j call.0 f g d e (format_is k m at n f fat) (format_is k m at m2 g gat) dat eat far call.1).1)))
 
     one : (k : ℕ) (m : Method) → slice_get methods k ≡ Some m → (n : ℕ) (f : Format) → slice_get m.formats n ≡ Some f → (c n2 i i2 : ℕ) (d : Field) → i2 ≡ 0 + i → slice_get f.fields i ≡ Some d
         → unlike_field c m.formats n2 i2 d ≡ None

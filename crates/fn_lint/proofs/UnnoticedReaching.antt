@@ -8,12 +8,9 @@ use Rattle.std.proofs.lemmas.Bool.Decides.{Decides-eqb, nat_tests}
 use Rattle.std.proofs.lemmas.List.{length-map}
 use Rattle.std.proofs.lemmas.List.FromFn.{length-enumerate_from}
 use Rattle.std.proofs.lemmas.Option.{slice_get_within, slice_get-get_or, get_or_from_slice_get}
-use Rattle.fn_normal.specs.declared.profile.Encoding.{Encoding}
-use Rattle.fn_normal.specs.declared.profile.Encoding.TheVariants as encoding
-use Rattle.fn_normal.specs.declared.profile.Field.{Field}
 use Rattle.fn_normal.specs.declared.profile.Format.{Format}
 use Rattle.fn_normal.specs.declared.profile.Method.{Method}
-use Rattle.fn_calls.specs.Calls.{Has, Marked, Calls, Reaches, by_call, further, Reached, Within}
+use Rattle.fn_calls.specs.Calls.{Calls, Reaches, by_call, further, Within}
 use Rattle.fn_calls.specs.Order.{Table, is_marked}
 use Rattle.fn_calls.proofs.OrderPushing.{unwrap_get}
 use Rattle.fn_profile.specs.Resolved.{Resolved, IsSound}
@@ -28,14 +25,14 @@ use Rattle.fn_lint.proofs.UnlikeSilent.{calls_of}
 
 -- ---- tests
 
-both : (a b : Bool) → (a && b) ≡ true → (a ≡ true) × (b ≡ true)
+pub both : (a b : Bool) → (a && b) ≡ true → (a ≡ true) × (b ≡ true)
 both true b e = (refl, e)
 both false b e = absurd (cc)
 
 both_are : (a b : Bool) → a ≡ true → b ≡ true → (a && b) ≡ true
 both_are a b e h = ap (λ x. x && b) e ∙ h
 
-either : (a b : Bool) → (a || b) ≡ true → (a ≡ true) ⊎ (b ≡ true)
+pub either : (a b : Bool) → (a || b) ≡ true → (a ≡ true) ⊎ (b ≡ true)
 either true b e = inl refl
 either false b e = inr e
 
@@ -71,7 +68,7 @@ pub record IsPlace {A : Type 0} (test : ℕ → A → Bool) (b : ℕ) (xs : List
   pub one_at : slice_get xs place ≡ Some one
   pub passes : test from one ≡ true
 
-has_place : {A : Type 0} (test : ℕ → A → Bool) (b : ℕ) (xs : List A) → any_place test b xs ≡ true → IsPlace test b xs
+pub has_place : {A : Type 0} (test : ℕ → A → Bool) (b : ℕ) (xs : List A) → any_place test b xs ≡ true → IsPlace test b xs
 has_place test b [] e = absurd (true≢false (sym e))
 has_place {A} test b (y ∷ xs) e = by (either (test b y) _ e) (λ there. has_place test (suc b) xs there)
   where
@@ -214,8 +211,8 @@ module _ (methods : List Method) (dead : List (List Bool)) where
       let fat = subst (λ (y : Method). slice_get y.formats c.number ≡ Some c.format) one t.2 in
       flat_in (callees_in dead k) 0 m.formats c.number c.number c.format j (omega arith) fat
       (alive_in (is_dead dead k c.number) (callees_of c.format) j c.alive
-        (flat_in (callee_of c.format) 0 c.format.fields c.place c.place c.field j (omega arith) c.field_at
-          (callee_there (called_by c.field.encoding) (is_checked c.format c.place) j c.called c.unchecked)))
+      (flat_in (callee_of c.format) 0 c.format.fields c.place c.place c.field j (omega arith) c.field_at
+      (callee_there (called_by c.field.encoding) (is_checked c.format c.place) j c.called c.unchecked)))
 
   -- the graph has as many methods
   graph_length : length (graph_of dead methods) ≡ length methods
@@ -244,9 +241,9 @@ module _ (methods : List Method) (dead : List (List Bool)) where
   own_there k r =
       let t = in_format k r.number r.format r.format_is in
       let test : refers_in dead k t.0.formats ≡ true =
-        place_has (refers_by dead k) 0 t.0.formats r.number r.number r.format (omega arith) t.2
-        (both_are (not (is_dead dead k r.number)) _ (deny _ r.alive)
-          (place_has (is_reference r.format) 0 r.format.fields r.place r.place r.field (omega arith) r.field_at (both_are (takes_reference r.field.encoding) _ r.refers (deny _ r.unchecked)))) in
+      place_has (refers_by dead k) 0 t.0.formats r.number r.number r.format (omega arith) t.2
+      (both_are (not (is_dead dead k r.number)) _ (deny _ r.alive)
+      (place_has (is_reference r.format) 0 r.format.fields r.place r.place r.field (omega arith) r.field_at (both_are (takes_reference r.field.encoding) _ r.refers (deny _ r.unchecked)))) in
       ap (λ o. unwrap_or o false) (each_made (λ (x : ℕ) (m : Method). refers_in dead x m.formats) 0 methods k k t.0 (omega arith) t.1) ∙ test
 
   there_own : (k : ℕ) → marked_at (own_of dead methods) k ≡ true → RefersUnchecked methods dead k

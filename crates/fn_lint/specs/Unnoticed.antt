@@ -13,6 +13,7 @@ use Rattle.fn_normal.specs.declared.profile.Field.{Field}
 use Rattle.fn_normal.specs.declared.profile.Format.{Format}
 use Rattle.fn_normal.specs.declared.profile.Method.{Method}
 use Rattle.fn_profile.specs.Resolved.{Resolved}
+use Rattle.fn_elsewhere.specs.Uses.{StandsAlone}
 use Rattle.fn_lint.specs.declared.unnoticed.Unnoticed.{Unnoticed}
 use Rattle.fn_lint.specs.Marks.{marked_at}
 use Rattle.fn_lint.specs.Needs.{is_dead, takes_reference, TellsObstacles}
@@ -125,6 +126,11 @@ pub record AreUnnoticed (p : Resolved) (found : List Unnoticed) : Type 0 where
   pub is_open : ℕ → Bool
   pub are_open : (k : ℕ) → (is_open k ≡ true) ↔ IsOpen p.methods dead p.top k
   pub found_is : found ≡ unnoticed_among p.methods dead loose is_open
+
+-- None is told that stands alone, as the laws of losses have it.
+abbrev pub AloneIsSilent : Type 0
+AloneIsSilent = (methods : List Method) (dead : List (List Bool)) (loose : ℕ → Bool) → ((k : ℕ) → (loose k ≡ true) ↔ IsLoose methods dead k) → (k n : ℕ) (f : Format) → StandsAlone methods f
+    → is_wrong_format dead loose k n f ≡ false
 
 -- ---- how it is found
 

@@ -367,3 +367,9 @@ fn is_reached(reached: &[Items<bool>], from: usize, to: usize) -> bool
         None => false,
     }
 }
+
+/// A law of what is told: no format is that stands alone, so that all its fillings fit in each context.
+#[tactic(auto, using(crate::proofs::UnnoticedAlone::alone_is_silent))]
+pub fn alone_is_silent()
+    ensures { spec.AloneIsSilent }
+{}
