@@ -15,8 +15,8 @@
 KEPT = 0;
 SENT = 1;
 
-/* Options of so many octets: as they were before, or as they are sent. Each format calls this one method, so each frame leaves the context's entries at the same
-   paths (docs/LOSS.md). */
+/* Options of so many octets: as they were before, or as they are sent. Each format calls this one method, so each frame leaves the context's entries at the
+   same paths (docs/LOSS.md). */
 options_of(how, octets)
 {
   UNCOMPRESSED
