@@ -292,12 +292,7 @@ fn push_unlike(
     text.push_str(line.as_str())
 }
 
-fn unlike_words(
-    alloc: Global,
-    head: &str,
-    name: &str,
-    callee: &str,
-) -> Result<String, AllocError>
+fn unlike_words(alloc: Global, head: &str, name: &str, callee: &str) -> Result<String, AllocError>
     ensures { IfOk result (λ text. string_bytes text ≡ spec.unlike_words head.now name.now callee.now) }
 {
     format!(in alloc;

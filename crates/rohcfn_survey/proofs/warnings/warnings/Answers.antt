@@ -1,4 +1,4 @@
-use Rattle.std.proofs.Common.{ap, ◌∙◌, subst, ◌≡◌}
+use Rattle.std.proofs.Common.{ap, ◌∙◌, subst}
 use Rattle.fn_lint.specs.Needs.{AreNeeding}
 use Rattle.fn_lint.specs.Paths.{AreThose, IsUnknown}
 use Rattle.rohcfn_survey.proofs.WarningsLemmas.{all_warned, told}
