@@ -156,10 +156,11 @@ def of_surveys():
     yield "tick linted", bundle("lint --top tick", TICK), "", 0, 0
     clean = "top { UNCOMPRESSED { sn [8]; } COMPRESSED one { sn =:= lsb(4, 1) [4]; } }\n"
     needs = "1:1: warning top.one is never used: it needs sn in the context, which no format that can come before puts there\n"
+    unnoticed = "1:1: warning top.one: a wrong reference is not noticed\n"
     unknown = "context: warning sm: no format has a field there\n"
-    yield "a format that waits linted", bundle("lint --top top", clean), needs, 0, 0
-    yield "lint with a context", bundle("lint --top top", clean, context="sn 8:00\n"), "", 0, 0
-    yield "lint with a path that no format has", bundle("lint --top top", clean, context="sm 8:00\n"), needs + unknown, 0, 0
+    yield "a format that waits linted", bundle("lint --top top", clean), needs + unnoticed, 0, 0
+    yield "lint with a context", bundle("lint --top top", clean, context="sn 8:00\n"), unnoticed, 0, 0
+    yield "lint with a path that no format has", bundle("lint --top top", clean, context="sm 8:00\n"), needs + unnoticed + unknown, 0, 0
     yield "lint with a bad context", bundle("lint --top top", clean, context="sn 8:00\nsn\n"), "context:2: C1 bad line\n", 1, 0
     misspelled = "top { UNCOMPRESSED { addr [8]; } COMPRESSED { adr =:= irregular(17) [16]; addr =:= irregular(8) [8]; } }\n"
     dead = "1:69: warning top.-: adr has at least 17 and at most 16 bits compressed: nothing fits this format\n"

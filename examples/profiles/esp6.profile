@@ -18,19 +18,20 @@
 IP_VERSION = 6;
 PROTOCOL_ESP = 50;
 
-/* A field that is sent or not, with a flag before it (parts/flags.profile says why the flag stands here). */
-flagged(width)
-{
-  UNCOMPRESSED { field [width]; }
-  COMPRESSED same { flag =:= '0' [1]; field =:= static [0]; }
-  COMPRESSED sent { flag =:= '1' [1]; field =:= irregular(width) [width]; }
-}
+// What a format does with a field that changes now and then.
+KEPT = 0; // it is the one before
+FLAGGED = 1; // a flag says whether it is sent
+SENT = 2;
 
-/* The same field, where it is always sent. */
-whole(width)
+/* Such a field. Each format calls this one method, so each packet leaves the context's entries at the same paths (docs/LOSS.md). parts/flags.profile says why
+   the flag stands here. */
+changing(how, width)
 {
   UNCOMPRESSED { field [width]; }
-  COMPRESSED { field =:= irregular(width) [width]; }
+  COMPRESSED kept { ENFORCE(how == KEPT); field =:= static [0]; }
+  COMPRESSED same { ENFORCE(how == FLAGGED); flag =:= '0' [1]; field =:= static [0]; }
+  COMPRESSED other { ENFORCE(how == FLAGGED); flag =:= '1' [1]; field =:= irregular(width) [width]; }
+  COMPRESSED sent { ENFORCE(how == SENT); field =:= irregular(width) [width]; }
 }
 
 esp_ip6
@@ -52,10 +53,10 @@ esp_ip6
   }
   DEFAULT
   {
-    traffic_class =:= static [0];
-    flow_label =:= static [0];
+    traffic_class =:= changing(KEPT, 8) [0];
+    flow_label =:= changing(KEPT, 20) [0];
     payload_length =:= static [0];
-    hop_limit =:= static [0];
+    hop_limit =:= changing(KEPT, 8) [0];
     source_network =:= static [0];
     source_node =:= static [0];
     destination_network =:= static [0];
@@ -88,9 +89,9 @@ esp_ip6
     discriminator =:= '11111010' [8];
     crc8;
     sequence_number =:= lsb(13, 1) [13];
-    traffic_class =:= flagged(8) [1, 9];
-    flow_label =:= flagged(20) [1, 21];
-    hop_limit =:= flagged(8) [1, 9];
+    traffic_class =:= changing(FLAGGED, 8) [1, 9];
+    flow_label =:= changing(FLAGGED, 20) [1, 21];
+    hop_limit =:= changing(FLAGGED, 8) [1, 9];
     payload_length =:= irregular(16) [16];
   }
   COMPRESSED ir // all that the other formats need to know
@@ -103,9 +104,9 @@ esp_ip6
     destination_node =:= irregular(64) [64];
     index =:= irregular(32) [32];
     sequence_number =:= irregular(32) [32];
-    traffic_class =:= whole(8) [8];
-    flow_label =:= whole(20) [20];
-    hop_limit =:= whole(8) [8];
+    traffic_class =:= changing(SENT, 8) [8];
+    flow_label =:= changing(SENT, 20) [20];
+    hop_limit =:= changing(SENT, 8) [8];
     padding =:= '0000' [4];
     payload_length =:= irregular(16) [16];
   }

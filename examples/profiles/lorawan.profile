@@ -12,31 +12,27 @@
 // 88:80da1b0126a21001030702 -> 8:04
 // 152:40da1b01268a50010307060011223344556601 -> 115:a83d50034060e0c0022446688aacc0
 
-/* Options of so many octets, as they were before. */
-kept(octets)
+KEPT = 0;
+SENT = 1;
+
+/* Options of so many octets: as they were before, or as they are sent. Each format calls this one method, so each frame leaves the context's entries at the
+   same paths (docs/LOSS.md). */
+options_of(how, octets)
 {
   UNCOMPRESSED
   {
     first [8 * (octets - (octets / 8) * (octets % 8))];
     second [8 * ((octets / 8) * (octets % 8))];
   }
-  COMPRESSED
+  COMPRESSED kept
   {
+    ENFORCE(how == KEPT);
     first =:= static [0];
     second =:= static [0];
   }
-}
-
-/* The same options, where they are sent. The fields have the names of those above, so each method finds what the other left. */
-sent(octets)
-{
-  UNCOMPRESSED
+  COMPRESSED sent
   {
-    first [8 * (octets - (octets / 8) * (octets % 8))];
-    second [8 * ((octets / 8) * (octets % 8))];
-  }
-  COMPRESSED
-  {
+    ENFORCE(how == SENT);
     first =:= irregular(first.ULENGTH) [first.ULENGTH];
     second =:= irregular(second.ULENGTH) [second.ULENGTH];
   }
@@ -70,7 +66,7 @@ frame_up
     flags =:= static [0];
     options_length =:= static [0];
     port =:= static [0];
-    options =:= sent(options_length.UVALUE) [VARIABLE];
+    options =:= options_of(SENT, options_length.UVALUE) [VARIABLE];
     crc3 =:= crc(3, 0x06, 0x07, THIS.UVALUE, THIS.ULENGTH) [3];
     crc7 =:= crc(7, 0x79, 0x7f, THIS.UVALUE, THIS.ULENGTH) [7];
     crc8 =:= crc(8, 0xe0, 0xff, THIS.UVALUE, THIS.ULENGTH) [8];
@@ -81,7 +77,7 @@ frame_up
     discriminator =:= '0' [1];
     count =:= lsb(4, 0) [4];
     crc3;
-    options =:= kept(options_length.UVALUE) [0];
+    options =:= options_of(KEPT, options_length.UVALUE) [0];
   }
   COMPRESSED changed // the same device, with another type, other flags, another port or other options
   {

@@ -18,3 +18,6 @@ mod NeedsAdding
 mod NeedsComplete
 mod NeedsTelling
 mod NeedsLacking
+mod UnlikeSilent
+mod UnnoticedReaching
+mod UnnoticedAlone

@@ -13,3 +13,5 @@ pub mod NeedsTold
 pub mod Sites
 pub mod SitesSteps
 pub mod Spelled
+pub mod Unlike
+pub mod Unnoticed

@@ -155,7 +155,7 @@ fn needs_reference(field: &Field) -> bool
     takes_reference(field.encoding.get()) && field.initial.is_none()
 }
 
-fn takes_reference(encoding: &Encoding) -> bool
+pub(crate) fn takes_reference(encoding: &Encoding) -> bool
     ensures { result ≡ spec.takes_reference encoding.now }
 {
     match encoding {

@@ -1,5 +1,6 @@
 //! What an author of profiles should know before a header is sent: formats by which nothing can ever be packed, formats that are never used in a flow that begins
-//! with a context, entries of a context that no field can have, and names that are one letter away from another.
+//! with a context, entries of a context that no field can have, names that are one letter away from another, formats by which a wrong reference is not noticed, and
+//! methods whose formats don't call alike.
 #![tactic(auto)]
 
 pub use demands::Unmet;
@@ -10,6 +11,8 @@ pub use never::first_untrue;
 pub use obstacle::{Obstacle, obstacle_of};
 pub use paths::unknown_paths;
 pub use spelled::{Misspelled, misspelled_names};
+pub use unlike::{UnlikeCall, unlike_calls};
+pub use unnoticed::{Unnoticed, unnoticed_formats};
 
 pub mod demands;
 pub mod formats;
@@ -25,3 +28,5 @@ pub mod sites;
 pub mod spelled;
 pub mod undefined;
 mod unfit;
+pub mod unlike;
+pub mod unnoticed;

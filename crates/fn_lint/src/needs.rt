@@ -48,7 +48,7 @@ pub fn needing_formats(
 }
 
 /// Which formats of each method have an obstacle.
-fn dead_flags(alloc: Global, profile: &Profile) -> Result<Items<Items<bool>>, AllocError>
+pub(crate) fn dead_flags(alloc: Global, profile: &Profile) -> Result<Items<Items<bool>>, AllocError>
     ensures { IfOk result (spec.TellsObstacles profile.now) }
 {
     let judged = Judged::of(alloc, profile)?;

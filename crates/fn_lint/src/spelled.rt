@@ -90,7 +90,7 @@ fn add_of_field(
     }
 }
 
-fn is_local(part: Part) -> bool
+pub(crate) fn is_local(part: Part) -> bool
     ensures { result ≡ spec.is_local part }
 {
     match part {

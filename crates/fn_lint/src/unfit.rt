@@ -73,7 +73,7 @@ fn splits_octets_at(fields: &[Field], sizes: &FormatSizes, index: usize) -> bool
 }
 
 /// The arguments of a `crc`.
-fn crc_in(encoding: &Encoding) -> Option<&CrcArguments>
+pub(crate) fn crc_in(encoding: &Encoding) -> Option<&CrcArguments>
     ensures { option_copied result ≡ spec.crc_in encoding.now }
 {
     match encoding {

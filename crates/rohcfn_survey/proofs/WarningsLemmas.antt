@@ -14,24 +14,30 @@ use Rattle.fn_prover.specs.Proved.{IsProved, IsUnproved}
 use Rattle.fn_prover.specs.declared.unproved.Unproved.{Unproved}
 use Rattle.fn_lint.specs.declared.needs.Needing.{Needing}
 use Rattle.fn_lint.specs.declared.spelled.Misspelled.{Misspelled}
+use Rattle.fn_lint.specs.declared.unlike.UnlikeCall.{UnlikeCall}
+use Rattle.fn_lint.specs.declared.unnoticed.Unnoticed.{Unnoticed}
 use Rattle.fn_lint.specs.Needs.{AreNeeding}
 use Rattle.fn_lint.specs.Paths.{AreThose, IsUnknown}
 use Rattle.fn_lint.specs.Spelled.{misspelled_names}
+use Rattle.fn_lint.specs.Unlike.{unlike_calls}
+use Rattle.fn_lint.specs.Unnoticed.{AreUnnoticed}
 use Rattle.rohcfn_survey.specs.Warnings.{AreCandidates, AreCountedLines, AreWarnings, counted, is_of_profile, unproved, warning_lines}
 
 -- the lines of what was found are warnings
-pub all_warned : (octets : List ℕ) (p : Resolved) (methods : List Method) (paths : List (List ℕ)) (needing : List Needing) (misspelled : List Misspelled) (candidates given : List ℕ) (unknown : List (List ℕ))
-    (r : Result (String Global) AllocError) → methods ≡ p.methods → AreNeeding p paths needing → misspelled ≡ misspelled_names methods → AreCandidates octets p candidates → given ≡ candidates → AreThose (IsUnknown p) paths unknown
-    → IfOk r (λ text. string_bytes text ≡ warning_lines octets methods needing misspelled given unknown) → IfOk r (λ text. AreWarnings octets p paths (string_bytes text))
-all_warned octets p methods paths needing misspelled candidates given unknown (Err e) ms needed spelled are same those h = tt
-all_warned octets p methods paths needing misspelled candidates given unknown (Ok text) ms needed spelled are same those h = record {
+pub all_warned : (octets : List ℕ) (p : Resolved) (methods : List Method) (paths : List (List ℕ)) (needing : List Needing) (misspelled : List Misspelled) (unnoticed : List Unnoticed) (unlike : List UnlikeCall) (candidates given : List ℕ) (unknown : List (List ℕ))
+    (r : Result (String Global) AllocError) → methods ≡ p.methods → AreNeeding p paths needing → misspelled ≡ misspelled_names methods → AreUnnoticed p unnoticed → unlike ≡ unlike_calls methods → AreCandidates octets p candidates → given ≡ candidates → AreThose (IsUnknown p) paths unknown
+    → IfOk r (λ text. string_bytes text ≡ warning_lines octets methods needing misspelled unnoticed unlike given unknown) → IfOk r (λ text. AreWarnings octets p paths (string_bytes text))
+all_warned octets p methods paths needing misspelled unnoticed unlike candidates given unknown (Err e) ms needed spelled passed alike are same those h = tt
+all_warned octets p methods paths needing misspelled unnoticed unlike candidates given unknown (Ok text) ms needed spelled passed alike are same those h = record {
   needing = needing;
   are_needing = needed;
+  unnoticed = unnoticed;
+  are_unnoticed = passed;
   candidates = candidates;
   are_candidates = are;
   unknown = unknown;
   are_unknown = those;
-  text_is = h ∙ (λ i. warning_lines octets (ms i) needing ((spelled ∙ ap misspelled_names ms) i) (same i) unknown);
+  text_is = h ∙ (λ i. warning_lines octets (ms i) needing ((spelled ∙ ap misspelled_names ms) i) unnoticed ((alike ∙ ap unlike_calls ms) i) (same i) unknown);
 }
 
 -- the lines on candidates, by a certificate that is made, and where none is

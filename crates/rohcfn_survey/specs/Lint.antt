@@ -5,7 +5,6 @@ use Rattle.fn_source.specs.Places.{line_of, column_of}
 use Rattle.fn_context.specs.Entries.{Entries}
 use Rattle.fn_profile.specs.Resolved.{Resolved}
 use Rattle.fn_lint.specs.declared.formats.DeadFormat.{DeadFormat}
-use Rattle.fn_lint.specs.declared.obstacle.Obstacle.TheVariants as obstacle
 use Rattle.fn_lint.specs.Listing.{AreDead}
 use Rattle.rohcfn_input.specs.declared.status.Answer.{Answer}
 use Rattle.rohcfn_input.specs.declared.status.Status.TheVariants as status

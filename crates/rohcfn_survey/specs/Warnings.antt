@@ -12,9 +12,13 @@ use Rattle.fn_prover.specs.declared.unproved.Unproved.{Unproved}
 use Rattle.fn_prover.specs.declared.unproved.Unproved.TheVariants.{OutOfMemory}
 use Rattle.fn_lint.specs.declared.needs.Needing.{Needing}
 use Rattle.fn_lint.specs.declared.spelled.Misspelled.{Misspelled}
+use Rattle.fn_lint.specs.declared.unlike.UnlikeCall.{UnlikeCall}
+use Rattle.fn_lint.specs.declared.unnoticed.Unnoticed.{Unnoticed}
 use Rattle.fn_lint.specs.Needs.{AreNeeding}
 use Rattle.fn_lint.specs.Paths.{AreThose, IsUnknown}
 use Rattle.fn_lint.specs.Spelled.{misspelled_names}
+use Rattle.fn_lint.specs.Unlike.{unlike_calls}
+use Rattle.fn_lint.specs.Unnoticed.{AreUnnoticed}
 use Rattle.rohcfn_names.specs.declared.candidates.Counts.{Counts}
 use Rattle.rohcfn_names.specs.declared.candidates.Factor.{Factor}
 use Rattle.rohcfn_names.specs.Candidates.{AreCounted, factors_of, format_count, method_count, write_steps}
@@ -55,6 +59,26 @@ misspelled_line octets methods w =
 
 abbrev pub misspelled_lines : List ℕ → List Method → List Misspelled → List ℕ
 misspelled_lines octets methods found = flat_map (misspelled_line octets methods) found
+
+-- a format by which a wrong reference is not noticed
+abbrev pub unnoticed_words : List ℕ → List ℕ
+unnoticed_words head = head ++ codes ": a wrong reference is not noticed\n"
+
+abbrev pub unnoticed_line : List ℕ → List Method → Unnoticed → List ℕ
+unnoticed_line octets methods w = unnoticed_words (format_head octets methods w.method w.format)
+
+abbrev pub unnoticed_lines : List ℕ → List Method → List Unnoticed → List ℕ
+unnoticed_lines octets methods found = flat_map (unnoticed_line octets methods) found
+
+-- a method whose formats don't call alike
+abbrev pub unlike_words : List ℕ → List ℕ → List ℕ → List ℕ
+unlike_words head name callee = head ++ codes ": " ++ name ++ codes " calls " ++ callee ++ codes " in one format and not in another: losses multiply what a receiver may hold\n"
+
+abbrev pub unlike_line : List ℕ → List Method → UnlikeCall → List ℕ
+unlike_line octets methods w = unlike_words (method_head octets methods w.method) (field_name methods w.method w.format w.field) (method_name methods w.callee)
+
+abbrev pub unlike_lines : List ℕ → List Method → List UnlikeCall → List ℕ
+unlike_lines octets methods found = flat_map (unlike_line octets methods) found
 
 -- a path of the context at which no format has a field
 abbrev pub unknown_line : List ℕ → List ℕ
@@ -127,17 +151,20 @@ pub data AreCandidates (octets : List ℕ) (p : Resolved) : List ℕ → Type 0 
 
 -- ---- all of them
 
-abbrev pub warning_lines : List ℕ → List Method → List Needing → List Misspelled → List ℕ → List (List ℕ) → List ℕ
-warning_lines octets methods needing misspelled candidates unknown =
-    needing_lines octets methods needing ++ misspelled_lines octets methods misspelled ++ candidates ++ unknown_lines unknown
+abbrev pub warning_lines : List ℕ → List Method → List Needing → List Misspelled → List Unnoticed → List UnlikeCall → List ℕ → List (List ℕ) → List ℕ
+warning_lines octets methods needing misspelled unnoticed unlike candidates unknown =
+    needing_lines octets methods needing ++ misspelled_lines octets methods misspelled ++ unnoticed_lines octets methods unnoticed ++ unlike_lines octets methods unlike ++ candidates
+    ++ unknown_lines unknown
 
--- The text is a line for each format that is never used in a flow that begins with entries at these paths, for each name that may be misspelled, for methods with too many
--- candidates, and for each of the paths at which no format has a field.
+-- The text is a line for each format that is never used in a flow that begins with entries at these paths, for each name that may be misspelled, for formats by which a wrong
+-- reference is not noticed, for methods whose formats don't call alike, for methods with too many candidates, and for each of the paths at which no format has a field.
 pub record AreWarnings (octets : List ℕ) (p : Resolved) (paths : List (List ℕ)) (text : List ℕ) : Type 0 where
   pub needing : List Needing
   pub are_needing : AreNeeding p paths needing
+  pub unnoticed : List Unnoticed
+  pub are_unnoticed : AreUnnoticed p unnoticed
   pub candidates : List ℕ
   pub are_candidates : AreCandidates octets p candidates
   pub unknown : List (List ℕ)
   pub are_unknown : AreThose (IsUnknown p) paths unknown
-  pub text_is : text ≡ warning_lines octets p.methods needing (misspelled_names p.methods) candidates unknown
+  pub text_is : text ≡ warning_lines octets p.methods needing (misspelled_names p.methods) unnoticed (unlike_calls p.methods) candidates unknown

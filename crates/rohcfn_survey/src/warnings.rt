@@ -6,7 +6,10 @@ ghost use Rattle.rohcfn_survey.specs.Warnings as spec;
 
 use fn_cert::{CANDIDATE_LIMIT, Certificate, MethodPlans, Version};
 use fn_context::Context;
-use fn_lint::{Misspelled, Needing, misspelled_names, needing_formats, unknown_paths};
+use fn_lint::{
+    Misspelled, Needing, UnlikeCall, Unnoticed, misspelled_names, needing_formats, unknown_paths,
+    unlike_calls, unnoticed_formats,
+};
 use fn_normal::{Format, Method};
 use fn_profile::Profile;
 use fn_prover::{Unproved, prove};
@@ -18,8 +21,9 @@ use rohcfn_names::names::{field_name, format_name, method_name, method_place};
 use sqlite_items::Items;
 use std::alloc::{AllocError, Global};
 
-/// A line for each format that needs what can't be in the context, for each name that may be misspelled, for each method with too many candidates and below it for each
-/// of its formats, and for each path of the given context that no format has.
+/// A line for each format that needs what can't be in the context, for each name that may be misspelled, for formats by which a wrong reference is not noticed, for
+/// each method whose formats don't call alike, for each method with too many candidates and below it for each of its formats, and for each path of the given
+/// context that no format has.
 pub(crate) fn warnings(
     alloc: Global,
     octets: &[u8],
@@ -32,6 +36,8 @@ pub(crate) fn warnings(
     let given = paths_of(alloc, context)?;
     let needing = needing_formats(alloc, profile, given.as_slice())?;
     let misspelled = misspelled_names(alloc, methods)?;
+    let unnoticed = unnoticed_formats(alloc, profile)?;
+    let unlike = unlike_calls(alloc, methods)?;
     let candidates = candidate_lines(alloc, octets, profile)?;
     let unknown = unknown_paths(alloc, profile, given.as_slice())?;
     all_lines(
@@ -40,6 +46,8 @@ pub(crate) fn warnings(
         methods,
         needing.as_slice(),
         misspelled.as_slice(),
+        unnoticed.as_slice(),
+        unlike.as_slice(),
         candidates.as_str(),
         unknown.as_slice(),
     )
@@ -51,14 +59,18 @@ fn all_lines(
     methods: &[Method],
     needing: &[Needing],
     misspelled: &[Misspelled],
+    unnoticed: &[Unnoticed],
+    unlike: &[UnlikeCall],
     candidates: &str,
     unknown: &[&str],
 ) -> Result<String, AllocError>
-    ensures { IfOk result (λ text. string_bytes text ≡ spec.warning_lines octets.now methods.now needing.now misspelled.now candidates.now (map (λ p. p.now) unknown.now)) }
+    ensures { IfOk result (λ text. string_bytes text ≡ spec.warning_lines octets.now methods.now needing.now misspelled.now unnoticed.now unlike.now candidates.now (map (λ p. p.now) unknown.now)) }
 {
     let mut text = String::new(alloc);
     push_all_needing(alloc, &mut text, octets, methods, needing)?;
     push_all_misspelled(alloc, &mut text, octets, methods, misspelled)?;
+    push_all_unnoticed(alloc, &mut text, octets, methods, unnoticed)?;
+    push_all_unlike(alloc, &mut text, octets, methods, unlike)?;
     text.push_str(candidates)?;
     push_all_unknown(alloc, &mut text, unknown)?;
     Ok(text)
@@ -208,6 +220,83 @@ fn misspelled_words(
 {
     format!(in alloc;
         "{head}: {name} is listed here alone, and {meant} is a field of the header: is it meant?\n"
+    )
+}
+
+fn push_all_unnoticed(
+    alloc: Global,
+    text: &mut String,
+    octets: &[u8],
+    methods: &[Method],
+    found: &[Unnoticed],
+) -> Result<(), AllocError>
+    ensures { OnOk result (string_bytes text.new ≡ string_bytes text.old ++ spec.unnoticed_lines octets.now methods.now found.now) }
+{
+    for format in found {
+        push_unnoticed(alloc, text, octets, methods, *format)?;
+    }
+    Ok(())
+}
+
+fn push_unnoticed(
+    alloc: Global,
+    text: &mut String,
+    octets: &[u8],
+    methods: &[Method],
+    found: Unnoticed,
+) -> Result<(), AllocError>
+    ensures { OnOk result (string_bytes text.new ≡ string_bytes text.old ++ spec.unnoticed_line octets.now methods.now found) }
+{
+    let head = format_head(alloc, octets, methods, found.method, found.format)?;
+    let line = unnoticed_words(alloc, head.as_str())?;
+    text.push_str(line.as_str())
+}
+
+fn unnoticed_words(alloc: Global, head: &str) -> Result<String, AllocError>
+    ensures { IfOk result (λ text. string_bytes text ≡ spec.unnoticed_words head.now) }
+{
+    format!(in alloc; "{head}: a wrong reference is not noticed\n")
+}
+
+fn push_all_unlike(
+    alloc: Global,
+    text: &mut String,
+    octets: &[u8],
+    methods: &[Method],
+    found: &[UnlikeCall],
+) -> Result<(), AllocError>
+    ensures { OnOk result (string_bytes text.new ≡ string_bytes text.old ++ spec.unlike_lines octets.now methods.now found.now) }
+{
+    for call in found {
+        push_unlike(alloc, text, octets, methods, *call)?;
+    }
+    Ok(())
+}
+
+fn push_unlike(
+    alloc: Global,
+    text: &mut String,
+    octets: &[u8],
+    methods: &[Method],
+    call: UnlikeCall,
+) -> Result<(), AllocError>
+    ensures { OnOk result (string_bytes text.new ≡ string_bytes text.old ++ spec.unlike_line octets.now methods.now call) }
+{
+    let head = method_head(alloc, octets, methods, call.method)?;
+    let line = unlike_words(
+        alloc,
+        head.as_str(),
+        field_name(methods, call.method, call.format, call.field),
+        method_name(methods, call.callee),
+    )?;
+    text.push_str(line.as_str())
+}
+
+fn unlike_words(alloc: Global, head: &str, name: &str, callee: &str) -> Result<String, AllocError>
+    ensures { IfOk result (λ text. string_bytes text ≡ spec.unlike_words head.now name.now callee.now) }
+{
+    format!(in alloc;
+        "{head}: {name} calls {callee} in one format and not in another: losses multiply what a receiver may hold\n"
     )
 }
 
