@@ -1,8 +1,6 @@
 -- What is said of senders, their packets and their refusals.
-use Rattle.std.proofs.Common.{◌≡◌, ◌∙◌, ap, refl, sym, subst, ℕ, List, ◌++◌, codes, decimal}
-use Rattle.std.specs.Prelude.{Result, Ok, Err, OnOk, IfErr, IfOk}
 use Rattle.fn_accepted.specs.Accepted.{Accepting}
-use Rattle.fn_context.specs.Entries.{Entries, bits_at}
+use Rattle.fn_context.specs.Entries.{bits_at}
 use Rattle.fn_engine.specs.declared.search.Packed.{Packed}
 use Rattle.fn_filling.specs.declared.filling.Item.{Item}
 use Rattle.fn_loss.specs.Judging.{IsSent}

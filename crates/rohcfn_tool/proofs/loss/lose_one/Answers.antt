@@ -1,4 +1,4 @@
-use Rattle.std.proofs.Common.{◌≡◌, ◌∙◌, ap, subst, ◌∷◌, [], ◌++◌}
+use Rattle.std.proofs.Common.{◌∙◌, ap, subst, ◌∷◌, [], ◌++◌}
 use Rattle.fn_loss.specs.Judging.{AddsAll}
 use Rattle.rohcfn_tool.specs.Loss.{held_after}
 use Rattle.rohcfn_tool.proofs.SenderLemmas.{sent_anywhere}
