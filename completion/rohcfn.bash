@@ -1,4 +1,4 @@
-# Completion of rohcfn in bash: `source` this file. Made by bin/manual.py from bin/help.txt; change that, and make this anew.
+# Completion of rohcfn in bash: `source` this file. Made by front/manual.py from front/help.txt; change that, and make this anew.
 
 # Offers the lines of standard input.
 _rohcfn_offer() {
