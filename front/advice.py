@@ -1,4 +1,5 @@
 """What helps with a fault of a profile: what might stand at its place, a name that is nearly the same, a construct of RFC 4997 that is left out."""
+import functools
 import os
 import re
 
@@ -7,6 +8,7 @@ from . import grammar, notation
 PAGES = os.path.join(os.path.dirname(os.path.dirname(os.path.realpath(__file__))), "docs")
 ARGUMENTS = {"irregular": 1, "static": 0, "lsb": 2, "uncompressed_value": 2, "compressed_value": 2, "crc": 5}
 CRC = {"crc3": "3, 0x06, 0x07", "crc7": "7, 0x79, 0x7f", "crc8": "8, 0xe0, 0xff"}
+GLANCE = 10_000  # characters beyond a fault
 SHORTEST = 3  # letters of a name that may be a slip for another
 PAGE_OF = {"FORMATS.md": "E01 E02 E03 E05 E10 E12", "LIMITS.md": "E04 E11 E15 E34"}  # else it is NOTATION.md
 CHARACTERS = {
@@ -20,13 +22,23 @@ CHARACTERS = {
 
 
 class Fault:
-    """A fault of a text, with the tokens around it."""
+    """A fault of a text, with the tokens around it. Where the text can't be read on, no more tokens are taken than a glance beyond the fault needs."""
 
     def __init__(self, text, start, code, words):
         self.text, self.start, self.code, self.words = text, start, code, words
-        self.tokens = notation.tokens_of(text)
-        self.place = next((at for at, it in enumerate(self.tokens) if it.start >= start), len(self.tokens))
-        self.profile = notation.Profile(text)
+
+    @functools.cached_property
+    def tokens(self):
+        return notation.tokens_of(self.text, self.start + GLANCE if self.code < "E20" else None)
+
+    @functools.cached_property
+    def place(self):
+        """The number of the token at the fault."""
+        return next((at for at, it in enumerate(self.tokens) if it.start >= self.start), len(self.tokens))
+
+    @functools.cached_property
+    def profile(self):
+        return notation.Profile(self.text)
 
     def token(self, away=0):
         """The text of the token at the fault, or so many after it."""
@@ -35,9 +47,8 @@ class Fault:
 
     def width(self):
         """How many characters of the fault's line the token at the fault takes."""
-        if self.place < len(self.tokens) and self.tokens[self.place].start == self.start:
-            return len(self.token())
-        return 1
+        found = notation.TOKEN.match(self.text, self.start)
+        return len(found.group()) if found and found.lastgroup != "space" else 1
 
 
 def either(words):
@@ -67,7 +78,7 @@ def of_character(fault):
 
 
 def of_token(fault):
-    stopped = grammar.stops(fault.tokens)
+    stopped = grammar.stops(fault.tokens, fault.place)
     if stopped is None or stopped[0] != fault.place:
         return
     if fault.token() == "^":
@@ -127,7 +138,8 @@ def of_sections(fault):
     method = next((it for it in fault.profile.methods if it.name == fault.token()), None)
     if method is None:
         return
-    words, names = [it.text for it in notation.heads(method.body)], notation.format_names(method.body)
+    heads = notation.heads(method.body)
+    words, names = [it for it, _ in heads], [name for it, name in heads if it == "COMPRESSED"]
     for word in ("UNCOMPRESSED", "COMPRESSED"):
         if word not in words:
             yield "%s has no %s" % (method.name, word)

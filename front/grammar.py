@@ -14,8 +14,8 @@ class Stop(Exception):
 class Reader:
     """Goes over tokens, and keeps what else might stand at the place that it has reached."""
 
-    def __init__(self, tokens):
-        self.tokens, self.place, self.expected = tokens, 0, []
+    def __init__(self, tokens, place=0):
+        self.tokens, self.place, self.expected = tokens, place, []
 
     def sees(self, texts, told=None):
         """Whether the next token is one of these."""
@@ -49,6 +49,16 @@ class Reader:
             raise Stop
         self.step()
 
+    def rest(self, depth, word):
+        """Reads on from where so many brackets `{` are open, in a section of this word."""
+        if depth > 1:
+            self.inside(self.bound if word in ("INITIAL", "DEFAULT") else self.item)
+        if depth > 0:
+            self.sections()
+        elif self.place and self.tokens[self.place - 1].text == "}":
+            self.may((";",))
+        self.file()
+
     def file(self):
         while self.sees_kind("name", "a constant or a method"):
             self.step()
@@ -68,6 +78,9 @@ class Reader:
                     self.must_kind("name", "a name")
                 self.must((")",))
         self.must(("{",))
+        self.sections()
+
+    def sections(self):
         while not self.may(("}",)):
             self.section()
         self.may((";",))
@@ -85,6 +98,9 @@ class Reader:
 
     def statements(self, one):
         self.must(("{",))
+        self.inside(one)
+
+    def inside(self, one):
         while not self.may(("}",)):
             one()
 
@@ -155,25 +171,38 @@ class Reader:
             self.must_kind("number", EXPRESSION)
 
 
-def stops(tokens):
-    """The place at which tokens can't go on, and what might stand there; None where all is read."""
-    reader = Reader(tokens)
+def begin(tokens, place):
+    """Where the last definition, section or statement before a place begins, up to which all can be read: its place, how many brackets `{` stand round it, and
+    the word of the section."""
+    found, depth, word = (0, 0, None), 0, None
+    for at in range(place):
+        text = tokens[at].text
+        if depth == 1 and text in notation.SECTIONS:
+            word = text
+        depth += (text == "{") - (text == "}")
+        if text in ("{", "}", ";"):
+            found = at + 1, depth, word
+    return found
+
+
+def stops(tokens, place):
+    """The place at which tokens can't go on, and what might stand there; None where all is read. Up to a place before which they can it isn't looked closely."""
+    start, depth, word = begin(tokens, place)
+    reader = Reader(tokens, start)
     try:
-        reader.file()
+        reader.rest(depth, word)
     except (Stop, RecursionError):
         return reader.place, reader.expected
     return None
 
 
-def reach(tokens):
-    """How far tokens can be read."""
-    stopped = stops(tokens)
-    return len(tokens) + 1 if stopped is None else stopped[0]
-
-
 def missing(tokens, place):
     """The mark whose want would explain best that tokens stop at a place: with it most of the rest is read, and more than itself. None where none is."""
+    start = begin(tokens, place)[0]
+
     def reached(mark):
-        return reach([*tokens[:place], notation.Token("mark", mark, 0), *tokens[place:]])
-    best = max(MENDING, key=reached)
-    return best if reached(best) > place + (2 if place < len(tokens) else 1) else None
+        stopped = stops([*tokens[:place], notation.Token("mark", mark, 0), *tokens[place:]], start)
+        return len(tokens) + 2 if stopped is None else stopped[0]
+    reaches = list(map(reached, MENDING))
+    best = max(reaches)
+    return MENDING[reaches.index(best)] if best > place + (2 if place < len(tokens) else 1) else None

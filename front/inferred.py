@@ -7,10 +7,11 @@
 import functools
 import math
 
-from .captures import header, number
+from .captures import PLACES, number, part
 
 SEQUENTIAL, SWAPPED, RANDOM, ZERO = range(4)
 STEP = 256  # identifications that go on by less than this count
+WIDEST = 65_536  # bits of a text of bits
 
 
 class NotInferred(Exception):
@@ -33,21 +34,21 @@ def behaviour(numbers):
 
 def stride(times):
     """The greatest common divisor of the steps, forward or back, of a flow's timestamps."""
-    steps = [(after - before) % 2**32 for before, after in zip(times, times[1:])]
-    return functools.reduce(math.gcd, [min(it, 2**32 - it) for it in steps], 0) or 1
+    steps = ((after - before) % 2**32 for before, after in zip(times, times[1:]))
+    return functools.reduce(math.gcd, (min(it, 2**32 - it) for it in steps), 0) or 1
 
 
 def each(flow, layer, start, end):
     """The number of some octets of a layer in each packet of a flow."""
-    if any(layer not in it.layers for it in flow):
+    if any(layer not in PLACES[it.layers] for it in flow):
         raise NotInferred("the packets have no %s" % layer)
-    return [number(it.layers[layer], start, end) for it in flow]
+    return [part(it, layer, start, end) for it in flow]
 
 
-def sequence(flow):
-    """The master sequence numbers of a flow."""
+def sequence(kind, flow):
+    """The master sequence numbers of a flow, of which the layers of a kind are known."""
     for layer, start, end in (("rtp", 2, 4), ("esp", 4, 8)):
-        if all(layer in it.layers for it in flow):
+        if layer in kind:
             return each(flow, layer, start, end)
     return list(range(len(flow)))
 
@@ -55,7 +56,7 @@ def sequence(flow):
 def values(name, kind, flow):
     """The values of an asked field for the packets of a flow."""
     if name == "msn":
-        return sequence([it._replace(layers={layer: it.layers[layer] for layer in kind}) for it in flow])
+        return sequence(kind, flow)
     if name in ("ip_id_behaviour", "ip_id_behavior"):
         return [behaviour(each(flow, "ipv4", 4, 6))] * len(flow)
     if name == "udp_checksum_used":
@@ -71,21 +72,32 @@ def text(bits, value):
     return "%d:%s" % (bits, "%0*x" % (2 * octets, value << 8 * octets - bits) if octets else "")
 
 
-def asked_texts(field, kind, flow):
-    """The words of an asked field in the items of a flow."""
+def octets_of(header_bits, asked):
+    """The octets of the line of an item; of asked fields of lengths that can't be it says so."""
+    for field in asked:
+        if not 0 <= field.bits <= WIDEST:
+            raise NotInferred("--pcap can't infer %s: it has %d bits, and no item says so many" % (field.name, field.bits))
+    lengths = [len(text(header_bits, 0)), *[len(field.name) + 2 + len(text(field.bits, 0)) for field in asked]]
+    return sum(lengths) + 1
+
+
+def asked_values(field, kind, flow):
+    """The values of an asked field in the items of a flow."""
     try:
         found = values(field.name, kind, flow)
     except NotInferred as why:
         raise NotInferred("--pcap can't infer %s: %s" % (field.name, why)) from None
     if field.name == "msn":
-        found = [it % 2**max(field.bits, 0) for it in found]
-    if max(found) >= 2**max(field.bits, 0):
+        return [it % 2**field.bits for it in found]
+    if max(found) >= 2**field.bits:
         raise NotInferred("--pcap infers %d for %s, which has %d bits" % (max(found), field.name, field.bits))
-    return ["%s=%s" % (field.name, text(field.bits, it)) for it in found]
+    return found
 
 
-def items(kind, asked, flow):
-    """The items of a flow's packets."""
-    headers = [header(kind, it) for it in flow]
-    columns = [[text(8 * len(it), number(it, 0, len(it))) for it in headers], *[asked_texts(it, kind, flow) for it in asked]]
-    return [" ".join(row) for row in zip(*columns)]
+def items(cut, asked, flow):
+    """The items of a flow's packets, one after the other."""
+    columns = [asked_values(it, cut.kind, flow) for it in asked]
+    for place, found in enumerate(flow):
+        octets = cut.header(found)
+        words = ["%s=%s" % (field.name, text(field.bits, column[place])) for field, column in zip(asked, columns)]
+        yield " ".join([text(8 * len(octets), number(octets, 0, len(octets))), *words])

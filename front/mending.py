@@ -1,4 +1,6 @@
 """Copies of a profile's text in which faults are mended, so that the program says what comes after them. What is put in has no fault itself."""
+import array
+
 from . import notation
 
 SAFE = ("E20", "E21", "E22", "E23", "E24", "E25", "E26")
@@ -9,7 +11,7 @@ class Copy:
     """A text that changes, with the offset in the first text for each of its characters."""
 
     def __init__(self, text):
-        self.text, self.origins = text, list(range(len(text) + 1))
+        self.text, self.origins = text, array.array("l", range(len(text) + 1))
 
     def origin(self, start):
         """The offset in the first text of an offset in this one."""
@@ -17,7 +19,7 @@ class Copy:
 
     def replace(self, start, end, new):
         self.text = self.text[:start] + new + self.text[end:]
-        self.origins[start:end] = [self.origins[start]] * len(new)
+        self.origins[start:end] = array.array("l", [self.origins[start]] * len(new))
 
     def mend(self, fault):
         """Mends a fault of the text, where that is safe; whether it is done."""

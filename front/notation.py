@@ -3,12 +3,13 @@ import collections
 import operator
 import re
 
-TOKEN = re.compile(r"(?P<space>[ \t\r\n\f]+|//[^\n]*|/\*.*?\*/)|(?P<name>[A-Za-z]\w*)|(?P<number>0x[0-9a-fA-F]+|0b[01]+|[0-9]+)|(?P<bits>'[01]*')"
+TOKEN = re.compile(r"(?P<space>[ \t\r\n\f]+|//[^\n]*|/\*.*?(?:\*/|\Z))|(?P<name>[A-Za-z]\w*)|(?P<number>0x[0-9a-fA-F]+|0b[01]+|[0-9]+)|(?P<bits>'[01]*')"
                    r"|(?P<mark>=:=|\|\||&&|[=!<>]=|[{}()\[\],;=.<>+*/%^!-])|(?P<other>.)", re.DOTALL | re.ASCII)
 SECTIONS = ("UNCOMPRESSED", "CONTROL", "INITIAL", "DEFAULT", "COMPRESSED")
 RESERVED = (*SECTIONS, "ENFORCE", "THIS", "VARIABLE", "UVALUE", "ULENGTH", "CVALUE", "CLENGTH", "true", "false")
 LIBRARY = ("uncompressed_value", "compressed_value", "irregular", "static", "lsb", "crc")
-GREATEST_EXPONENT = 127
+GREATEST, GREATEST_EXPONENT = 2**120, 127  # of a value, on either side of 0, and of an exponent
+DIGITS = 128  # that a number without leading zeros may have
 COMPUTED = {"+": operator.add, "-": operator.sub, "*": operator.mul, "/": operator.floordiv, "%": operator.mod}
 OPEN, CLOSED = "([{", ")]}"
 
@@ -17,9 +18,10 @@ Method = collections.namedtuple("Method", "name parameters body")
 Field = collections.namedtuple("Field", "name bits")
 
 
-def tokens_of(text):
-    """The tokens of a text, comments and blanks left out. A character with which none begins is one of the kind `other`."""
-    return [Token(it.lastgroup, it.group(), it.start()) for it in TOKEN.finditer(text) if it.lastgroup != "space"]
+def tokens_of(text, end=None):
+    """The tokens of a text, or of its front, comments and blanks left out. A character with which none begins is one of the kind `other`."""
+    found = TOKEN.finditer(text) if end is None else TOKEN.finditer(text, 0, end)
+    return [Token(it.lastgroup, it.group(), it.start()) for it in found if it.lastgroup != "space"]
 
 
 def after_brackets(tokens, place):
@@ -60,8 +62,40 @@ def methods_and_constants(tokens):
     return methods, constants
 
 
+def top_of(text):
+    """The name of the last method of a text, or None: that of methods_and_constants, with no token kept."""
+    last, name, state, depth = None, None, "begin", 0
+    for it in TOKEN.finditer(text):
+        kind, word = it.lastgroup, it.group()
+        if kind == "space":
+            continue
+        if state == "brackets" or state == "body":
+            depth += (word in OPEN) - (word in CLOSED)
+            state = state if depth else "headed" if state == "brackets" else "begin"
+        elif state == "constant":
+            state = "begin" if word == ";" else state
+        elif state == "named" and word == "=":
+            state = "constant"
+        elif state == "named" and word == "(":
+            state, depth = "brackets", 1
+        elif state in ("named", "headed") and word == "{":
+            last, state, depth = name, "body", 1
+        else:
+            name, state = (word, "named") if kind == "name" else (None, "begin")
+    return last
+
+
+def value_of(text):
+    """The number of a text of digits, where it isn't above all that may be."""
+    base = {"0x": 16, "0b": 2}.get(text[:2], 10)
+    digits = (text if base == 10 else text[2:]).lstrip("0")
+    if len(digits) > DIGITS:
+        raise ValueError("too great")
+    return int(digits or "0", base)
+
+
 class Number:
-    """The number of an expression of numbers and constants, by the grammar's levels."""
+    """The number of an expression of numbers and constants, by the grammar's levels. No value on the way may be above the greatest."""
 
     LEVELS = ("+-", "*/%")
 
@@ -80,8 +114,12 @@ class Number:
             return self.power()
         value = self.level(depth + 1)
         while mark := self.next_is(tuple(self.LEVELS[depth])):
-            other = self.level(depth + 1)
-            value = COMPUTED[mark](value, other)
+            value = self.checked(COMPUTED[mark](value, self.level(depth + 1)))
+        return value
+
+    def checked(self, value):
+        if abs(value) > GREATEST:
+            raise ValueError("too great")
         return value
 
     def power(self):
@@ -91,7 +129,7 @@ class Number:
         exponent = self.primary()
         if not 0 <= exponent <= GREATEST_EXPONENT:
             raise ValueError("no such power")
-        return base ** exponent
+        return self.checked(base ** exponent)
 
     def primary(self):
         sign = -1 if self.next_is(("-",)) else 1
@@ -102,7 +140,7 @@ class Number:
             if not self.next_is((")",)):
                 raise ValueError("no bracket closes")
             return value
-        return sign * (int(token.text, 0 if token.text[:2] in ("0x", "0b") else 10) if token.kind == "number" else self.constants[token.text])
+        return sign * (self.checked(value_of(token.text)) if token.kind == "number" else self.constants[token.text])
 
     def whole(self):
         value = self.level(0)
@@ -133,25 +171,26 @@ def split(tokens, mark):
 
 def in_brackets(tokens):
     """The tokens in round brackets that stand round all of them, without these."""
-    while tokens and tokens[0].text == "(" and after_brackets(tokens, 0) == len(tokens):
-        tokens = tokens[1:-1]
-    return tokens
+    closes, waiting = {}, []
+    for at, it in enumerate(tokens):
+        if it.text in OPEN:
+            waiting.append(at)
+        elif it.text in CLOSED and waiting:
+            closes[waiting.pop()] = at
+    first, last = 0, len(tokens)
+    while first < last and tokens[first].text == "(" and closes.get(first) == last - 1:
+        first, last = first + 1, last - 1
+    return tokens[first:last]
 
 
 def heads(body):
-    """The words with which the sections of a method begin."""
+    """The word with which each section of a method begins, and the name after it, or None."""
     found, place = [], 0
     while place < len(body):
         if body[place].text in SECTIONS:
-            found.append(body[place])
+            found.append((body[place].text, next((it.text for it in body[place + 1:place + 2] if it.kind == "name"), None)))
         place = after_brackets(body, after_mark(body, place, "{") - 1)
     return found
-
-
-def format_names(body):
-    """The name of each COMPRESSED section of a method, or None."""
-    after = [body[body.index(it) + 1:][:1] for it in heads(body) if it.text == "COMPRESSED"]
-    return [it[0].text if it and it[0].kind == "name" else None for it in after]
 
 
 def statements(body, word):
@@ -170,7 +209,7 @@ def bracket(statement):
     """The tokens in the bracket at the end of a statement, or None."""
     if not statement or statement[-1].text != "]":
         return None
-    begin = max(at for at, it in enumerate(statement) if it.text == "[") if any(it.text == "[" for it in statement) else None
+    begin = max((at for at, it in enumerate(statement) if it.text == "["), default=None)
     return None if begin is None else statement[begin + 1:-1]
 
 

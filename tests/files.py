@@ -249,7 +249,10 @@ def usage(place):
         subprocess.run(["git", *settings, *words], cwd=place.root, env=place.environment, check=True, stdout=subprocess.DEVNULL)
     commit = subprocess.run(["git", "rev-parse", "--short", "HEAD"], cwd=place.root, capture_output=True, check=True).stdout.decode().strip()
     seen = place.call("--version")
-    check("the commit", seen == (0, "rohcfn, commit %s, kit kit of --version\n" % commit, ""), seen)
+    check("the commit of the sources", seen == (0, "rohcfn, of a commit that isn't noted, sources of commit %s, kit kit of --version\n" % commit, ""), seen)
+    (place.root / "crates" / "rohcfn" / "out" / "rohcfn.built").write_text("%s\nabc1234\n" % ("0" * 64))
+    seen = place.call("--version")
+    check("the commit of the program", seen == (0, "rohcfn, commit abc1234, kit kit of --version\n", ""), seen)
 
 
 def capture(link, frames, order="<", magic=0xA1B2C3D4):
@@ -551,7 +554,7 @@ def all_faults(_):
                 due = "p.fn:%d:%d: E" % (line, column), ("%d | %s" % (line, lines[line - 1][cut:cut + 160])).rstrip(), len("%d | " % line) + column - 1 - cut
                 found = seen[0][:len(due[0])], seen[1].rstrip(), len(seen[2].partition("^")[0])
                 check("shown: %s: %s" % (path.name, name), found == due, seen)
-                stopped = grammar.stops(place.tokens)
+                stopped = grammar.stops(place.tokens, place.place)
                 check("stops: %s: %s" % (path.name, name), place.code != "E10" or stopped is not None and stopped[0] == place.place, stopped)
 
 
