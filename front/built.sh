@@ -1,5 +1,11 @@
-# What the program was built of, as a note beside it says. For bash; `root` is the checkout.
+# What bin/rohcfn, bin/prove and .ci/run share: their streams, and what the program was built of, as a note beside it says. `root` is the checkout.
 # shellcheck shell=bash disable=SC2154
+
+# Where a standard stream is closed, one that can't be used takes its place, so that no pipe and no file does.
+[ -e /dev/fd/0 ] || exec 0>/dev/null
+[ -e /dev/fd/1 ] || exec 1</dev/null
+[ -e /dev/fd/2 ] || exec 2</dev/null
+
 program=$root/crates/rohcfn/out/rohcfn
 note=$program.built
 

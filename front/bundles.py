@@ -64,7 +64,7 @@ def captured(order, profile, top):
             return {"events": lines(events(flows, cut, asked))}
         return {"items": lines(inferred.items(cut, asked, *[it for _, it in flows.kept.values()]))}
     except OSError as why:
-        raise parts.BadInput("%s: %s" % (shown(path), why.strerror), 3) from None
+        raise parts.unread(path, why) from None
     except captures.BadCapture as why:
         raise parts.BadInput("%s: %s" % (shown(path), why), 3) from None
     except TooLong:

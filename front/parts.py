@@ -29,10 +29,15 @@ def opened(path):
         if sys.stdin is not None:
             return sys.stdin.buffer
     except OSError as why:
-        raise BadInput("%s: %s" % (shown(path), why.strerror), 3) from None
-    except ValueError:
-        raise BadInput("%s: no file has such a name" % shown(path), 3) from None
-    raise BadInput("standard input can't be read: it is closed, or a folder", 3)
+        raise unread(path, why) from None
+    raise unread(path)
+
+
+def unread(path, why=None):
+    """What is said of a file that can't be read."""
+    if path == "-":
+        return BadInput("standard input can't be read: it is closed, or a folder", 3)
+    return BadInput("%s: %s" % (shown(path), why.strerror), 3)
 
 
 def read(path, most=BUNDLE + 1):
@@ -41,7 +46,7 @@ def read(path, most=BUNDLE + 1):
         try:
             return file.read(most)
         except OSError as why:
-            raise BadInput("%s: %s" % (shown(path), why.strerror), 3) from None
+            raise unread(path, why) from None
 
 
 def size(path):

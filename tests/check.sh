@@ -5,7 +5,7 @@
 # slow search, traces with losses, runs that are refused memory, what the program does with its words and streams, what bin/rohcfn and bin/prove do where no program stands,
 # what bin/rohcfn does with files, and the man page and completion.
 set -u
-cd "$(dirname "$0")/.."
+cd "$(dirname "$0")/.." || exit 1
 program=crates/rohcfn/out/rohcfn
 if [ ! -x "$program" ]; then
   echo "examples: no proved program stands here; bin/prove or .ci/run makes one"
@@ -46,5 +46,6 @@ done
 python3 -m tests.ends || failed=1
 python3 -m tests.first_call || failed=1
 python3 -m tests.files || failed=1
+python3 -m tests.hostile || failed=1
 python3 -m tests.manual || failed=1
 [ "$failed" -eq 0 ]
