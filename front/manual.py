@@ -1,7 +1,9 @@
-"""Makes the man page and the completion for bash and zsh from front/help.txt, and the statuses of the man page from docs/FORMATS.md. tests/manual.py compares
-what is stored with what this makes."""
+"""Makes the help from the table of words and front/prose.txt; of the help the man page and the completion for bash and zsh, and the statuses of the man page
+from docs/FORMATS.md: `python3 -m front.manual`, in the checkout. tests/manual.py compares what is stored with what this makes."""
 import pathlib
 import re
+
+from . import commands
 
 ROOT = pathlib.Path(__file__).resolve().parent.parent
 HEADING = re.compile(r"^=== (\w+)\n", re.MULTILINE)
@@ -10,7 +12,7 @@ OPTION = re.compile(r"^ +(?:(-\w), )?(--[\w-]+)(?: <?([A-Z]+)>?)?  +(\S.*)$", re
 USAGE = re.compile(r"^(?:Usage: |  bin/)(rohcfn .*[A-Z].*)$", re.MULTILINE)
 OF = re.compile(r"((?:\w+, )*\w+): (.*)")  # the commands that take an option, and what it does
 STATUS = re.compile(r"^\| (\d) \| (.*) \|$", re.MULTILINE)
-SOURCE = "Made by front/manual.py from front/help.txt; change that, and make this anew."
+SOURCE = "Made by front/manual.py from front/commands.txt; change that, and make this anew."
 
 BASH = """# Completion of rohcfn in bash: `source` this file. {source}
 
@@ -43,6 +45,9 @@ _rohcfn_has_profile() {{
 }}
 
 _rohcfn() {{
+  if ((COMP_CWORD > 1)) && [[ ${{COMP_WORDS[1]}} == --as-built ]]; then
+    COMP_WORDS=("${{COMP_WORDS[0]}}" "${{COMP_WORDS[@]:2}}") COMP_CWORD=$((COMP_CWORD - 1))
+  fi
   local word=${{COMP_WORDS[COMP_CWORD]}} before=${{COMP_WORDS[COMP_CWORD - 1]}} options=''
   local commands='{commands}'
   COMPREPLY=()
@@ -93,6 +98,7 @@ _rohcfn() {{
     '(- *)'{{-h,--help}}'[{help}]' \\
     '(- *)--version[{version}]' \\
     '(- *)--diagnose[{diagnose}]' \\
+    '--as-built[{built}]' \\
     '1: :->command' \\
     '*:: :->words' && return
   case $state in
@@ -108,6 +114,36 @@ _rohcfn() {{
 
 _rohcfn "$@"
 """
+
+
+def aligned(rows, indent):
+    """Rows of an option and what it does, in two columns."""
+    width = max(len(it) for it, _ in rows)
+    return "".join("%s%s  %s\n" % (indent, it.ljust(width), does) for it, does in rows)
+
+
+def of_command(table, command):
+    """The help of a command, as the program prints it."""
+    flags = table.of(command.name)
+    rows = [("--%s <%s>" % (it.name, it.value) if it.value else "--" + it.name, it.does) for it in flags]
+    rows = [("    " + it, does) for it, does in rows] + [("-h, --help", table.own["--help"])]
+    usage = "Usage: rohcfn %s %s--top <NAME>" % (command.name, "[OPTIONS] " if len(flags) > 1 else "")
+    return "=== %s\n%s\n\n%s\n\nOptions:\n%s\n" % (command.name, command.does, usage, aligned(rows, "  "))
+
+
+def with_files(table):
+    """The options of front/, with the commands that take them where these aren't all."""
+    for it in table.files:
+        of = "" if len(it.commands) == len(table.commands) else ", ".join(it.commands) + ": "
+        yield ("--%s %s" % (it.name, it.value)).rstrip(), of + it.does
+
+
+def helped(table, prose):
+    """The help: that of the program, of each command, and what stands below both."""
+    rows = [(it.name, it.does) for it in table.commands.values()] + [("help", table.own["help"])]
+    usage = "Packs and unpacks headers by a profile in the ROHC formal notation\n\nUsage: rohcfn <COMMAND>\n"
+    first = "=== rohcfn\n%s\nCommands:\n%s\nOptions:\n  -h, --help  %s\n\n" % (usage, aligned(rows, "  "), table.own["--help"])
+    return first + "".join(of_command(table, it) for it in table.commands.values()) + prose.replace("{options}", aligned(list(with_files(table)), "      "))
 
 
 class Option:
@@ -130,16 +166,11 @@ class Help:
         self.summary = self.texts["rohcfn"].partition("\n")[0]
         self.commands = dict(COMMAND.findall(self.texts["rohcfn"].partition("Commands:\n")[2].partition("Options:\n")[0]))
         self.kept = {it: text for it, text in self.commands.items() if it in self.texts}  # all but `help`
-        self.version, self.diagnose = map(self.said_of, ("--version", "--diagnose <BUNDLE"))
         self.options, self.plain = {}, []
         for command in self.kept:
             self.take(self.texts[command], [command])
         self.plain = sorted(self.options, key=lambda it: it == "--help")  # those that the program itself knows
         self.take(self.texts["files"], self.kept)
-
-    def said_of(self, words):
-        """What a call with these words alone does."""
-        return re.search(r"`bin/rohcfn %s` (.*?)\." % words, self.texts["files"]).group(1)
 
     def take(self, text, commands):
         """Takes the options of a text, of these commands where it doesn't say of which."""
@@ -214,10 +245,10 @@ def page(known, formats):
     return '.\\" %s\n.TH ROHCFN 1 "" Tuxabelo "User Commands"\n%s' % (SOURCE, body)
 
 
-def bash(known):
+def bash(known, table):
     """The completion for bash."""
     cases = ["    %s) options='%s' ;;" % (it, " ".join(option.long for option in known.of(it))) for it in known.kept]
-    words = {"commands": " ".join(known.commands), "cases": "\n".join(cases), "first": "--help --version --diagnose"}
+    words = {"commands": " ".join(known.commands), "cases": "\n".join(cases), "first": " ".join(it for it in table.own if it.startswith("-"))}
     words |= {"files": " | ".join(known.valued("FILE")), "others": " | ".join(known.valued("FILE", other=True))}
     return BASH.format(source=SOURCE, valued=" | ".join(known.valued("", other=True)), **words)
 
@@ -238,22 +269,23 @@ def spec(option):
     return "'%s%s[%s]'" % (several, option.long, text)
 
 
-def zsh(known):
+def zsh(known, table):
     """The completion for zsh."""
-    commands = ["    '%s:%s'" % (it, quoted(text)) for it, text in known.commands.items()]
+    words = ["    '%s:%s'" % (it, quoted(text)) for it, text in known.commands.items()]
     cases = []
     for it in known.kept:
         specs = [*map(spec, known.of(it)), "'1:PROFILE:_files'"]
         cases.append("        %s)\n          _arguments \\\n            %s\n          ;;" % (it, " \\\n            ".join(specs)))
-    helped = known.options["--help"].does[0]
-    return ZSH.format(source=SOURCE, commands="\n".join(commands), cases="\n".join(cases), help=quoted(helped), version=quoted(known.version), diagnose=quoted(known.diagnose))
+    own = {it[2:].removeprefix("as-"): quoted(does) for it, does in table.own.items() if it.startswith("-")}
+    return ZSH.format(source=SOURCE, commands="\n".join(words), cases="\n".join(cases), **own)
 
 
 def made():
     """Each file that is made, from the root, with its text."""
-    known = Help((ROOT / "front" / "help.txt").read_text())
-    formats = (ROOT / "docs" / "FORMATS.md").read_text()
-    return {"man/rohcfn.1": page(known, formats), "completion/rohcfn.bash": bash(known), "completion/_rohcfn": zsh(known)}
+    table = commands.table()
+    text = helped(table, (ROOT / "front" / "prose.txt").read_text())
+    known, formats = Help(text), (ROOT / "docs" / "FORMATS.md").read_text()
+    return {"front/help.txt": text, "man/rohcfn.1": page(known, formats), "completion/rohcfn.bash": bash(known, table), "completion/_rohcfn": zsh(known, table)}
 
 
 def main():

@@ -18,7 +18,7 @@ import tempfile
 import threading
 
 from examples import headers
-from front import diagnosis, grammar
+from front import commands, diagnosis, grammar
 from . import cases
 from .program import EXAMPLES, ROOT, built
 
@@ -224,9 +224,9 @@ def usage(place):
     }
     for value in ("64", "+1", "-1", "01", "", "1x", " 1", "100", "\u0661"):
         due["loss", "a profile.fn", "--item", "8:01", "--lost", value] = "invalid value '%s' for '--lost <N>': a number from 0 to 63 is needed" % value
-    for command, names in (("pack", "item items from-context certificate pcap flow"), ("unpack", "packet packets"), ("line", "events octets"),
-                           ("fields", "item items packet packets from-context certificate pcap flow"), *((it, "item items from-context certificate pcap flow") for it in ("stats", "loss"))):
-        due.update({(command, "--%s=1" % name): "the file of a profile is needed" for name in names.split()})
+    table = commands.table()
+    for command in table.commands:
+        due.update({(command, "--%s=1" % it.name): "the file of a profile is needed" for it in table.of(command, files=True) if it.value and it.name != "top"})
     due["show", "--diagnose"] = "the file of a profile is needed"
     with open("/dev/zero", "rb") as endless:
         for words, text in due.items():

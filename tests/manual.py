@@ -10,12 +10,13 @@ import subprocess
 import sys
 import tempfile
 
-from front import __main__ as front, manual
+from front import commands, manual
 from .program import ROOT
 
 PAGE, BASH, ZSH = (ROOT / it for it in ("man/rohcfn.1", "completion/rohcfn.bash", "completion/_rohcfn"))
-COMMANDS = "pack unpack fields why stats loss show lint draw check prove line help".split()
-EACH = ["--top", "--help", "--diagnose"]  # options of each command
+TABLE = commands.table()
+COMMANDS = [*TABLE.commands, "help"]
+FIRST = [it for it in TABLE.own if it.startswith("-")]  # options in the place of a command
 HERE = ["a file", "folder", "probe.fn"]
 MACRO = re.compile(r'\.(TH ROHCFN 1 "" Tuxabelo "User Commands"|SH [A-Z ]+|TP|PP|nf|fi|br|\\".*)')
 TEXT = re.compile(r"(?:[^\\.'-]|\\f[BIR]|\\-|\\e|\\\((?:aq|ga))(?:[^\\'-]|\\f[BIR]|\\-|\\e|\\\((?:aq|ga))*")
@@ -49,20 +50,20 @@ def stored():
 
 
 def options_of(command):
-    """The options of a command by front/."""
-    return sorted([*EACH, *map(front.option, front.INPUTS[command] + front.FLAGS[command])])
+    """The options of a command by the table of words."""
+    return sorted({"--help"} | {commands.option(it.name) for files in (False, True) for it in TABLE.of(command, files)})
 
 
 def agrees():
-    """front/help.txt tells each command the options that front/ takes, and which of them have values."""
+    """The help tells each command the options that the table has, and which of them have values."""
     known = manual.Help((ROOT / "front" / "help.txt").read_text())
-    check("the commands", list(known.commands) == COMMANDS and set(known.kept) == set(front.INPUTS), known.commands)
+    check("the commands", list(known.commands) == COMMANDS and list(known.kept) == [*TABLE.commands], known.commands)
     for it in known.kept:
         seen = sorted(option.long for option in known.of(it))
         check("the options of %s" % it, seen == options_of(it), seen)
-    check("the options with values", set(known.valued("", other=True)) == set(map(front.option, front.VALUED)))
-    files = {"items", "packets", "from_context", "certificate", "events", "octets", "pcap"}
-    check("the options with files", set(known.valued("FILE")) == set(map(front.option, files)))
+    every = [*TABLE.flags, *TABLE.files]
+    check("the options with values", set(known.valued("", other=True)) == {commands.option(it.name) for it in every if it.value})
+    check("the options with files", set(known.valued("FILE")) == {commands.option(it.name) for it in every if it.value == "FILE"})
 
 
 def slip(text):
@@ -83,7 +84,7 @@ def page():
     check("the man page", slip(text) is None, slip(text))
     for old, new in ((".TP\n", ".TQ\n"), (".fi\n", ""), ("\\fR", "\\f"), ("\\-\\-top", "--top"), (".SH NAME", ".SH"), ("Packs", "'Packs")):
         check("a slip: %r" % new, slip(text.replace(old, new, 1)) is not None)
-    for it in {it for command in front.INPUTS for it in options_of(command)}:
+    for it in {it for command in TABLE.commands for it in options_of(command)}:
         told = 2 if it == "--items" else 1  # (of `fields` it is also a flag without a file)
         check("the man page on %s" % it, text.count("\\fB%s\\fR" % it.replace("-", "\\-")) == told)
     for name, *words in (["groff", "-man", "-Tascii", "-ww", "-z"], ["man", "--warnings", "-l"]):
@@ -111,9 +112,9 @@ def offered(folder, every):
 
 def in_bash(folder):
     """Bash offers commands, the options of each command, and files where one is due."""
-    due = [([""], COMMANDS), (["p"], ["pack", "prove"]), (["-"], ["--help", "--version", "--diagnose"]), (["help", ""], COMMANDS), (["help", "un"], ["unpack"])]
+    due = [([""], COMMANDS), (["p"], ["pack", "prove"]), (["-"], FIRST), (["--as-built", "un"], ["unpack"]), (["--as-built", "show", "pro"], ["probe.fn"]), (["help", ""], COMMANDS), (["help", "un"], ["unpack"])]
     due += [(["help", "pack", ""], []), (["foo", ""], []), (["foo", "-"], []), (["--version", ""], []), (["--d"], ["--diagnose"]), (["--diagnose", ""], []), (["--diagnose", "<", ""], HERE)]
-    for it in front.INPUTS:
+    for it in TABLE.commands:
         due += [([it, "-"], options_of(it)), ([it, "probe.fn", ""], options_of(it)), ([it, ""], HERE), ([it, "pro"], ["probe.fn"])]
         due += [([it, "--top", ""], []), ([it, "--top", "plain", ""], HERE), ([it, "--top", "=", "plain", ""], HERE), ([it, "--top", "="], [])]
     for it in ("items", "packets", "from-context", "certificate", "events", "octets", "pcap"):
@@ -136,8 +137,8 @@ def in_zsh():
         ran = run(["zsh", "-n", ZSH])
         check("zsh", (ran.returncode, ran.stderr) == (0, ""), ran.stderr)
     head, *cases = re.split(r"^        (\w+)\)\n", ZSH.read_text(), flags=re.MULTILINE)
-    check("zsh offers at first", re.findall(r"'\(- \*\)'?\{?(?:-h,)?(--\w+)", head) == ["--help", "--version", "--diagnose"], head)
-    check("zsh has the commands", cases[::2] == [*front.INPUTS], cases[::2])
+    check("zsh offers at first", re.findall(r"^    '(?:\(- \*\))?'?\{?(?:-h,)?(--[\w-]+)", head, re.MULTILINE) == FIRST, head)
+    check("zsh has the commands", cases[::2] == [*TABLE.commands], cases[::2])
     for command, text in zip(cases[::2], cases[1::2]):
         seen = sorted(re.findall(r"^            '.*?(--[\w-]+)[=}\[]", text, re.MULTILINE))
         check("zsh offers for %s" % command, seen == options_of(command), seen)
