@@ -1,53 +1,13 @@
 """Reads the tokens of a profile by the grammar of docs/FORMATS.md, to say what might stand where it can't go on. The program alone judges a text."""
 from . import notation
+from .expressions import Reader, Stop
 
-COMPARISONS = ("==", "!=", "<", ">", "<=", ">=")
-ATTRIBUTES = ("UVALUE", "ULENGTH", "CVALUE", "CLENGTH")
 MENDING = (";", "}", ")", "]", "=:=", ",", "{", "(", "[", "=")
-OPERATOR, EXPRESSION, ITEM = "an operator", "an expression", "a field"
+ITEM = "a field"
 
 
-class Stop(Exception):
-    """Here the tokens can't go on."""
-
-
-class Reader:
-    """Goes over tokens, and keeps what else might stand at the place that it has reached."""
-
-    def __init__(self, tokens, place=0):
-        self.tokens, self.place, self.expected = tokens, place, []
-
-    def sees(self, texts, told=None):
-        """Whether the next token is one of these."""
-        self.expected += [it for it in ([told] if told else ["`%s`" % it for it in texts]) if it not in self.expected]
-        return self.place < len(self.tokens) and self.tokens[self.place].text in texts
-
-    def sees_kind(self, kind, told):
-        """Whether the next token is of a kind, and no reserved word."""
-        self.expected += [told] if told not in self.expected else []
-        if self.place == len(self.tokens):
-            return False
-        token = self.tokens[self.place]
-        return token.kind == kind and token.text not in notation.RESERVED
-
-    def step(self):
-        self.place, self.expected = self.place + 1, []
-
-    def may(self, texts, told=None):
-        """Takes one of these, where it is there."""
-        seen = self.sees(texts, told)
-        if seen:
-            self.step()
-        return seen
-
-    def must(self, texts, told=None):
-        if not self.may(texts, told):
-            raise Stop
-
-    def must_kind(self, kind, told):
-        if not self.sees_kind(kind, told):
-            raise Stop
-        self.step()
+class Profiles(Reader):
+    """Goes over the tokens of a whole profile."""
 
     def rest(self, depth, word):
         """Reads on from where so many brackets `{` are open, in a section of this word."""
@@ -144,32 +104,6 @@ class Reader:
             self.expression()
         self.must((end,))
 
-    def expression(self):
-        self.primary()
-        while self.may(("||", "&&", *COMPARISONS, "+", "-", "*", "/", "%", "^"), OPERATOR):
-            power = self.tokens[self.place - 1].text == "^"
-            self.primary()
-            if power and self.sees(("^",), OPERATOR):
-                raise Stop
-
-    def primary(self):
-        if self.may(("!",), EXPRESSION):
-            self.primary()
-        elif self.may(("(",), EXPRESSION):
-            self.expression()
-            self.must((")",))
-        elif self.may(("-",), EXPRESSION):
-            self.must_kind("number", "a number")
-        elif self.may(("THIS",), EXPRESSION):
-            self.must((".",))
-            self.must(ATTRIBUTES)
-        elif self.sees_kind("name", EXPRESSION):
-            self.step()
-            if self.may((".",)):
-                self.must(ATTRIBUTES)
-        elif not self.may(("true", "false"), EXPRESSION):
-            self.must_kind("number", EXPRESSION)
-
 
 def begin(tokens, place):
     """Where the last definition, section or statement before a place begins, up to which all can be read: its place, how many brackets `{` stand round it, and
@@ -188,7 +122,7 @@ def begin(tokens, place):
 def stops(tokens, place):
     """The place at which tokens can't go on, and what might stand there; None where all is read. Up to a place before which they can it isn't looked closely."""
     start, depth, word = begin(tokens, place)
-    reader = Reader(tokens, start)
+    reader = Profiles(tokens, start)
     try:
         reader.rest(depth, word)
     except (Stop, RecursionError):

@@ -1,27 +1,13 @@
 """What a profile's text says of its methods, its constants, and the header of a method: as much as is read without judging it. The program alone judges."""
 import collections
-import operator
-import re
 
-TOKEN = re.compile(r"(?P<space>[ \t\r\n\f]+|//[^\n]*|/\*.*?(?:\*/|\Z))|(?P<name>[A-Za-z]\w*)|(?P<number>0x[0-9a-fA-F]+|0b[01]+|[0-9]+)|(?P<bits>'[01]*')"
-                   r"|(?P<mark>=:=|\|\||&&|[=!<>]=|[{}()\[\],;=.<>+*/%^!-])|(?P<other>.)", re.DOTALL | re.ASCII)
-SECTIONS = ("UNCOMPRESSED", "CONTROL", "INITIAL", "DEFAULT", "COMPRESSED")
-RESERVED = (*SECTIONS, "ENFORCE", "THIS", "VARIABLE", "UVALUE", "ULENGTH", "CVALUE", "CLENGTH", "true", "false")
+from . import expressions
+from .tokens import CLOSED, OPEN, RESERVED, SECTIONS, TOKEN, Token, tokens_of
+
 LIBRARY = ("uncompressed_value", "compressed_value", "irregular", "static", "lsb", "crc")
-GREATEST, GREATEST_EXPONENT = 2**120, 127  # of a value, on either side of 0, and of an exponent
-DIGITS = 128  # that a number without leading zeros may have
-COMPUTED = {"+": operator.add, "-": operator.sub, "*": operator.mul, "/": operator.floordiv, "%": operator.mod}
-OPEN, CLOSED = "([{", ")]}"
 
-Token = collections.namedtuple("Token", "kind text start")
 Method = collections.namedtuple("Method", "name parameters body")
 Field = collections.namedtuple("Field", "name bits")
-
-
-def tokens_of(text, end=None):
-    """The tokens of a text, or of its front, comments and blanks left out. A character with which none begins is one of the kind `other`."""
-    found = TOKEN.finditer(text) if end is None else TOKEN.finditer(text, 0, end)
-    return [Token(it.lastgroup, it.group(), it.start()) for it in found if it.lastgroup != "space"]
 
 
 def after_brackets(tokens, place):
@@ -85,75 +71,11 @@ def top_of(text):
     return last
 
 
-def value_of(text):
-    """The number of a text of digits, where it isn't above all that may be."""
-    base = {"0x": 16, "0b": 2}.get(text[:2], 10)
-    digits = (text if base == 10 else text[2:]).lstrip("0")
-    if len(digits) > DIGITS:
-        raise ValueError("too great")
-    return int(digits or "0", base)
-
-
-class Number:
-    """The number of an expression of numbers and constants, by the grammar's levels. No value on the way may be above the greatest."""
-
-    LEVELS = ("+-", "*/%")
-
-    def __init__(self, tokens, constants):
-        self.tokens, self.constants, self.place = tokens, constants, 0
-
-    def next_is(self, marks):
-        """The next token, where it is one of these."""
-        if self.place < len(self.tokens) and self.tokens[self.place].text in marks:
-            self.place += 1
-            return self.tokens[self.place - 1].text
-        return None
-
-    def level(self, depth):
-        if depth == len(self.LEVELS):
-            return self.power()
-        value = self.level(depth + 1)
-        while mark := self.next_is(tuple(self.LEVELS[depth])):
-            value = self.checked(COMPUTED[mark](value, self.level(depth + 1)))
-        return value
-
-    def checked(self, value):
-        if abs(value) > GREATEST:
-            raise ValueError("too great")
-        return value
-
-    def power(self):
-        base = self.primary()
-        if not self.next_is(("^",)):
-            return base
-        exponent = self.primary()
-        if not 0 <= exponent <= GREATEST_EXPONENT:
-            raise ValueError("no such power")
-        return self.checked(base ** exponent)
-
-    def primary(self):
-        sign = -1 if self.next_is(("-",)) else 1
-        token = self.tokens[self.place]
-        self.place += 1
-        if token.text == "(":
-            value = self.level(0)
-            if not self.next_is((")",)):
-                raise ValueError("no bracket closes")
-            return value
-        return sign * (self.checked(value_of(token.text)) if token.kind == "number" else self.constants[token.text])
-
-    def whole(self):
-        value = self.level(0)
-        if self.place != len(self.tokens):
-            raise ValueError("more follows")
-        return value
-
-
 def number(tokens, constants):
     """The number of tokens that are an expression of numbers and constants, or None."""
     try:
-        return Number(tokens, constants).whole()
-    except (ValueError, KeyError, IndexError, ZeroDivisionError, RecursionError):
+        return expressions.value(expressions.whole(tokens), constants)
+    except (ValueError, KeyError, ZeroDivisionError, RecursionError):
         return None
 
 

@@ -1,63 +1,30 @@
 """A reading of small profiles for the slow search (searching.py): the normal form of a text without faults, with bounds that may be wider than the program's. It takes the constructs of the stored
 cases; of others it raises KeyError or ValueError."""
 
-from front import notation
+from front import expressions, notation
 from .reading import Field, Format, Method
 
-ATTRIBUTES = ("UVALUE", "ULENGTH", "CVALUE", "CLENGTH")
-LEVELS = (("||",), ("&&",), ("==", "!=", "<=", ">=", "<", ">"), ("+", "-"), ("*", "/", "%"))
 WIDEST = 64
 
 
-class Reader:
-    """Expressions and conditions of a list of tokens, in the form of searching.py."""
+def form(tree, constants, parameters):
+    """A tree in the form of searching.py, where names are constants and parameters."""
+    mark, *inner = tree
+    if mark == "number":
+        return int(inner[0], 0)
+    if mark == "truth":
+        return inner[0] == "true"
+    if mark == "of":
+        return tuple(inner)
+    if mark == "name":
+        return ("parameter", inner[0]) if inner[0] in parameters else constants[inner[0]]
+    formed = [form(it, constants, parameters) for it in inner]
+    return -formed[0] if mark == "-" and len(formed) == 1 else (mark, *formed)
 
-    def __init__(self, tokens, constants, parameters):
-        self.tokens, self.constants, self.parameters, self.place = [it.text for it in tokens], constants, parameters, 0
 
-    def next(self):
-        self.place += 1
-        return self.tokens[self.place - 1]
-
-    def next_is(self, *marks):
-        if self.place < len(self.tokens) and self.tokens[self.place] in marks:
-            return self.next()
-        return None
-
-    def whole(self):
-        found = self.level(0)
-        if self.place != len(self.tokens):
-            raise ValueError(self.tokens[self.place:])
-        return found
-
-    def level(self, depth):
-        if depth == len(LEVELS):
-            return self.power()
-        left = self.level(depth + 1)
-        while (mark := self.next_is(*LEVELS[depth])) is not None:
-            left = (mark, left, self.level(depth + 1))
-        return left
-
-    def power(self):
-        base = self.prime()
-        return ("^", base, self.power()) if self.next_is("^") else base
-
-    def prime(self):
-        word = self.next()
-        if word == "(":
-            inner = self.level(0)
-            self.next()
-            return inner
-        if word in ("-", "!"):
-            inner = self.prime()
-            return -inner if word == "-" and isinstance(inner, int) else (word, inner)
-        if word in ("true", "false"):
-            return word == "true"
-        if word[0].isdigit():
-            return int(word, 0)
-        if self.next_is("."):
-            return word, self.next()
-        return ("parameter", word) if word in self.parameters else self.constants[word]
+def read(tokens, constants, parameters):
+    """The expression or the condition of some tokens, in the form of searching.py."""
+    return form(expressions.whole(tokens), constants, parameters)
 
 
 def split(tokens, mark):
@@ -79,10 +46,10 @@ class Text:
         self.methods, constants = notation.methods_and_constants(notation.tokens_of(text))
         self.constants, self.numbers = {}, {it.name: place for place, it in enumerate(self.methods)}
         for name, tokens in constants:
-            self.constants[name] = Reader(tokens, self.constants, ()).whole()
+            self.constants[name] = read(tokens, self.constants, ())
 
     def expressions(self, tokens, parameters):
-        return [Reader(it, self.constants, parameters).whole() for it in split(tokens, ",")]
+        return [read(it, self.constants, parameters) for it in split(tokens, ",")]
 
     def encoding(self, tokens, parameters):
         """A library method or a call, as searching.py has it."""
@@ -96,7 +63,7 @@ class Text:
     def statement(self, tokens, parameters):
         """The name, the encoding and the lengths of a statement, or its condition."""
         if tokens[0].text == "ENFORCE":
-            return "ENFORCE", Reader(tokens[2:-1], self.constants, parameters).whole(), None
+            return "ENFORCE", read(tokens[2:-1], self.constants, parameters), None
         end = next((place for place, it in enumerate(tokens) if it.text == "["), len(tokens))
         lengths = self.expressions(tokens[end + 1:-1], parameters) if end < len(tokens) else None
         return tokens[0].text, self.encoding(tokens[2:end], parameters) if end > 1 else None, lengths
