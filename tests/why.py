@@ -1,7 +1,8 @@
 """Through the built program: what `why` prints of items and packets that are refused. For each format of the top there is a line, in the order of the text. Where it tells a reason, a slow search over
-all headers and all values of asked fields (searching.py) finds no filling of that format with the item's header and asked values, or at the front of the packet. The fault line is that of `pack` or `unpack`.
-The items and packets are drawn, many of them damaged, or those of the cases in cases/ that are refused, whose profiles normal.py reads."""
+all headers and all values of asked fields (searching.py) finds no filling of that format with the item's header and asked values, or at the front of the packet. The reason's place, encoding, bounds,
+reference and bits are those of a second reading (reference/reasons.py), or the reason is one of `lint`. The fault line is that of `pack` or `unpack`. The items and packets are drawn, many of them damaged, or those of the cases in cases/ that are refused, whose profiles normal.py reads."""
 import collections
+import functools
 import itertools
 import random
 import re
@@ -9,12 +10,13 @@ import sys
 
 from . import cases, roundtrip
 from .fields import bits_of, printed
-from .program import EXAMPLES
-from .reference import normal, samples
+from .program import EXAMPLES, lines
+from .reference import normal, reasons, samples
 from .reference.searching import NoValue, Search, spelled
 from .roundtrip import text
 
 LINE = re.compile(r"[1-9]\d*:[1-9]\d*: (?P<blanks> *)(?P<method>\w+)\.(?P<format>\w+|-): (?P<reason>.+)")
+DEAD = re.compile(r"(\d+):(\d+): warning (\w+\.(?:\w+|-)): (.*): nothing fits this format")
 NOTHING = "nothing simple stands against it"
 SAMPLES = ["tick", "opt", "mode", "turn"]
 REFUSED = re.compile(r"^(?:item|packet) ([1-9]\d*): (?:F3|U1|U2) ", re.MULTILINE)
@@ -94,6 +96,25 @@ def calls(subject, context, draw, most):
         yield "unpack", "", "packets", text(packet), {it.index for it in known if packet.startswith(it.packed)}
 
 
+@functools.lru_cache(None)
+def profile_of(text, name, version):
+    """The profile as the second reading has it, and the reasons that `lint` gives: the place, the format and the words of each."""
+    methods, initial = normal.methods_of(text, name)
+    warned, _ = lines("=== words\nlint --top %s\n=== profile\n%s" % (name, text))
+    dead = [DEAD.fullmatch(it) for it in warned]
+    return reasons.Profile(text, methods, initial), {((int(it[1]), int(it[2])), it[3], it[4]) for it in dead if it}
+
+
+def reads(subject, context, part, line, told):
+    """What is wrong with the reasons by the second reading."""
+    profile, dead = profile_of(subject.profile, subject.name, subject.version)
+    bits, asked = item_of(line)
+    reading = reasons.Reading(profile, context, bits, "U" if part == "items" else "C", asked if part == "items" else {}, dead)
+    for it in told:
+        reading.line(it)
+    return reading.wrong
+
+
 def is_told(subject, lines, there):
     """Whether the lines are those of the formats of the top, of which none that is blamed has a filling; and how many are blamed."""
     found = [LINE.fullmatch(it) for it in lines]
@@ -113,14 +134,16 @@ def trials(subject, context, draw, most):
 
 def told_or_wrong(subject, context, command, flags, part, line, there):
     """What is wrong with one call, if anything, and how many formats were blamed."""
+    wrong = []
     refusal, _ = printed(subject.words(command), subject.profile, context, part, [line])
     lines, status = printed(subject.words("why") + flags, subject.profile, context, part, [line])
     if ": F" in refusal[0] or ": U" in refusal[0]:
         right, blamed = is_told(subject, lines[1:], there)
-        right = right and lines[:1] == refusal
+        wrong = reads(subject, context, part, line, lines[1:]) if right else []
+        right = right and lines[:1] == refusal and not wrong
     else:
         right, blamed = len(lines) == 1 and bool(there), 0
-    return None if right and status == 0 else (subject.profile, context, flags, line, refusal, lines, there), blamed
+    return None if right and status == 0 else (subject.profile, context, flags, line, refusal, lines, there, wrong), blamed
 
 
 def parts_of(bundle):
