@@ -11,13 +11,27 @@ LINE = re.compile(r"([1-9]\d*):([1-9]\d*): ( *)(\w+)\.(\w+|-): (.+)")
 ASKED = re.compile(r"asked (\w+) is (\d+:[0-9a-f]*), and ")
 NOTHING = "nothing simple stands against it"
 NO_VALUE = "this has no value: it divides by 0, or its exponent is below 0"
-PARTIAL = {"/", "%", "^"}
+PARTIAL, FACTORS = {"/", "%", "^"}, {"*", "/", "%", "^"}
 
 
 def spelled(bits):
     """The bits of a text."""
     count, _, digits = bits.partition(":")
     return "".join(format(int(it, 16), "04b") for it in digits)[:int(count)]
+
+
+def operands(tokens, at):
+    """The offsets at which the operand before an operator may begin, up to the first of a product."""
+    while True:
+        at, depth = at - 1, 0
+        while (depth := depth + (tokens[at].text == ")") - (tokens[at].text == "(")) > 0:
+            at -= 1
+        if tokens[at - 1].text == ".":
+            at -= 2
+        yield tokens[at].start
+        if tokens[at - 1].text not in FACTORS:
+            return
+        at -= 1
 
 
 class Profile:
@@ -49,7 +63,9 @@ class Profile:
             place = after
 
     def take_statement(self, method, part, tokens):
-        self.partial.update((method.name, at.start) for at in tokens if any(it.text in PARTIAL for it in tokens))
+        for at, it in enumerate(tokens):
+            if it.text in PARTIAL:
+                self.partial.update((method.name, start) for start in operands(tokens, at))
         if tokens[0].text == "ENFORCE":
             self.conditions[method.name, self.place(tokens[2].start)] = part, normal.read(tokens[2:-1], self.read.constants, method.parameters)
         elif tokens[-1].text == "]":
@@ -211,7 +227,7 @@ class Reading:
         """Too few or too many bits. The bounds of this reading may be wider than those of the program."""
         count, due = int(count), int(due)
         least = seen.form.least() if self.side == "C" else sum(it.u[0] for it in seen.form.fields if it.part == "header")
-        is_right = count < due and least <= due if at == "least" else count > due and due <= seen.form.most(self.side)
+        is_right = (count < due if at == "least" else count > due) and least <= due <= seen.form.most(self.side)
         return self.at_name(seen, place) and is_right and (seen.bits is None or count == len(seen.bits))
 
     def cut(self, seen, place, encoding, name, left, due):
