@@ -30,7 +30,7 @@ python3 -m tests.flows line || failed=1
 python3 -m tests.cases || failed=1
 
 # The long ones run side by side; what each prints comes in this order.
-beside=(prefixes certificates forged trees roundtrip fields stats why lint lines loss refusals)
+beside=(prefixes certificates forged trees roundtrip fields stats why lint warned lines loss refusals)
 printed=$(mktemp -d)
 trap 'rm -rf "$printed"' EXIT
 running=()
