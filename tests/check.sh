@@ -1,21 +1,21 @@
 #!/usr/bin/env bash
-# Runs each example and each step of the tutorial through the built program and compares what it prints; then what the pages show, what is left out of RFC
-# 4997 and the pieces of profiles, what editors colour, headers of an operating system and back, the cases of cases/ and of built.py, fronts of texts,
-# certificates with a slip and with drawn trees against a second reading, packets by certificates with a slip, round trips, fields, counts, reasons, dead formats and lines of flows against a
-# slow search, traces with losses, runs that are refused memory, what the program does with its words and streams, what bin/rohcfn and bin/prove do where no program stands,
-# what bin/rohcfn does with files, and the man page and completion.
+# Runs each example and each step of the tutorial through the built program and compares what it prints, and then the modules of tests/ that docs/CHECKS.md lists.
+# The program is taken as it stands; where it was built of other sources that is said.
 set -u
 cd "$(dirname "$0")/.." || exit 1
-program=crates/rohcfn/out/rohcfn
+root=$PWD
+# shellcheck source=front/built.sh
+source front/built.sh
 if [ ! -x "$program" ]; then
   echo "examples: no proved program stands here; bin/prove or .ci/run makes one"
   exit 1
 fi
+is_current || echo "examples: the program that is tried was built of other sources than stand here"
 passed=0
 failed=0
 for bundle in examples/*.bundle examples/tutorial/*.bundle; do
   expected=${bundle%.bundle}.expected
-  if bin/rohcfn <"$bundle" | cmp -s - "$expected"; then
+  if bin/rohcfn --as-built <"$bundle" | cmp -s - "$expected"; then
     passed=$((passed + 1))
   else
     echo "example $bundle: output differs from $expected"

@@ -4,7 +4,6 @@ import subprocess
 
 ROOT = pathlib.Path(__file__).resolve().parent.parent
 DOCS, EXAMPLES, CRATES = (ROOT / it for it in ("docs", "examples", "crates"))
-FILTER = ROOT / "bin" / "rohcfn"  # what a user calls
 
 
 def built(crate="rohcfn"):
@@ -28,11 +27,3 @@ def lines(text):
     """The lines that the program prints of a bundle, and its status."""
     printed, status = run(text)
     return printed.splitlines(), status
-
-
-def said(wrong, passed, name):
-    """Prints what is wrong and how much there was; the status of the check."""
-    for it in wrong:
-        print("%s: %s" % (name, it))
-    print("%s: %d passed, %d failed" % (name, passed, len(wrong)))
-    return 1 if wrong or not passed else 0
