@@ -1,9 +1,8 @@
-#!/usr/bin/env python3
 """Growth of `holds` over how deep calls go, on the built program of rows.
 
 Each method calls the next one for its whole header of 4,096 bits, and the last one sends it in fields of 64 bits. A level is judged by its own sides: it copies nothing of what lies
 below it, so that one call more takes as long at 16 calls as at 4."""
-from measure import ROWS, best_of, report
+from .measure import best_of, report, ROWS
 
 DEPTHS = [2, 4, 8, 16]
 TIMES = 4000

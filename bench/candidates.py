@@ -1,4 +1,3 @@
-#!/usr/bin/env python3
 """What a candidate costs that fails, in instructions, by callgrind, on the built program or on another that is given as an argument: an item of `pack` whose last candidate is the one that has it, or
 that none has, over the number of candidates that fail, 65,536 in each profile. Where the header has other bits than the choices tell, a candidate fails by a look, also where the choice goes down
 calls as an argument; else it is drawn up and walked. Each profile has a bound."""
@@ -6,7 +5,8 @@ import re
 import subprocess
 import sys
 
-from measure import PROGRAM, report
+from .measure import PROGRAM, report
+
 
 # the bits of the choices of each profile together
 BITS = 16

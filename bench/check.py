@@ -1,8 +1,7 @@
-#!/usr/bin/env python3
 """Growth of `check` over the methods, formats and fields of a profile and the steps of its certificate, on the built program.
 
 The top has a format for each two of the other methods, which it calls; each of these has formats that begin with bits of their own, and fields of one octet."""
-from measure import grows, report
+from .measure import grows, report
 
 
 def bits(number, count):

@@ -1,9 +1,8 @@
-#!/usr/bin/env python3
 """Growth of `prove` over the conjuncts of a method whose formats no test tells apart, on the built program or on another that is given as an argument. Each of 64 formats has all conjuncts, which say the
 same of one parameter, or in turn of several. From a quarter of the largest count to the largest the time of one conjunct may grow by a quarter, and the largest may take a second."""
 import sys
 
-import measure
+from . import measure
 
 COUNTS = [960, 3840, 15360]
 PLACES = 8  # parameters

@@ -1,6 +1,5 @@
-#!/usr/bin/env python3
 """Growth of the crc register over the bits that it covers, on the built program of rows: headers of up to 4,096 bits, as long as any may be."""
-from measure import ROWS, best_of, report
+from .measure import best_of, report, ROWS
 
 BITS = [256, 512, 1024, 2048, 4096]
 TIMES = 40000

@@ -1,8 +1,7 @@
-#!/usr/bin/env python3
 """Growth of `pack` and `unpack` over the fields of a header, on the built program.
 
 Each filling is judged by `holds`, which visits each field a bounded number of times. A header has up to 128 fields of one octet, as many as a section may have."""
-from measure import grows, report
+from .measure import grows, report
 
 FIELDS = [8, 16, 32, 64, 128]
 LINES = 2000

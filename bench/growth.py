@@ -1,6 +1,5 @@
-#!/usr/bin/env python3
 """Growth of `pack` and `unpack` over the lines of the plain profile, on the built program."""
-from measure import grows, report
+from .measure import grows, report
 
 PROFILE = """plain
 {

@@ -1,4 +1,3 @@
-#!/usr/bin/env python3
 """What a line of `pack` and `unpack`, and an event or a packet of `line`, costs in instructions, by callgrind, on the built program, or on another that is given as an argument.
 
 A line of `pack` or `unpack` is that of 2,000 lines less that of 500; the lines and the output that is due are those of packing.py. An event of `line` and a packet of `line --receive` are those of
@@ -6,9 +5,10 @@ the headers of examples/data/, less those of the first header: by the profiles o
 import re
 import subprocess
 import sys
-from measure import PROGRAM, report
-from packing import PROFILES, bundled, stream
-import headers
+
+from examples import headers
+from .measure import PROGRAM, report
+from .packing import bundled, PROFILES, stream
 
 NAMES = ["plain", "tick", "opt", "six", "mode", "turn"]
 FEW, MANY = 500, 2000

@@ -1,13 +1,8 @@
-#!/usr/bin/env python3
 """Growth of `line` and `line --receive` over the packets of 16 flows, and of 64 on the wide line, on the built program, and what a packet costs the receiver by its octets, since it tries after each. What is printed is computed here, by the
 layout of the two formats of tick."""
-import pathlib
-import sys
 
-sys.path.append(str(pathlib.Path(__file__).parent.parent / "examples"))
-
-from measure import best_of, grows, report
-from samples import TICK as PROFILE
+from tests.reference.samples import TICK as PROFILE
+from .measure import best_of, grows, report
 
 SIZES = [3750, 7500, 15000, 30000, 60000]
 FLOWS, WIDE = 16, 64  # of the line, and of the wide one

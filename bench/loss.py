@@ -1,14 +1,9 @@
-#!/usr/bin/env python3
 """Growth of `loss` over the items of one flow, on the built program, and what it takes beside `pack` and `unpack` of the same trace. What is printed is computed here, by the layout of tick: a counter that
 goes on by one has one format after the first packet, and each packet is within the window of its `lsb` after up to 13 lost ones."""
-import pathlib
-import sys
 
-sys.path.append(str(pathlib.Path(__file__).parent.parent / "examples"))
-
-from line import packet
-from measure import best_of, grows, report
-from samples import TICK as PROFILE
+from tests.reference.samples import TICK as PROFILE
+from .line import packet
+from .measure import best_of, grows, report
 
 SIZES = [1250, 2500, 5000, 10000, 20000]
 LOST = 8

@@ -1,17 +1,12 @@
-#!/usr/bin/env python3
 """Growth of `pack` and `unpack` over lines, over the fields of a header and over how deep calls go, on the built program.
 
 The lines are of seven profiles: `plain` (two fields), `tick` (a reference, a checksum, two formats), `opt` (a call whose method goes by a flag), `six` (64 formats), `wide` (64 bits), and by certificates of version 2 `mode` (a tree that
 tests a reference) and `turn` (a remainder). What is due is worked out here, from the notation's rules."""
-import pathlib
 import random
-import sys
 
-sys.path.append(str(pathlib.Path(__file__).parent.parent / "examples"))
-
-from growth import PROFILE as PLAIN
-from measure import best_of, grows, report
-from samples import MODE, OPT, TICK, TURN
+from tests.reference.samples import MODE, OPT, TICK, TURN
+from .growth import PROFILE as PLAIN
+from .measure import best_of, grows, report
 
 SIZES = [2000, 15000, 30000, 60000]
 SIX = "six { UNCOMPRESSED { x [6]; }\n%s}\n" % "".join("  COMPRESSED f%d { d =:= '%s' [6]; x =:= uncompressed_value(6, %d); }\n" % (i, format(i, "06b"), i) for i in range(64))

@@ -1,18 +1,12 @@
-#!/usr/bin/env python3
 """Growth of `prove` over the fields of a format, the formats of a method and the methods of a profile, on the built program; and how long it takes to find that a tree is above the limit.
 
-What is printed is compared with the certificate of the second prover (examples/proving.py). From a quarter of the largest size to the largest the time may grow by that ratio to the
+What is printed is compared with the certificate of the second prover (tests/reference/proving.py). From a quarter of the largest size to the largest the time may grow by that ratio to the
 power of 2.2 for fields and formats, and of 1.25 for methods."""
 import math
-import pathlib
-import sys
 
-sys.path.append(str(pathlib.Path(__file__).parent.parent / "examples"))
-
-import built
-import proving
-from measure import best_of, report
-from reading import Field, Format, Method
+from tests.reference import built, proving
+from tests.reference.reading import Field, Format, Method
+from .measure import best_of, report
 
 SECONDS = 10
 

@@ -1,4 +1,3 @@
-#!/usr/bin/env python3
 """usage: bench/ratio.py OTHER [OTHER ..]
 
 `pack` and `unpack` of 60,000 lines of the plain profile, and `line` and `line --receive` of 60,000 events of 16 flows, by the built program and by other programs that
@@ -7,9 +6,8 @@ import os
 import statistics
 import sys
 
-import growth
-import line
-from measure import MIB, PROGRAM, ROUNDS, run
+from . import growth, line
+from .measure import MIB, PROGRAM, ROUNDS, run
 
 LINES = 60000
 

@@ -1,8 +1,7 @@
-#!/usr/bin/env python3
 """Growth of name resolution over the octets of a profile's text, on the built program.
 
 Each text is free of faults and is shown whole: every method is called from the top, and the output must be the one that is due."""
-from measure import MIB, grows, report
+from .measure import grows, MIB, report
 
 SIZES = [MIB // 16, MIB // 8, MIB // 4, MIB // 2, MIB]
 METHOD = MIB // 128

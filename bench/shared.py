@@ -1,10 +1,9 @@
-#!/usr/bin/env python3
 """Memory of a method's formats where UNCOMPRESSED says most, on the built program.
 
 Each text is one method of 64 formats over one long UNCOMPRESSED, whose statements each format has. It is free of faults and is shown whole. What UNCOMPRESSED
 says is kept once, so the memory is that of the text and not of 64 copies of it."""
-from measure import MIB, grows, report
-from resolve import SIZES, Profile, case
+from .measure import grows, MIB, report
+from .resolve import case, Profile, SIZES
 
 FORMATS = 64
 STATEMENT = MIB // 124

@@ -1,8 +1,7 @@
-#!/usr/bin/env python3
 """Growth of reading a profile's text over its octets, on the built program.
 
 Each text is lexed and parsed whole, and then answered with the first fault of its names."""
-from measure import MIB, grows, report
+from .measure import grows, MIB, report
 
 SIZES = [MIB // 16, MIB // 8, MIB // 4, MIB // 2, MIB]
 ANSWERS = {

@@ -1,4 +1,3 @@
-#!/usr/bin/env python3
 """What trees cost in instructions, by callgrind, on the built program or on another that is given as an argument; beside it those of a second one, if that is given.
 
 A packet of `unpack` in a tree of up to 4,096 nodes may cost at most twice one in a tree of 63: in a bushy tree, in one with a long way over offsets that rise one by one, and in one with a long way
@@ -7,10 +6,10 @@ it. Without a bound: `check` of these trees, and of one whose tables would go be
 import random
 import sys
 
-from check import whole
-from instructions import FEW, MANY, counted, of_run
-from measure import PROGRAM, report
-from packing import line_of
+from .check import whole
+from .instructions import counted, FEW, MANY, of_run
+from .measure import PROGRAM, report
+from .packing import line_of
 
 PROFILE = "wide { UNCOMPRESSED { x [64]; y [64]; } COMPRESSED { x =:= irregular(64) [64]; y =:= irregular(64) [64]; } }\n"
 READ = "length x C method;length y C method;take x;take y;library x up;library y up"

@@ -1,4 +1,3 @@
-#!/usr/bin/env python3
 """Processor time and memory of the worst texts that are known for `prove`, `check` and `show`, on the built program or on another that is given as an argument.
 
 Each text is within the limits. It is run once and has to end with status 0, within its bounds of time and memory. With a folder as the second argument what is
@@ -8,7 +7,7 @@ import subprocess
 import sys
 import tempfile
 
-import measure
+from . import measure
 
 TEXT = 1 << 20  # octets of a profile, or of a certificate
 

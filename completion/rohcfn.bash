@@ -1,4 +1,4 @@
-# Completion of rohcfn in bash: `source` this file. Made by bin/manual.py from bin/help.txt; change that, and make this anew.
+# Completion of rohcfn in bash: `source` this file. Made by front/manual.py from front/commands.txt; change that, and make this anew.
 
 # Offers the lines of standard input.
 _rohcfn_offer() {
@@ -29,6 +29,9 @@ _rohcfn_has_profile() {
 }
 
 _rohcfn() {
+  if ((COMP_CWORD > 1)) && [[ ${COMP_WORDS[1]} == --as-built ]]; then
+    COMP_WORDS=("${COMP_WORDS[0]}" "${COMP_WORDS[@]:2}") COMP_CWORD=$((COMP_CWORD - 1))
+  fi
   local word=${COMP_WORDS[COMP_CWORD]} before=${COMP_WORDS[COMP_CWORD - 1]} options=''
   local commands='pack unpack fields why stats loss show lint draw check prove line help'
   COMPREPLY=()
@@ -38,7 +41,7 @@ _rohcfn() {
     : | [\<\>]*) before=$word word='' ;;
   esac
   if ((COMP_CWORD == 1)); then
-    if [[ $word == -* ]]; then commands='--help --version --diagnose'; fi
+    if [[ $word == -* ]]; then commands='--help --version --diagnose --as-built'; fi
     _rohcfn_offer < <(compgen -W "$commands" -- "$word")
     return
   fi

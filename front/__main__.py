@@ -1,0 +1,68 @@
+"""Puts a bundle together from files and words, and calls bin/rohcfn with it: `COMMAND PROFILE [OPTION ..]`. Or takes a bundle from standard input, to show a
+fault of its profile: `[COMMAND --top NAME [FLAG ..]] --diagnose`. Before these words stands the number of a stream that is the caller's folder. docs/USAGE.md
+shows each use."""
+import os
+import signal
+import sys
+
+from . import parts, terminal
+from .bundles import call_of, call_on_bundle
+from .orders import Usage, order_of
+
+FILTER = os.path.join(os.path.dirname(os.path.dirname(os.path.realpath(__file__))), "bin", "rohcfn")
+
+
+def is_shown(order):
+    """Whether a fault is to be shown besides: by --diagnose, or where all that is printed goes to a terminal."""
+    return order.has("diagnose") or all(it is not None and it.isatty() for it in (sys.stdout, sys.stderr))
+
+
+def file_of(octets):
+    """An open file with these octets, at its begin, in no folder."""
+    if hasattr(os, "memfd_create"):
+        file = os.fdopen(os.memfd_create("bundle"), "w+b")
+    else:
+        import tempfile  # (it takes a while to load)
+        file = tempfile.TemporaryFile()
+    file.write(octets)
+    file.seek(0)
+    return file
+
+
+def answer(order):
+    """Runs the program; its status. Where nothing is to be shown besides, the program takes the place of this one."""
+    words, bundle, profile = call_on_bundle(order) if order.takes_bundle() else call_of(order)
+    with file_of(bundle) as file:
+        call = [FILTER, *words]
+        if not is_shown(order):
+            os.dup2(file.fileno(), 0)
+            signal.signal(signal.SIGPIPE, signal.SIG_DFL)
+            os.execv(FILTER, call)
+        from . import diagnosis  # (what it needs takes as long to load as all the rest)
+        return diagnosis.shown(call, file, *profile)
+
+
+def ended(status, text):
+    """The status of a call that ends with a text; what can't be written is told by the status alone."""
+    return status if terminal.writes(text) else 3
+
+
+def main(folder, *words):
+    os.fchdir(int(folder))
+    os.close(int(folder))
+    terminal.fill()
+    signal.signal(signal.SIGINT, signal.SIG_DFL)
+    try:
+        return answer(order_of(list(words)))
+    except Usage as why:
+        return ended(2, "error: %s\n\nFor more information, try '--help'.\n" % why)
+    except parts.BadInput as why:
+        return ended(why.status, "rohcfn: %s\n" % why)
+    except MemoryError:
+        return ended(3, "error: out of memory\n")
+    except OSError as why:
+        return ended(3, "rohcfn: %s\n" % why.strerror)
+
+
+if __name__ == "__main__":
+    sys.exit(main(*sys.argv[1:]))

@@ -1,0 +1,302 @@
+"""Through built programs: worked rows in which memory is refused, each growth in turn.
+
+A library that is loaded before a program stands in for malloc and realloc. In the rows of `rohcfn` a growth is refused alone, and with all that come after it:
+the run must end with status 3, say that memory is out, and have printed no more than a front of the row's output. The rows of crates/fn_refusals/stdin make one
+call each; a growth is refused alone, in the call or before it. Before it the run must end with status 3; in it, the call must leave what it was given as it was
+and give the right answer when it is made again, or say again that memory is out where it is a receiver's. At last no growth is left to refuse, and the row's
+own output must come.
+
+Where a usage fault has a suggestion ("a similar subcommand exists"), the growths in which the library for the command line looks for one are hints, which are tried
+again: such a run may end as ever, with the whole text. These are counted apart. No other row may end as ever where a growth is refused.
+
+A drawing (fn_sketch) can't answer want of memory: where a growth is refused to it alone, the walk answers, and the row's own output must come. Each level that is
+drawn up grows one list, that of its fields, and nothing else in the rows of `rohcfn`. So each of these says how many levels are drawn up for it, and just so many
+growths may end so. In the rows of calls that draw, two growths in a row are refused as well: that of a drawing and the first one of the walk after it."""
+import concurrent.futures
+import itertools
+import os
+import pathlib
+import shutil
+import subprocess
+import sys
+import tempfile
+
+from . import cases
+from .program import CRATES, EXAMPLES, built, bundle
+from .reference.built import PLAIN
+from .reference.samples import CERTIFICATES, MODE, OPT, SEQ, TICK, TURN
+
+ALL = 1 << 62
+DRAWING = ("pack", "unpack", "send", "reset", "feed")
+AGAIN = "refused, as before, then right\n"
+REPEATED = "refused, items kept, refused again\n"
+
+LIBRARY = r"""
+typedef unsigned long size;
+extern void *__libc_malloc(size);
+extern void *__libc_realloc(void *, size);
+extern char *getenv(const char *);
+extern long write(int, const void *, size);
+
+static long growths, refused, first, last;
+
+static long number(const char *digits) {
+  long value = 0;
+  while (digits && *digits >= '0' && *digits <= '9') value = value * 10 + (*digits++ - '0');
+  return value;
+}
+
+static int is_refused(void) {
+  if (growths++ == 0) {
+    first = number(getenv("FIRST_REFUSED"));
+    last = number(getenv("LAST_REFUSED"));
+  }
+  if (growths < first || growths > last) return 0;
+  refused++;
+  return 1;
+}
+
+void *malloc(size octets) { return is_refused() ? 0 : __libc_malloc(octets); }
+
+void *realloc(void *old, size octets) { return is_refused() ? 0 : __libc_realloc(old, octets); }
+
+__attribute__((destructor)) static void tell(void) {
+  if (refused) write(2, "refused\n", 8);
+  else write(2, "whole\n", 6);
+}
+"""
+
+
+def compilers():
+    """Commands that may compile C: that of the kit, then those of the system."""
+    found = shutil.which("rt")
+    if found:
+        tools = pathlib.Path(found).resolve().parent.parent / "toolchain" / "bin"
+        yield [tools / "clang", "--target=x86_64-unknown-linux-gnu", "-fuse-ld=lld", "-B", tools]
+    for name in ("cc", "gcc", "clang"):
+        if shutil.which(name):
+            yield [name]
+
+
+def build(library):
+    """Whether some compiler made the library."""
+    flags = ["-O1", "-fPIC", "-shared", "-nostdlib", "-ffreestanding", "-x", "c", "-", "-o", library]
+    for compiler in compilers():
+        try:
+            if subprocess.run([*compiler, *flags], input=LIBRARY.encode(), stderr=subprocess.DEVNULL, check=False).returncode == 0:
+                return True
+        except OSError:
+            pass
+    return False
+
+
+def rows():
+    """Name, bundle, output and status of each row, and how many levels are drawn up for it; all this was written by hand. A candidate is drawn up level by level up to
+    where it leads nowhere; of `tick` that is the first one, and then the last where the first isn't the item."""
+    tick, opt, exchanged = CERTIFICATES["tick"], CERTIFICATES["opt"], CERTIFICATES["tick"].replace("leaf short\nleaf full", "leaf full\nleaf short")
+    yield "plain packed", bundle("pack --top plain", PLAIN.decode(), items="16:5abc\n"), "18:96af00\n", 0, 1
+    parts = {"context": "sn 8:00\n", "items": "8:01\n"}
+    yield "tick packed", bundle("pack --top tick", TICK, **parts), "8:0b\n", 0, 1
+    yield "tick packed by a certificate", bundle("pack --top tick", TICK, certificate=tick, **parts), "8:0b\n", 0, 1
+    yield "tick proved", bundle("prove --top tick", TICK), tick, 0, 0
+    yield "tick shown", bundle("show --top tick", TICK), (EXAMPLES / "tick-show.expected").read_text(), 0, 0
+    yield "tick checked", bundle("check --top tick", TICK, certificate=tick), "accepted\n", 0, 0
+    yield "tick with its leaves exchanged", bundle("check --top tick", TICK, certificate=exchanged), "check: V4 tick node 1 short\n", 1, 0
+    parts = {"context": "ttl.field 8:40\n", "items": "8:40\n8:41\n"}
+    packets = "1:00\n9:a080\n=== context\nttl.field 8:41\nttl 8:41\n"
+    yield "opt packed", bundle("pack --top opt --context", OPT, **parts), packets, 0, 4
+    yield "opt packed by a certificate", bundle("pack --top opt --context", OPT, certificate=opt, **parts), packets, 0, 4
+    told = "packet 1 - 1 bits\n  ttl      header  8:40  0:    static_or_irreg.static_enc\n"
+    told += "    field  header  8:40  0:    static\n  flag     local   1:00  1:00  irregular\n"
+    yield "opt told", bundle("fields --top opt", OPT, context="ttl.field 8:40\n", packets="1:00\n"), told, 0, 2
+    counted = "items 1 bits 9 mean 9.0\n  format  items  bits  mean\n  short   0      0     -\n  full    1      9     9.0\n    d     1      1     1.0\n    sn    1      8     8.0\n"
+    yield "tick counted", bundle("stats --top tick", TICK, items="8:01\n9:0000\n"), counted + "item 2: F3 NoFormat\n", 0, 4
+    yield from lost()
+    yield "seq packed", bundle("pack --top seq", SEQ, items="8:06 msn=8:03\n"), "4:30\n", 0, 1
+    yield "seq unpacked", bundle("unpack --top seq", SEQ, packets="4:30\n"), "8:06 msn=8:03 took 4\n", 0, 1
+    yield "seq without what is asked", bundle("pack --top seq", SEQ, items="8:06\n"), "item 1: F2 Asked msn\n", 1, 0
+    yield "seq without a filling", bundle("pack --top seq", SEQ, items="8:07 msn=8:03\n"), "item 1: F3 NoFormat\n", 1, 1
+    events, items = "send 0 8:01\nsend 1 8:01\nsend 0 8:02\n", "0 8:01\n1 8:01\n0 8:02\n"
+    yield "two flows", bundle("line --top tick", TICK, events=events), "0080800180800014\n" + items, 0, 5
+    yield "two flows received", bundle("line --receive --top tick", TICK, octets="0080800180800014\n"), items, 0, 3
+    yield "a bad part", "=== %s\n" % ("\x1b" * 90), "bundle: I4 bad part %s..\n" % ("\\u{1b}" * 80), 1, 0
+    yield "a flow that is reset", bundle("line --top tick", TICK, events="send 0 8:01\nreset 0\nsend 0 8:01\n"), "00808010008080\n0 8:01\n0 8:01\n", 0, 4
+    events, items = "send 40 8:01\nreset 40\nsend 63 8:01\n", "40 8:01\n63 8:01\n"
+    yield "two flows of 64", bundle("line --wide --top tick", TICK, events=events), "288080683f8080\n" + items, 0, 4
+    yield "two flows of 64 received", bundle("line --wide --receive --top tick", TICK, octets="288080683f8080\n"), items, 0, 2
+    yield "mode packed in version 2", bundle("pack --top mode --v2", MODE, items="8:05\n"), "8:05\n", 0, 1
+    yield "turn packed in version 2", bundle("pack --top turn --v2", TURN, items="4:30\n"), "4:80\n", 0, 1
+    yield "mode proved in version 2", bundle("prove --top mode --v2", MODE), CERTIFICATES["mode"], 0, 0
+    yield from of_surveys()
+    yield from explained()
+    yield from named()
+
+
+def lost():
+    """Rows of `loss`: all is right, and a packet is wrong."""
+    heads = "  lost  packets  right  refused  wrong\n"
+    told = "items 3 bits 25 mean 8.3\n" + heads + "  0     3        3      0        0\n  1     1        1      0        0\n"
+    told += "  format  packets  right  refused  wrong  reach\n  short   1        1      0        0      1\n"
+    yield "tick after a loss", bundle("loss --lost 1 --top tick", TICK, items="8:01\n8:02\n8:03\n"), told, 0, 8
+    bare = "bare { UNCOMPRESSED { sn [8]; } COMPRESSED near { d =:= '0' [1]; sn =:= lsb(2, 0) [2]; } COMPRESSED full { d =:= '1' [1]; sn =:= irregular(8) [8]; } }\n"
+    told = "items 3 bits 15 mean 5.0\n" + heads + "  0     3        3      0        0\n  1     1        0      0        1\n"
+    told += "  format  packets  right  refused  wrong  reach\n  near    1        0      0        1      0\n"
+    told += "lost 1 item 3 near wrong\n  sn lsb(2, 0) has 8:01 needs 8:06: step 5, takes 0 to 3\n"
+    yield "a wrong reading after a loss", bundle("loss --lost 1 --top bare", bare, items="8:01\n8:03\n8:06\n"), told, 0, 8
+
+
+def of_surveys():
+    """Rows of `lint` and of `draw`, in which nothing is drawn up, and of `why`."""
+    yield "tick linted", bundle("lint --top tick", TICK), "", 0, 0
+    clean = "top { UNCOMPRESSED { sn [8]; } COMPRESSED one { sn =:= lsb(4, 1) [4]; } }\n"
+    needs = "1:1: warning top.one is never used: it needs sn in the context, which no format that can come before puts there\n"
+    unnoticed = "1:1: warning top.one: a wrong reference is not noticed\n"
+    unknown = "context: warning sm: no format has a field there\n"
+    yield "a format that waits linted", bundle("lint --top top", clean), needs + unnoticed, 0, 0
+    yield "lint with a context", bundle("lint --top top", clean, context="sn 8:00\n"), unnoticed, 0, 0
+    yield "lint with a path that no format has", bundle("lint --top top", clean, context="sm 8:00\n"), needs + unnoticed + unknown, 0, 0
+    yield "lint with a bad context", bundle("lint --top top", clean, context="sn 8:00\nsn\n"), "context:2: C1 bad line\n", 1, 0
+    misspelled = "top { UNCOMPRESSED { addr [8]; } COMPRESSED { adr =:= irregular(17) [16]; addr =:= irregular(8) [8]; } }\n"
+    dead = "1:69: warning top.-: adr has at least 17 and at most 16 bits compressed: nothing fits this format\n"
+    yield "a format that is dead linted", bundle("lint --top top", misspelled), dead + "1:1: warning top.-: adr is listed here alone, and addr is a field of the header: is it meant?\n", 0, 0
+    crowded = "top { UNCOMPRESSED { x [8]; } COMPRESSED { w =:= irregular(16) [16]; v =:= irregular(1) [1]; x =:= irregular(8) [8]; } }\n"
+    counts = "1:1: warning top: 131072 candidates an item, and the limit is 65536\n1:1: warning top.-: 131072 candidates = w 65536 x v 2\n"
+    yield "too many candidates linted", bundle("lint --top top", crowded), counts, 0, 0
+    waits = "top { UNCOMPRESSED { sn [8]; } COMPRESSED near { d =:= '0' [1]; sn =:= lsb(4, 1) [4]; } COMPRESSED same { d =:= '1' [1]; sn =:= static [0]; } }\n"
+    lacks = "item 1: F3 NoFormat\n1:82: top.near: lsb of sn: the context has no entry sn, and INITIAL gives none\n"
+    lacks += "1:136: top.same: static of sn: the context has no entry sn, and INITIAL gives none\n"
+    yield "why nothing is packed", bundle("why --top top --items", waits, items="8:05\n"), lacks, 0, 2
+    yield "tick drawn", bundle("draw --top tick", TICK), (EXAMPLES / "tick-draw.expected").read_text(), 0, 0
+
+
+def explained():
+    """Rows of `prove` and `check` with --explain."""
+    lost = "lost { UNCOMPRESSED { x [8]; } COMPRESSED { d =:= '1' [1]; } }\n"
+    yield "no plan explained", bundle("prove --explain --top lost", lost), "prove: P1 NoPlan lost - read x U\n1:1: no step gives the uncompressed bits of x\n", 1, 0
+    yield "no plan explained by check", bundle("check --explain --top lost", lost), "prove: P1 NoPlan lost - read x U\n1:1: no step gives the uncompressed bits of x\n", 1, 0
+    amb = "amb { UNCOMPRESSED { x [8]; } COMPRESSED a { d =:= '0' [1]; x =:= irregular(8) [8]; } COMPRESSED b { x =:= irregular(8) [8]; d =:= '11' [2]; } }\n"
+    begins = "prove: P2 NoTree amb a b\n1:1: a begins with 0........., b with ........11; a point is a bit that is not known\n"
+    begins += "1:1: this is no proof that a packet has two readings: only that no bit%s parts the two\n"
+    yield "no tree explained", bundle("prove --explain --top amb", amb), begins % " and no parameter", 1, 0
+    yield "no tree explained in version 2", bundle("prove --explain --v2 --top amb", amb), begins % ", no parameter and no reference", 1, 0
+    exchanged = CERTIFICATES["tick"].replace("leaf short\nleaf full", "leaf full\nleaf short")
+    yield "a leaf explained", bundle("check --explain --top tick", TICK, certificate=exchanged), "check: V4 tick node 1 short\n1:1: in tick.short\ncertificate:4: here\n", 1, 0
+    crowded = "top { UNCOMPRESSED { x [8]; } COMPRESSED co { w =:= irregular(16) [16]; v =:= irregular(1) [1]; x =:= irregular(8) [8]; } }\n"
+    counts = "check: V6 candidates\n1:1: top has 131072 candidates, and 65536 is the limit\n1:1: most are of co: 131072 = w 65536 x v 2\n"
+    yield "candidates explained", bundle("check --explain --top top", crowded), counts, 1, 0
+    yield "tick accepted with nothing to explain", bundle("check --explain --top tick", TICK), "accepted\n", 0, 0
+
+
+def named():
+    """Of each code from E20 to E34 the shortest stored case."""
+    for code in range(20, 35):
+        stored = [it for it in cases.stored(EXAMPLES / "cases" / ("E%d.cases" % code)) if b": E%d " % code in it[3]]
+        _, given, status, output = min(stored, key=lambda it: len(it[1]))
+        yield "E%d" % code, given.decode(), output.decode(), status, 0
+
+
+def usages():
+    """Rows of words that ask for nothing or for help: the words, the part `words` where there are none, what their text says, the status, and whether it suggests a word."""
+    yield "no top", ["pack"], "", "Usage: rohcfn pack --top <NAME>", 2, False
+    yield "a version of show", ["show", "--top", "plain", "--v2"], "", "'--v2'", 2, True
+    yield "a command that is misspelled", ["pakc", "--top", "plain"], "", "'pakc'", 2, True
+    yield "a flag that is misspelled in a bundle", [], "=== words\npack --tip plain\n", "'--tip'", 2, True
+    yield "no top in a bundle", [], "=== words\npack\n", "Usage: rohcfn pack --top <NAME>", 2, False
+    yield "a number that is none", ["loss", "--top", "plain", "--lost", "64"], "", "'64' for '--lost <N>': a number from 0 to 63 is needed", 2, False
+    yield "a number of a bundle that is none", [], "=== words\nloss --top plain --lost=01\n", "'01'", 2, False
+    yield "help", ["--help"], "", "Usage: rohcfn", 0, False
+    yield "help of a command", ["lint", "--help"], "", "Usage: rohcfn lint", 0, False
+
+
+class Row:
+    """A row that a program runs with the library, which refuses growths, and what is printed where they are refused to its call. How many levels are drawn up is known,
+    or None where it isn't. A row of words has a text for the person who called, of which a part is known, and which may suggest a word."""
+
+    def __init__(self, library, program, text, output, status=0, drawn=0, refused=None, words=(), part="", suggests=False):
+        self.library, self.program, self.text = library, built(program), text.encode()
+        self.output, self.status, self.drawn, self.refused = output.encode(), status, drawn, refused and refused.encode()
+        self.words, self.part, self.suggests, self.said = words, part.encode(), suggests, b""
+
+    def called(self, first, last):
+        """A run in which the growths from the first to the last are refused."""
+        limits = {"LD_PRELOAD": self.library, "FIRST_REFUSED": str(first), "LAST_REFUSED": str(last)}
+        return subprocess.run([self.program, *self.words], input=self.text, capture_output=True, env=limits, check=False)
+
+    def run(self, first, last):
+        """How such a run ended: as ever with none refused, `whole`; `out` of memory; refused to the row's `call`; as ever with some refused, which were those of what is
+        `drawn`, or one of those that look for a word that is `suggested`; `wrong`."""
+        run = self.called(first, last)
+        ends = {
+            (self.status, self.output, self.said + b"whole\n"): "whole",
+            (0, self.refused, b"refused\n"): "call",
+        }
+        if self.drawn != 0 and last - first < 2:
+            ends[(self.status, self.output, b"refused\n")] = "drawn"
+        if self.suggests and first == last:
+            ends[(self.status, self.output, self.said + b"refused\n")] = "suggested"
+        is_out = run.returncode == 3 and run.stderr == b"error: out of memory\nrefused\n" and self.output.startswith(run.stdout)
+        return "out" if is_out else ends.get((run.returncode, run.stdout, run.stderr), "wrong")
+
+    def ends(self, count):
+        """How each run ended, growth by growth, where so many are refused from that one on."""
+        if self.part:
+            self.said = self.called(0, 0).stderr.removesuffix(b"whole\n")
+        if self.run(0, 0) != "whole" or self.part not in self.said:
+            return ["wrong"]
+        places = itertools.count(1)
+        return list(itertools.takewhile(lambda end: end != "whole", (self.run(it, it + count - 1) for it in places)))
+
+    def dues(self, count):
+        """The ends of which one must be among those of the runs."""
+        if not self.refused:
+            return {"out"}
+        return {"call", "drawn"} if self.drawn != 0 and count == 1 else {"call"}
+
+
+def sweep(name, row, count):
+    """How many runs of the row ended as they may, and how many not; where the row is a call, some growth must be refused to it."""
+    ends = row.ends(count)
+    for place, end in enumerate(ends, 1):
+        if end == "wrong":
+            print("%s: wrong where growth %d is refused %s" % (name, place, {1: "alone", 2: "with the next"}.get(count, "with all after it")))
+    lacks = not row.dues(count) & set(ends)
+    if lacks:
+        print("%s: no growth is refused %s" % (name, "to the call" if row.refused else "at all"))
+    drawn = ends.count("drawn")
+    differs = count == 1 and row.drawn is not None and drawn != row.drawn
+    if differs:
+        print("%s: %d growths were refused to drawings" % (name, drawn))
+    wrong = ends.count("wrong") + lacks + differs
+    return len(ends) - ends.count("wrong"), wrong, ends.count("call"), drawn, ends.count("suggested")
+
+
+def jobs(library):
+    """What is swept: rows of the program in both ways, and calls."""
+    for name, text, output, status, drawn in rows():
+        for count in (1, ALL):
+            yield name, Row(library, "rohcfn", text, output, status, drawn), count
+    for name, words, text, part, status, suggests in usages():
+        for count in (1, ALL):
+            yield name, Row(library, "rohcfn", text, "", status, words=words, part=part, suggests=suggests), count
+    for call in (CRATES / "fn_refusals" / "stdin").read_text().splitlines():
+        if call and not call.startswith("#"):
+            refused = REPEATED if call.startswith("feed ") else AGAIN
+            drawn = None if call.startswith(DRAWING) else 0
+            for count in (1, 2) if drawn is None else (1,):
+                yield call, Row(library, "fn_refusals", call + "\n", "right\n", 0, drawn, refused), count
+
+
+def main():
+    with tempfile.TemporaryDirectory() as folder:
+        library = os.path.join(folder, "refuse.so")
+        if not build(library):
+            print("refusals: no compiler makes the library that refuses growths, neither the kit's nor the system's")
+            return 1
+        with concurrent.futures.ProcessPoolExecutor() as pool:
+            passed, failed, called, drawn, suggested = map(sum, zip(*pool.map(sweep, *zip(*jobs(library)))))
+    print("refusals: %d passed, %d failed; %d growths were refused to calls of rows, %d to drawings, %d to suggestions" % (passed, failed, called, drawn, suggested))
+    return 1 if failed or not passed else 0
+
+
+if __name__ == "__main__":
+    sys.exit(main())

@@ -1,0 +1,101 @@
+"""Through the built program: what `stats` prints, against a reckoning from what `fields` prints of the same items one by one, each in the context that those before left, and from what `pack` prints of
+those that are refused. The items are those of small profiles, some of them damaged, and the headers of data/ with bad items between them."""
+import random
+import sys
+
+from examples import headers
+from . import fields, roundtrip
+from .program import EXAMPLES
+
+MOST = 24  # items of a small profile in one run
+LONG = "4097:" + "00" * 513  # a header above the limit
+
+
+def mean(bits, items):
+    """The mean with one decimal, rounded to the nearest tenth, halves up."""
+    return "%d.%d" % divmod((20 * bits + items) // (2 * items), 10) if items else "-"
+
+
+def counted(profile, top, trees):
+    """The head line and the rows that the trees of `fields` give. A field has the bits of the second side that is printed of it; the fields come in the order of the profile's text."""
+    rows, every, known = [("format", "items", "bits", "mean")], 0, fields.Listings(profile).known
+    for method, form in known:
+        if method != top:
+            continue
+        found = [({name: len(lower) for name, _, _, lower, _, _ in fields.level(body, 2)}, int(head.group(4))) for head, body in trees if head.group(3) == form]
+        whole, every = sum(bits for _, bits in found), every + sum(bits for _, bits in found)
+        rows.append((form, str(len(found)), str(whole), mean(whole, len(found))))
+        for name in known[method, form]:
+            bits = sum(sides[name] for sides, _ in found)
+            rows += [("  " + name, str(len(found)), str(bits), mean(bits, len(found)))] if bits else []
+    widths = [max(map(len, column)) for column in zip(*rows)]
+    lines = ["  " + "  ".join(cell.ljust(width) for cell, width in zip(row, widths)).rstrip() for row in rows]
+    return ["items %d bits %d mean %s" % (len(trees), every, mean(every, len(trees))), *lines]
+
+
+def alone(words, profile, entries, items):
+    """The trees of the items that are packed, and the lines of the others, by a call for each."""
+    trees, refused = [], []
+    for number, item in enumerate(items, 1):
+        seen, status = fields.printed(words % "fields" + " --items --context", profile, {}, "items", [item], entries)
+        if status == 0:
+            end = seen.index("=== context")
+            trees += fields.trees(seen[:end])
+            entries = "".join(it + "\n" for it in seen[end + 1:])
+        else:
+            (line,), _ = fields.printed(words % "pack", profile, {}, "items", [item], entries)
+            refused.append(line.replace("item 1:", "item %d:" % number, 1))
+    return trees, refused
+
+
+def damaged(draw, item):
+    """An item that is mostly refused: a bit less or a bit more, without a value, or one that is too long."""
+    header, *values = item.split(" ")
+    bits = fields.bits_of(header)
+    shapes = [roundtrip.text(bits[:-1]), roundtrip.text(bits + "1"), LONG]
+    return draw.choice([" ".join([it, *values]) for it in shapes] + [header, "0:"])
+
+
+def small(draw):
+    """For each run on a small profile whether it prints what is due, and how many items it has."""
+    subjects = [(roundtrip.sample(name), start) for name, contexts in roundtrip.CONTEXTS.items() for start in contexts]
+    for subject, start in [*subjects, *list(roundtrip.referring(draw))[::3]]:
+        items = [roundtrip.line_of(*it) for it in roundtrip.items(subject, draw)[:MOST]]
+        items = [damaged(draw, it) if draw.randrange(5) == 0 else it for it in items]
+        entries = "".join("%s %s\n" % (path, roundtrip.text(bits)) for path, bits in start.items())
+        trees, refused = alone(subject.words("%s"), subject.profile, entries, items)
+        seen = fields.printed(subject.words("stats"), subject.profile, {}, "items", items, entries)
+        yield "%s from %s" % (subject.profile, start), seen == (counted(subject.profile, subject.name, trees) + refused, 0), len(items)
+
+
+def large(draw):
+    """For each flow of headers whether it is right, and how many headers it has. A bad item after each tenth one is refused and leaves the context."""
+    for kind, top in headers.TOPS.items():
+        profile = (EXAMPLES / "profiles" / (kind + ".profile")).read_text()
+        every = headers.headers_of(kind, (EXAMPLES / "data" / (kind + "-headers.hex")).read_text().splitlines())
+        for place, flow in enumerate(headers.by_flow(every).values()):
+            items, mixed, refused = list(headers.items(kind, flow)), [], []
+            for at, item in enumerate(items, 1):
+                mixed.append(item)
+                if at % 10 == 0:
+                    mixed.append(draw.choice(["0:", LONG, item.split(" ")[0]]))
+                    (line,), _ = fields.printed("pack --top " + top, profile, {}, "items", mixed[-1:])
+                    refused.append(line.replace("item 1:", "item %d:" % len(mixed), 1))
+            listed, _ = fields.printed("fields --items --top " + top, profile, {}, "items", items)
+            seen = fields.printed("stats --top " + top, profile, {}, "items", mixed)
+            yield "flow %d of %s" % (place, kind), seen == (counted(profile, top, fields.trees(listed)) + refused, 0), len(flow)
+
+
+def main():
+    passed = failed = 0
+    draw = random.Random(4997)
+    for name, is_right, count in [*small(draw), *large(draw)]:
+        passed, failed = passed + count * is_right, failed + (not is_right)
+        if not is_right:
+            print("stats: %s: wrong" % name)
+    print("stats: %d items passed, %d calls failed" % (passed, failed))
+    sys.exit(1 if failed or not passed else 0)
+
+
+if __name__ == "__main__":
+    main()
