@@ -14,8 +14,8 @@ use Rattle.fn_loss.specs.declared.judging.Case.{Case}
 use Rattle.fn_loss.specs.declared.judging.Reading.{Reading}
 use Rattle.fn_loss.specs.declared.scores.Group.TheVariants.{After, Of}
 use Rattle.fn_loss.specs.declared.scores.Score.{Score}
-use Rattle.fn_loss.specs.declared.unserved.Referring.{Referring}
-use Rattle.fn_loss.specs.declared.unserved.Referring.TheVariants.{Static, Lsb}
+use Rattle.fn_loss.specs.declared.uses.Referring.{Referring}
+use Rattle.fn_loss.specs.declared.uses.Referring.TheVariants.{Static, Lsb}
 use Rattle.fn_loss.specs.declared.unserved.Unserved.{Unserved}
 use Rattle.fn_loss.specs.Judging.{first_case}
 use Rattle.fn_loss.specs.Scores.{reach, score}

@@ -2,8 +2,8 @@
 use Rattle.std.specs.Prelude.{ℕ, ◌+◌, ◌-◌, ◌*◌, ◌%◌, ◌^◌, nat_eq, nat_le, nat_lt, Bool, List, length, Option, Some, None, ◌&&◌, if◌then◌else◌, ℤ, pos, negsuc, ◌-ℤ◌}
 use Rattle.std.specs.Int.RustNames.{unsigned_abs}
 use Rattle.fn_bits.specs.Number.{num}
-use Rattle.fn_loss.specs.declared.unserved.Referring.{Referring}
-use Rattle.fn_loss.specs.declared.unserved.Referring.TheVariants.{Static, Lsb}
+use Rattle.fn_loss.specs.declared.uses.Referring.{Referring}
+use Rattle.fn_loss.specs.declared.uses.Referring.TheVariants.{Static, Lsb}
 use Rattle.fn_loss.specs.declared.unserved.Unserved.{Unserved}
 use Rattle.rohcfn_items.specs.declared.step.Step.{Step}
 
