@@ -5,10 +5,11 @@ import subprocess
 import sys
 import time
 
-ROOT = os.path.dirname(os.path.dirname(os.path.abspath(__file__)))
-PROGRAM = os.path.join(ROOT, "crates", "rohcfn", "out", "rohcfn")
+from tests.program import built
+
+PROGRAM = str(built())
 # answers rows on calls that no command shows
-ROWS = os.path.join(ROOT, "crates", "fn_rows", "out", "fn_rows")
+ROWS = str(built("fn_rows"))
 ROUNDS = 15
 MIB = 1024 * 1024
 

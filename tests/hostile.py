@@ -85,7 +85,8 @@ def files():
     yield "marks.fn", "(" * MIB
     yield "lines.fn", "\n" * MIB
     yield "statements.fn", "q { UNCOMPRESSED { %s} COMPRESSED { ! } }" % ("x [8]; " * 100)
-    yield "unknown.fn", "".join("m%d { UNCOMPRESSED { x [8]; } %s }\n" % (at, "".join("COMPRESSED f%d { %s }" % (number, "d =:= nix(%s); " % ("1+1" * 0 + "1" + "+1" * 90) * 1) for number in range(40))) for at in range(127))
+    calls = "".join("COMPRESSED f%d { d =:= nix(1%s); }" % (number, "+1" * 90) for number in range(40))
+    yield "unknown.fn", "".join("m%d { UNCOMPRESSED { x [8]; } %s }\n" % (at, calls) for at in range(127))
     yield "bidi.fn", "q { UNCOMPRESSED { x [8]; } \u202e\u2066\x1b[31m "
     yield BIDI, "q { } ;;\n"
 
@@ -141,9 +142,10 @@ def endless():
     """/dev/zero for each file, to the built program."""
     for name, call, status in (("PROFILE", "check /dev/zero", 1), ("--items", "pack p.fn --items /dev/zero", 1), ("--packets", "unpack p.fn --packets /dev/zero", 2), ("--events", "line p.fn --events /dev/zero", 1),
                                ("--octets", "line p.fn --octets /dev/zero", 2), ("--certificate", "check p.fn --certificate /dev/zero", 1), ("--from-context", "pack p.fn --item 24:014007 --from-context /dev/zero", 2)):
-        yield Row("/dev/zero as %s" % name, '"$0" ' + call, status, "bundle: I6 above 4 MiB\n" if status == 1 else "", "rohcfn: /dev/zero: it has more octets, and" if status == 2 else "", 2, 220, 1)
-        yield Row("/dev/zero as %s, on standard input" % name, '"$0" %s </dev/zero' % call.replace("/dev/zero", "-"), status, "bundle: I6 above 4 MiB\n" if status == 1 else "", "", 2, 220, 1) if status == 1 else \
-            Row("/dev/zero as %s, on standard input" % name, '"$0" %s </dev/zero' % call.replace("/dev/zero", "-"), status, "", "rohcfn: -: it has more octets, and", 2, 220, 1)
+        printed = "bundle: I6 above 4 MiB\n" if status == 1 else ""
+        yield Row("/dev/zero as %s" % name, '"$0" ' + call, status, printed, "" if printed else "rohcfn: /dev/zero: it has more octets, and", 2, 220, 1)
+        given = call.replace("/dev/zero", "-")
+        yield Row("/dev/zero as %s, on standard input" % name, '"$0" %s </dev/zero' % given, status, printed, "" if printed else "rohcfn: -: it has more octets, and", 2, 220, 1)
     yield Row("items of 4 MiB", '"$0" pack p.fn --items "long items"', 1, "bundle: I6 above 4 MiB\n", "")
     for name in ("powers", "products", "raised", "digits"):
         yield Row("%s.fn" % name, '"$0" check %s.fn' % name, 1, "profile:", "", 1, lines=1)
@@ -153,7 +155,8 @@ def endless():
 
 
 CALLS = {
-    "files": '"$0" pack p.fn --item 24:014007', "refused": '"$0" pack p.fn --item 24:024007', "usage": '"$0" pack p.fn', "own usage": '"$0" pack --tip', "no command": '"$0" fly', "help": '"$0" --help', "version": '"$0" --version',
+    "files": '"$0" pack p.fn --item 24:014007', "refused": '"$0" pack p.fn --item 24:024007', "usage": '"$0" pack p.fn', "own usage": '"$0" pack --tip',
+    "no command": '"$0" fly', "help": '"$0" --help', "version": '"$0" --version',
     "no file": '"$0" pack nowhere --item 24:014007', "bundle": '"$0" <bundle', "diagnosed": '"$0" pack p.fn --item 24:014007 --diagnose', "diagnosed usage": '"$0" show --diagnose',
 }
 # The status of each of these calls with a stream that is odd.
