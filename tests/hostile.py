@@ -116,13 +116,13 @@ def bounded():
     yield Row("a chain of powers", '"$0" check powers.fn', 7, "[check][--top][top]", "", 1)
     for name, said in (("powers", None), ("products", "products.fn: the fields of top's header have no constant lengths"), ("digits", "digits.fn: the fields of top's header have no constant lengths"),
                        ("raised", "raised.fn: the fields of top's header have no constant lengths"), ("many", "many.fn: top's header has 30000 bits, and --pcap cuts none of that length")):
-        yield Row("%s.fn" % name, '"$0" pack %s.fn --pcap one' % name, 7 if said is None else 2, None, said and "rohcfn: " + said, 1, lines=200 if said is None else 1)
+        yield Row("%s.fn" % name, '"$0" pack %s.fn --pcap one' % name, 7 if said is None else 2, None, said and "rohcfn: " + said, 2 if name == "many" else 1, lines=200 if said is None else 1)
     yield Row("leading zeros", '"$0" pack hex.fn --pcap one', 7, "64:0000abcd00010007\n", "")
     yield Row("20,000 brackets", '"$0" pack brackets.fn --pcap one', 7, "64:0000abcd00010007", "", 1)
     yield Row("a length in 20,000 brackets", '"$0" pack deep.fn --pcap one', 7, "64:0000abcd00010007\n", "", 1)
     yield Row("an asked field of 10^12 bits", '"$0" pack wide.fn --pcap one', 2, "", "rohcfn: --pcap can't infer msn: it has 1000000000000 bits, and no item says so many\n", 1)
     yield Row("an asked field of less than no bits", '"$0" pack negative.fn --pcap one', 2, "", "rohcfn: --pcap can't infer msn: it has -20 bits, and no item says so many\n", 1)
-    yield Row("30,000 fields without bits", '"$0" pack nothing.fn --pcap one', 7, "64:0000abcd00010007\n", "", 1)
+    yield Row("30,000 fields without bits", '"$0" pack nothing.fn --pcap one', 7, "64:0000abcd00010007\n", "", 2)
     yield Row("a flow of 5,000 digits", '"$0" pack esp.fn --pcap one --flow %s' % ("9" * 5000), 2, "", "rohcfn: one: choose one flow by --flow\nflow 0, 127.0.0.1 to 127.0.0.2, index 0000abcd: 1 headers\n", 1)
     yield Row("a flow of 5,000 zeros", '"$0" pack esp.fn --pcap one --flow %s' % ("0" * 5000), 7, "64:0000abcd00010007\n", "", 1)
     yield Row("--pcap /dev/zero", '"$0" pack esp.fn --pcap /dev/zero', 3, "", "rohcfn: /dev/zero: this is no capture of the classic pcap format\n", 1)
