@@ -111,6 +111,7 @@ def rows():
     yield "opt told", bundle("fields --top opt", OPT, context="ttl.field 8:40\n", packets="1:00\n"), told, 0, 2
     counted = "items 1 bits 9 mean 9.0\n  format  items  bits  mean\n  short   0      0     -\n  full    1      9     9.0\n    d     1      1     1.0\n    sn    1      8     8.0\n"
     yield "tick counted", bundle("stats --top tick", TICK, items="8:01\n9:0000\n"), counted + "item 2: F3 NoFormat\n", 0, 4
+    yield "tick packed for a loss", bundle("pack --robust 1 --top tick", TICK, items="8:01\n8:02\n"), "9:8080\n9:8100\n", 0, 4
     yield from lost()
     yield "seq packed", bundle("pack --top seq", SEQ, items="8:06 msn=8:03\n"), "4:30\n", 0, 1
     yield "seq unpacked", bundle("unpack --top seq", SEQ, packets="4:30\n"), "8:06 msn=8:03 took 4\n", 0, 1
