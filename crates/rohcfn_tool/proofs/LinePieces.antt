@@ -1,11 +1,11 @@
 -- What is heard of a line piece by piece.
-use Rattle.std.proofs.Common.{◌≡◌, ℕ, zero, suc, ◌+◌, ◌-◌, ◌<◌, ◌≤◌, List, [], ◌∷◌, ◌++◌, length, take, drop, refl, ap, sym, ◌∙◌, subst, append_assoc, arith}
+use Rattle.std.proofs.Common.{◌≡◌, ℕ, ◌+◌, ◌-◌, ◌<◌, ◌≤◌, List, [], ◌∷◌, ◌++◌, length, take, drop, refl, ap, sym, ◌∙◌, subst, append_assoc, arith}
 use Rattle.std.specs.Prelude.{Option, Some, None, codes, decimal}
 use Rattle.std.proofs.lemmas.List.{append-nil, length-drop, take-append-drop, take_all}
 use Rattle.fn_accepted.specs.Accepted.{Accepting}
-use Rattle.fn_line.specs.Lines.{Contexts, no_entries}
-use Rattle.fn_line.specs.Hearing.{BlamesOctet, Found, Heard, IsPart, nothing}
-use Rattle.fn_line.specs.States.{Receiving, Hears, HearsFirst, Stops, FailsIn, Fails, end_of}
+use Rattle.fn_line.specs.Lines.{no_entries}
+use Rattle.fn_line.specs.Hearing.{BlamesOctet, Found, Heard, nothing}
+use Rattle.fn_line.specs.States.{Receiving, Hears, HearsFirst, Stops, FailsIn, end_of}
 use Rattle.fn_line.specs.Runs.{IsReceived, IsCut, IsWhole}
 use Rattle.fn_line.specs.declared.fault.LineFault.{LineFault}
 use Rattle.fn_line.specs.declared.fault.LineFault.TheVariants.{FlowOctet, RefusedPacket, Padding, Ended, OutOfMemory}

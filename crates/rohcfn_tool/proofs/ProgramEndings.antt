@@ -39,18 +39,22 @@ use Rattle.rohcfn_words.specs.declared.words.Direction.TheVariants.{Pack, Unpack
 use Rattle.rohcfn_words.specs.declared.words.End.{End}
 use Rattle.rohcfn_words.specs.declared.words.End.TheVariants.{Sending, Receiving}
 use Rattle.rohcfn_words.specs.declared.words.Order.{Order}
-use Rattle.rohcfn_tool.specs.Printed.{Prints, PrintsInput, AnsweredIn, AnsweredFor, AnsweredBy, AnsweredRun, Answered, StatsBy, SurveyBy, StatsIn, StatsFor, StatsWith, Stated, SaysItem, FaultsItem, stop_of, SaysPacket, FaultsPacket}
+use Rattle.rohcfn_tool.specs.Printed.{Prints, PrintsInput, AnsweredIn, AnsweredFor, AnsweredBy, AnsweredRun, Answered, SentBy, StatsBy, SurveyBy, StatsIn, StatsFor, StatsWith, Stated, SaysItem, FaultsItem, stop_of, SaysPacket, FaultsPacket}
 use Rattle.rohcfn_tool.specs.Printed.Prints.{done as prints_done, fault as prints_fault, line as prints_line}
 use Rattle.rohcfn_tool.specs.Printed.AnsweredIn.{answered as answered_in_answered, bad_line as answered_in_bad_line}
 use Rattle.rohcfn_tool.specs.Printed.AnsweredFor.{bad_context as answered_for_bad_context, from_context as answered_for_from_context}
 use Rattle.rohcfn_tool.specs.Printed.AnsweredBy.{by_profile as answered_by_by_profile, unaccepted as answered_by_unaccepted}
 use Rattle.rohcfn_tool.specs.Printed.AnsweredRun.{both as answered_run_both, no_input as answered_run_no_input}
-use Rattle.rohcfn_tool.specs.Printed.Answered.{check_explained as answers_check_explained, checked as answers_checked, drawn as answers_drawn, lined as answers_lined, linted as answers_linted, no_profile as answers_no_profile, prove_explained as answers_prove_explained, proved as answers_proved, ran as answers_ran, shown as answers_shown, told as answers_told, explained as answers_explained, stated as answers_stated, lost_told as answers_lost_told}
+use Rattle.rohcfn_tool.specs.Printed.Answered.{check_explained as answers_check_explained, checked as answers_checked, drawn as answers_drawn, lined as answers_lined, linted as answers_linted, no_profile as answers_no_profile, prove_explained as answers_prove_explained, proved as answers_proved, ran as answers_ran, shown as answers_shown, told as answers_told, explained as answers_explained, stated as answers_stated, lost_told as answers_lost_told, robust_packed as answers_robust_packed, robust_stated as answers_robust_stated, robust_told as answers_robust_told}
 use Rattle.rohcfn_tool.specs.declared.stats.Survey.{Survey}
 use Rattle.rohcfn_tool.specs.declared.stats.Survey.TheVariants as survey
 use Rattle.rohcfn_tool.specs.Loss.{LossBy}
 use Rattle.rohcfn_tool.specs.Loss.LossBy.{losses_told as loss_by_told, item_refused as loss_by_refused}
+use Rattle.rohcfn_tool.specs.Printed.SentBy.{all_sent as sent_by_all, one_refused as sent_by_refused, one_sent as sent_by_one}
 use Rattle.rohcfn_tool.specs.Printed.StatsBy.{counted_by as stats_by_counted}
+use Rattle.rohcfn_tool.specs.Senders.{surviving}
+use Rattle.rohcfn_tool.specs.declared.sender.Sender.{Sender}
+use Rattle.rohcfn_tool.specs.declared.sender.Sender.TheVariants.{Plain}
 use Rattle.rohcfn_tool.specs.Printed.StatsIn.{bad_item as stats_in_bad_item, items_counted as stats_in_counted}
 use Rattle.rohcfn_tool.specs.Printed.StatsFor.{bad_entry as stats_for_bad_entry, from_entries as stats_for_from_entries}
 use Rattle.rohcfn_tool.specs.Printed.StatsWith.{stats_accepted as stats_with_accepted, stats_refused as stats_with_refused}
@@ -137,16 +141,24 @@ lined_ends : (end : End) (order : Order) (profile : List ℕ) (parts : Parts) (s
 lined_ends end order profile parts _ _ (lined_no_part is) = tt
 lined_ends end order profile parts s output (lined_by_part given is h) = lined_by_ends end (line_version order.is_wide) order.top.now profile (origin_of order.version parts.certificate) given.now s output h
 
-stats_by_ends : (a : Accepting) (ctx : Entries) (items : List Item) (s : Status) (output : List ℕ) → StatsBy a ctx items s output → MayPrint s
-stats_by_ends a ctx items _ _ (stats_by_counted fs refused packs) = tt
+stats_by_ends : (a : Accepting) (who : Sender) (items : List Item) (s : Status) (output : List ℕ) → StatsBy a who items s output → MayPrint s
+stats_by_ends a who items _ _ (stats_by_counted fs refused packs) = tt
 
-loss_by_ends : (most : ℕ) (a : Accepting) (ctx : Entries) (items : List Item) (s : Status) (output : List ℕ) → LossBy most a ctx items s output → MayPrint s
-loss_by_ends most a ctx items _ _ (loss_by_told fs es j sent journal) = tt
-loss_by_ends most a ctx items _ _ (loss_by_refused text h) = tt
+loss_by_ends : (most : ℕ) (a : Accepting) (who : Sender) (items : List Item) (s : Status) (output : List ℕ) → LossBy most a who items s output → MayPrint s
+loss_by_ends most a who items _ _ (loss_by_told fs es j sent journal) = tt
+loss_by_ends most a who items _ _ (loss_by_refused text h) = tt
+
+sent_by_ends : (shows : Bool) (a : Accepting) {who : Sender} {n : ℕ} {items : List Item} {s : Status} {output : List ℕ} → SentBy shows a who n items s output → MayPrint s
+sent_by_ends shows a (sent_by_all is) = tt
+sent_by_ends shows a (sent_by_one p after text rest sent is more) = sent_by_ends shows a more
+sent_by_ends shows a (sent_by_refused text h) = tt
 
 survey_ends : (what : Survey) (a : Accepting) (ctx : Entries) (items : List Item) (s : Status) (output : List ℕ) → SurveyBy what a ctx items s output → MayPrint s
-survey_ends survey.Stats a ctx items s output h = stats_by_ends a ctx items s output h
-survey_ends (survey.Loss most) a ctx items s output h = loss_by_ends most a ctx items s output h
+survey_ends survey.Stats a ctx items s output h = stats_by_ends a (Plain ctx) items s output h
+survey_ends (survey.Loss most) a ctx items s output h = loss_by_ends most a (Plain ctx) items s output h
+survey_ends (survey.RobustPack shows lost) a ctx items s output h = sent_by_ends shows a h
+survey_ends (survey.RobustStats lost) a ctx items s output h = stats_by_ends a (surviving ctx lost) items s output h
+survey_ends (survey.RobustLoss most lost) a ctx items s output h = loss_by_ends most a (surviving ctx lost) items s output h
 
 stats_in_ends : (what : Survey) (a : Accepting) (ctx : Entries) (octets : List ℕ) (s : Status) (output : List ℕ) → StatsIn what a ctx octets s output → MayPrint s
 stats_in_ends what a ctx octets _ _ (stats_in_bad_item n h) = tt
@@ -192,8 +204,8 @@ proved_ends : (order : Order) (octets : List ℕ) (s : Status) (output : List �
 proved_ends order octets _ _ (proved_octets_none_proved text h) = tt
 proved_ends order octets s output (proved_octets_proved_by p reads h) = proved_by_ends order p s output h
 
-explained_ends : (Plain : Status → List ℕ → Type 0) → ((s : Status) (output : List ℕ) → Plain s output → MayPrint s) → (s : Status) (output : List ℕ) → Explained Plain s output → MayPrint s
-explained_ends Plain ends s _ (explained_plain {output = plain} notes h) = ends s plain h
+explained_ends : (Bare : Status → List ℕ → Type 0) → ((s : Status) (output : List ℕ) → Bare s output → MayPrint s) → (s : Status) (output : List ℕ) → Explained Bare s output → MayPrint s
+explained_ends Bare ends s _ (explained_plain {output = plain} notes h) = ends s plain h
 
 answer_ends : (order : Order) (parts : Parts) (s : Status) (output : List ℕ) → Answered order parts s output → MayPrint s
 answer_ends order parts _ _ (answers_no_profile is) = tt
@@ -211,6 +223,9 @@ answer_ends order parts s output (answers_explained profile direction is asks h)
 answer_ends order parts s output (answers_lined profile end is asks h) = lined_ends end order profile.now parts s output h
 answer_ends order parts s output (answers_stated profile is asks h) = stated_ends survey.Stats order profile.now parts s output h
 answer_ends order parts s output (answers_lost_told profile most is asks h) = stated_ends (survey.Loss most) order profile.now parts s output h
+answer_ends order parts s output (answers_robust_packed profile lost is asks h) = stated_ends (survey.RobustPack order.shows_context lost) order profile.now parts s output h
+answer_ends order parts s output (answers_robust_stated profile lost is asks h) = stated_ends (survey.RobustStats lost) order profile.now parts s output h
+answer_ends order parts s output (answers_robust_told profile most lost is asks h) = stated_ends (survey.RobustLoss most lost) order profile.now parts s output h
 
 print_ends : (given : List (List ℕ)) (input : List ℕ) (s : Status) (output : List ℕ) → RunPrints given input s output → MayPrint s
 print_ends given input _ _ (run_prints_large h) = tt
