@@ -8,21 +8,14 @@ import subprocess
 import sys
 import tempfile
 
+from .counting import Checks
 from .program import EXAMPLES, built
 
 BUNDLE = (EXAMPLES / "plain.bundle").read_bytes()
 PARTS = BUNDLE.split(b"\n", 2)[2]
 PACKED = (EXAMPLES / "plain.expected").read_bytes()
 
-passed, failed = 0, 0
-
-
-def check(name, holds, seen):
-    """Counts a check, and names one that fails."""
-    global passed, failed
-    passed, failed = passed + bool(holds), failed + (not holds)
-    if not holds:
-        print("ends: %s: %.300r" % (name, seen))
+check = Checks("ends")
 
 
 def call(program, *words, name=None, given=BUNDLE, out=subprocess.PIPE, said=subprocess.PIPE):
@@ -87,8 +80,7 @@ def numbers(program):
 def main():
     for trial in (words_of_octets, full, escapes, numbers):
         trial(built())
-    print("ends: %d passed, %d failed" % (passed, failed))
-    return 1 if failed or not passed else 0
+    return check.status()
 
 
 if __name__ == "__main__":

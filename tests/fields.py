@@ -8,6 +8,7 @@ import sys
 from examples import headers
 from front import notation
 from . import program, roundtrip
+from .counting import count_calls
 from .roundtrip import line_of, text
 
 MOST = 60  # items of a small profile in one run
@@ -186,13 +187,7 @@ def large():
 
 
 def main():
-    passed = failed = 0
-    for name, is_right, count in [*small(random.Random(4997)), *large()]:
-        passed, failed = passed + count * is_right, failed + (not is_right)
-        if not is_right:
-            print("fields: %s: wrong" % name)
-    print("fields: %d lines and headers passed, %d calls failed" % (passed, failed))
-    sys.exit(1 if failed or not passed else 0)
+    sys.exit(count_calls("fields", "lines and headers", [*small(random.Random(4997)), *large()]))
 
 
 if __name__ == "__main__":

@@ -15,11 +15,11 @@ import struct
 import subprocess
 import sys
 import tempfile
-import threading
 
 from examples import headers
 from front import commands, diagnosis, grammar
 from . import cases
+from .counting import Checks
 from .program import EXAMPLES, ROOT, built
 
 TOLD = '#!/bin/sh\nprintf "[%s]" "$@"\necho\ncat\nexit 7\n'
@@ -36,16 +36,7 @@ FILES = {
     "events": "reset 0",
 }
 
-passed, failed, counting = 0, 0, threading.Lock()
-
-
-def check(name, holds, seen=None):
-    """Counts a check, and names one that fails."""
-    global passed, failed
-    with counting:
-        passed, failed = passed + bool(holds), failed + (not holds)
-    if not holds:
-        print("front: %s%s" % (name, "" if seen is None else ": %.300r" % (seen,)))
+check = Checks("front")
 
 
 class Place:
@@ -582,8 +573,7 @@ def main():
         done = [pool.submit(trial, place) for (trial, _), place in zip(trials, places)]
         for it in done:
             it.result()
-    print("front: %d passed, %d failed" % (passed, failed))
-    return 1 if failed or not passed else 0
+    return check.status()
 
 
 if __name__ == "__main__":

@@ -11,6 +11,7 @@ import sys
 import tempfile
 
 from front import commands, manual
+from .counting import Checks
 from .program import ROOT
 
 PAGE, BASH, ZSH = (ROOT / it for it in ("man/rohcfn.1", "completion/rohcfn.bash", "completion/_rohcfn"))
@@ -30,15 +31,7 @@ while (($# > 0)); do
 done"""
 PLACED = {"man/man1/rohcfn.1": PAGE, "bash-completion/completions/rohcfn": BASH, "zsh/site-functions/_rohcfn": ZSH}
 
-passed, failed = 0, 0
-
-
-def check(name, holds, seen=None):
-    """Counts a check, and names one that fails."""
-    global passed, failed
-    passed, failed = passed + bool(holds), failed + (not holds)
-    if not holds:
-        print("manual: %s%s" % (name, "" if seen is None else ": %.300r" % (seen,)))
+check = Checks("manual")
 
 
 def stored():
@@ -167,8 +160,7 @@ def main():
             (folder / it).touch()
         in_bash(folder)
         in_place(pathlib.Path(name))
-    print("manual: %d passed, %d failed" % (passed, failed))
-    return 1 if failed or not passed else 0
+    return check.status()
 
 
 if __name__ == "__main__":

@@ -5,6 +5,7 @@ import sys
 
 from examples import headers
 from . import fields, roundtrip
+from .counting import count_calls
 from .program import EXAMPLES
 
 MOST = 24  # items of a small profile in one run
@@ -87,14 +88,8 @@ def large(draw):
 
 
 def main():
-    passed = failed = 0
     draw = random.Random(4997)
-    for name, is_right, count in [*small(draw), *large(draw)]:
-        passed, failed = passed + count * is_right, failed + (not is_right)
-        if not is_right:
-            print("stats: %s: wrong" % name)
-    print("stats: %d items passed, %d calls failed" % (passed, failed))
-    sys.exit(1 if failed or not passed else 0)
+    sys.exit(count_calls("stats", "items", [*small(draw), *large(draw)]))
 
 
 if __name__ == "__main__":
