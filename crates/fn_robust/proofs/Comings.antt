@@ -16,7 +16,8 @@ use Rattle.fn_fits.proofs.Each.{Before, before_end, before_next}
 use Rattle.fn_elsewhere.specs.Held.{Holding, IsHeld}
 use Rattle.fn_elsewhere.proofs.Agreeing.{agree_after}
 use Rattle.fn_elsewhere.proofs.Pathing.{has-reverse}
-use Rattle.fn_robust.specs.Sending.{AreApart, AreSame, CameOf, HasCome, HaveCome, HoldsOutside, IsAmong, IsSamePair, SameOutside}
+use Rattle.fn_engine.specs.Laws.{AreSame}
+use Rattle.fn_robust.specs.Sending.{AreApart, CameOf, HasCome, HaveCome, HoldsOutside, IsAmong, IsSamePair, SameOutside}
 use Rattle.fn_robust.proofs.Staying.{alone, apart_joined, at_either, at_left, at_right, past}
 
 -- ---- paths and places

@@ -14,6 +14,7 @@ use Rattle.fn_elsewhere.specs.Robust.{ComesThrough, all_over, comes, is_lost}
 use Rattle.fn_elsewhere.specs.Runs.{Survives, all_survive, survives}
 use Rattle.fn_elsewhere.proofs.Agreeing.{repaired}
 use Rattle.fn_elsewhere.proofs.Holdings.{held_as}
+use Rattle.fn_engine.specs.Laws.{AreSame}
 use Rattle.fn_engine.specs.declared.search.Packed.{Packed}
 use Rattle.fn_engine.specs.declared.writer.PackFault.{PackFault}
 use Rattle.fn_engine.specs.Reading.{Fitting}
@@ -21,7 +22,7 @@ use Rattle.fn_engine.specs.Writing as writing
 use Rattle.fn_loss.proofs.Losing.{read_back}
 use Rattle.fn_robust.specs.declared.sender.RobustFault.{RobustFault}
 use Rattle.fn_robust.specs.declared.sender.RobustFault.TheVariants as fault
-use Rattle.fn_robust.specs.Sending.{AreApart, AreHeldAfter, AreSame, ComesFrom, Sending, held, was_lost, was_read}
+use Rattle.fn_robust.specs.Sending.{AreApart, AreHeldAfter, ComesFrom, Sending, held, was_lost, was_read}
 use Rattle.fn_robust.specs.Answers.{Blames, FitsEach, IsBest, IsSent}
 use Rattle.fn_robust.specs.Laws.{Packs, packs_none, packs, after, fillings, LossDoesNoHarm, AsPack}
 

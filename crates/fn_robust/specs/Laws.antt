@@ -12,10 +12,11 @@ use Rattle.fn_engine.specs.Writing as writing
 use Rattle.fn_elsewhere.specs.Held.{IsHeld}
 use Rattle.fn_elsewhere.specs.Robust.{ComesThrough}
 use Rattle.fn_elsewhere.specs.Runs.{Arrives}
+use Rattle.fn_engine.specs.Laws.{AreSame}
 use Rattle.fn_loss.specs.Losses.{AreReadBack}
 use Rattle.fn_robust.specs.declared.sender.RobustFault.{RobustFault}
 use Rattle.fn_robust.specs.declared.sender.RobustFault.TheVariants as fault
-use Rattle.fn_robust.specs.Sending.{AreSame, Sending, held}
+use Rattle.fn_robust.specs.Sending.{Sending, held}
 use Rattle.fn_robust.specs.Answers.{IsSent, Blames}
 
 -- what the sender packed of items, one after the other

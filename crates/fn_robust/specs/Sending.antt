@@ -5,6 +5,7 @@ use Rattle.fn_context.specs.Entries.{Entries, bits_at}
 use Rattle.fn_filling.specs.declared.filling.Filling.{Filling}
 use Rattle.fn_filling.specs.Entries.{next}
 use Rattle.fn_elsewhere.specs.Held.{Holding, IsHeld, GoOn}
+use Rattle.fn_engine.specs.Laws.{AreSame}
 
 -- a sender: its own context, the others that a receiver may hold, and how many packets in a row may be lost
 pub record Sending : Type 0 where
@@ -15,10 +16,6 @@ pub record Sending : Type 0 where
 -- all that a receiver may hold: the sender's own context where nothing was lost right before, and the others
 abbrev pub held : Sending → List Holding
 held s = record { gap = 0; context = s.own } ∷ s.others
-
--- the contexts are the same as maps
-abbrev pub AreSame : Entries → Entries → Type 0
-AreSame ctx other = (path : List ℕ) → bits_at ctx path ≡ bits_at other path
 
 -- two are one where as many packets right before were lost and the contexts are the same map
 abbrev pub IsSamePair : Holding → Holding → Type 0

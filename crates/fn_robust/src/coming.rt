@@ -38,6 +38,9 @@ pub(crate) fn others_of(
     requires { spec.HasCome filling.now first.now }
     ensures { IfOk result (λ v. spec.HaveCome first.now held.now filling.now v.items) }
 {
+    if held.is_empty() {
+        return Ok(Vec::new(alloc));
+    }
     let left = filling.entries(alloc)?;
     let mut found = Vec::new(alloc);
     for i in 0..held.len() {

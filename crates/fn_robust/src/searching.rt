@@ -72,6 +72,9 @@ fn fits_each(
     ensures { IfOk result (λ b. IsTrue b ↔ spec.FitsEach accepted.now others.now filling.now) }
 {
     let _ = own;
+    if others.is_empty() {
+        return Ok(true);
+    }
     let uses = uses_of(alloc, accepted, filling)?;
     for i in 0..others.len() {
         let other = &others[i];
