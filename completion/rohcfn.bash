@@ -56,7 +56,7 @@ _rohcfn() {
     pack) options='--top --v2 --context --robust --help --item --items --from-context --certificate --pcap --flow --diagnose' ;;
     unpack) options='--top --v2 --context --help --packet --packets --from-context --certificate --diagnose' ;;
     fields) options='--top --v2 --context --help --items --item --packet --packets --from-context --certificate --pcap --flow --diagnose' ;;
-    why) options='--top --v2 --context --help --items --item --packet --packets --from-context --certificate --pcap --flow --diagnose' ;;
+    why) options='--top --v2 --context --robust --help --items --item --packet --packets --from-context --certificate --pcap --flow --diagnose' ;;
     stats) options='--top --v2 --robust --help --item --items --from-context --certificate --pcap --flow --diagnose' ;;
     loss) options='--top --v2 --robust --help --lost --item --items --from-context --certificate --pcap --flow --diagnose' ;;
     show) options='--top --help --diagnose' ;;

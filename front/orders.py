@@ -94,6 +94,8 @@ def judge(order):
             raise Usage("invalid value '%s' for '%s <N>': a number from 0 to 63 is needed" % (shown(order.get(name)), option(name)))
     if order.takes_bundle():
         return
+    if order.command == "why" and order.has("robust") and any(map(order.has, READ)):
+        raise Usage("--robust goes with items: packets are read and not sent")
     if order.profile is None:
         raise Usage("the file of a profile is needed")
     judge_parts(order)

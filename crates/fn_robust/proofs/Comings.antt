@@ -17,7 +17,7 @@ use Rattle.fn_elsewhere.specs.Held.{Holding, IsHeld}
 use Rattle.fn_elsewhere.proofs.Agreeing.{agree_after}
 use Rattle.fn_elsewhere.proofs.Pathing.{has-reverse}
 use Rattle.fn_engine.specs.Laws.{AreSame}
-use Rattle.fn_robust.specs.Sending.{AreApart, CameOf, HasCome, HaveCome, HoldsOutside, IsAmong, IsSamePair, SameOutside}
+use Rattle.fn_robust.specs.Sending.{AreApart, CameOf, HaveCome, HoldsOutside, IsAmong, IsCovered, IsSamePair, SameOutside}
 use Rattle.fn_robust.proofs.Staying.{alone, apart_joined, at_either, at_left, at_right, past}
 
 -- ---- paths and places
@@ -103,7 +103,30 @@ one_way left one other same path none some = same path none
 pub other_way : (left one other : Entries) → SameOutside left one other → HoldsOutside left other one
 other_way left one other same path none some = sym (same path none)
 
+-- ---- where all paths are left
+
+abbrev pub CoveredTo : Entries → Entries → ℕ → Type 0
+CoveredTo left one n = Before (λ i path. IsSome (bits_at left path)) (keys_of one) n
+
+pub covered_all : (left one : Entries) (n : ℕ) → length one ≤ n → CoveredTo left one n → IsCovered left one
+covered_all left one n all so_far path none =
+    none_is (bits_at one path) (λ some.
+    let r = place_of_some one path some in
+    let there : IsSome (bits_at left path) = before_end (λ i q. IsSome (bits_at left q)) (keys_of one) n (omega (arith, all, length-keys one)) so_far r.0 path r.1 in
+    absurd (false≢true (sym (ap is_some none) ∙ there)))
+
+-- then the same is what holds in the other way
+pub covered_holds : (left one other : Entries) → IsCovered left one → HoldsOutside left one other
+covered_holds left one other covered path none some = absurd (false≢true (sym (ap is_some (covered path none)) ∙ some))
+
 -- ---- after a filling
+
+-- outside of what is left nothing changes
+pub unchanged : (f : Filling) (own : Entries) (path : Path) → bits_at (entries f) path ≡ None → bits_at (next own f) path ≡ bits_at own path
+unchanged f own path none = overridden-value own (entries f) path ∙ ap (λ o. option_or o (bits_at own path)) (none_reversed (entries f) path none)
+
+same_past : (f : Filling) (own other : Entries) → SameOutside (entries f) own other → SameOutside (entries f) (next own f) other
+same_past f own other same path none = unchanged f own path none ∙ same path none
 
 -- what came of one context is what comes of another that is the same outside
 pub same_after : (f : Filling) (before other : Entries) → SameOutside (entries f) (next before f) other → AreSame (next before f) (next other f)
@@ -142,13 +165,13 @@ module _ (first : Entries) (before : List Holding) (f : Filling) (n : ℕ) (foun
   held_by : IsHeld (record { gap = 0; context = first } ∷ found) 0 (next h.context f) → ComeTo first before f (n + 1) found
   held_by is = record { all = before_next (λ i g. IsHeld (record { gap = 0; context = first } ∷ found) 0 (next g.context f)) before n h at is c.all; only = c.only; once = c.once }
 
-  pub as_first : HasCome f first → SameOutside (entries f) first h.context → ComeTo first before f (n + 1) found
-  as_first came same = held_by (record {
+  pub as_first : (own : Entries) → first ≡ next own f → SameOutside (entries f) own h.context → ComeTo first before f (n + 1) found
+  as_first own first_is same = held_by (record {
     place = 0;
     one = record { gap = 0; context = first };
     at = refl;
     gap_is = refl;
-    same = subst (λ z. AreSame z (next h.context f)) (sym came.context_is) (same_after f came.before h.context (subst (λ z. SameOutside (entries f) z h.context) came.context_is same));
+    same = subst (λ z. AreSame z (next h.context f)) (sym first_is) (same_after f own h.context (same_past f own h.context same));
   })
 
   pub as_found : IsAmong (entries f) found h.context → ComeTo first before f (n + 1) found
@@ -203,15 +226,17 @@ module _ (first : Entries) (before : List Holding) (f : Filling) (n : ℕ) (foun
   -- ---- the same as the code has it
 
   module _ (left : Entries) (others : List Holding) (context : Entries) (left_is : left ≡ entries f) (others_are : others ≡ found) (context_is : context ≡ h.context) where
-    pub known_step : HasCome f first → (SameOutside left first context ⊎ IsAmong left others context) → ComeTo first before f (n + 1) found
-    known_step came known =
+    pub known_step : (own : Entries) → first ≡ next own f → (SameOutside left own context ⊎ IsAmong left others context) → ComeTo first before f (n + 1) found
+    known_step own first_is known =
         elim known [
-          | inl same ↦ as_first came (subst (λ z. SameOutside z first h.context) left_is (subst (λ z. SameOutside left first z) context_is same))
+          | inl same ↦ as_first own first_is (subst (λ z. SameOutside z own h.context) left_is (subst (λ z. SameOutside left own z) context_is same))
           | inr among ↦ as_found (subst (λ z. IsAmong z found h.context) left_is (subst (λ z. IsAmong left z h.context) others_are (subst (λ z. IsAmong left others z) context_is among)))
         ]
 
-    pub new_step : (new : Entries) → new ≡ next context f → ((SameOutside left first context ⊎ IsAmong left others context) → ⊥) → ComeTo first before f (n + 1) (found ++ record { gap = 0; context = new } ∷ [])
-    new_step new new_is unknown =
+    pub new_step : (own : Entries) → first ≡ next own f → (new : Entries) → new ≡ next context f → ((SameOutside left own context ⊎ IsAmong left others context) → ⊥) → ComeTo first before f (n + 1) (found ++ record { gap = 0; context = new } ∷ [])
+    new_step own first_is new new_is unknown =
         as_new new (new_is ∙ ap (λ z. next z f) context_is)
-        (λ same. unknown (inl (subst (λ z. SameOutside left first z) (sym context_is) (subst (λ z. SameOutside z first h.context) (sym left_is) same))))
+        (λ same.
+        let as_own : SameOutside (entries f) own h.context = λ path none. sym (unchanged f own path none) ∙ sym (ap (λ z. bits_at z path) first_is) ∙ same path none in
+        unknown (inl (subst (λ z. SameOutside left own z) (sym context_is) (subst (λ z. SameOutside z own h.context) (sym left_is) as_own))))
         (λ among. unknown (inr (subst (λ z. IsAmong left others z) (sym context_is) (subst (λ z. IsAmong left z h.context) (sym others_are) (subst (λ z. IsAmong z found h.context) (sym left_is) among)))))

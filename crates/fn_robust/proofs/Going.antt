@@ -1,5 +1,5 @@
 -- What is held after a filling.
-use Rattle.std.proofs.Common.{◌≡◌, ◌∙◌, refl, sym, ap, subst, ℕ, zero, suc, ◌+◌, ◌<◌, inl, inr, List, ◌∷◌, ◌++◌, length, arith}
+use Rattle.std.proofs.Common.{◌≡◌, ◌∙◌, refl, sym, ap, subst, ℕ, zero, suc, ◌+◌, ◌<◌, inl, inr, List, [], ◌∷◌, ◌++◌, length, arith}
 use Rattle.std.proofs.lemmas.List.{length-append}
 use Rattle.std.specs.Prelude.{Some, slice_get}
 use Rattle.fn_context.specs.Entries.{Entries, bits_at}
@@ -7,7 +7,9 @@ use Rattle.fn_filling.specs.declared.filling.Filling.{Filling}
 use Rattle.fn_filling.specs.Entries.{next}
 use Rattle.fn_elsewhere.specs.Held.{Holding, IsHeld}
 use Rattle.fn_robust.specs.Sending.{AreHeldAfter, ComesFrom, HaveCome, IsSamePair, Sending, held, stayed, was_lost, was_read}
-use Rattle.fn_robust.specs.Answers.{GoesOn, HasTooMany, pair_limit}
+use Rattle.fn_robust.specs.Answers.{GoesOn, HasTooMany, SparesOldest, pair_limit}
+use Rattle.fn_robust.proofs.Comings.{come_all, come_none}
+use Rattle.fn_robust.proofs.Sparing.{nothing_spared}
 use Rattle.fn_robust.proofs.Staying.{apart_joined, apart_stayed, at_either, at_left, at_right, past, stays_from, stays_there}
 
 some_same : {A : Type 0} {x y : A} → Some x ≡ Some y → x ≡ y
@@ -73,7 +75,21 @@ module _ (s : Sending) (f : Filling) (own : Entries) (own_is : own ≡ next s.ow
     pub too_many : pair_limit < 1 + (count + kept) → HasTooMany s f
     too_many many = record { after = after; held_are = held_after; many = let l = all_of in omega (arith, many, l) }
 
-    pub gone_on : (pair_limit < 1 + (count + kept) → ⊥) → (came_now : List Holding) → came_now ≡ found → (new : Sending) → new ≡ record { own = own; others = came_now ++ stayed s.lost (held s); lost = s.lost } → GoesOn s f new
-    gone_on few came_now same new new_is =
-        let is : new ≡ record { own = own; others = found ++ stayed s.lost (held s); lost = s.lost } = new_is ∙ ap (λ xs. record { own = own; others = xs ++ stayed s.lost (held s); lost = s.lost }) same in
+    pub gone_on : (pair_limit < 1 + (count + kept) → ⊥) → (came_now : List Holding) → came_now ≡ found → (spared : Sending) → SparesOldest s spared → (new : Sending) → new ≡ record { own = own; others = came_now ++ stayed spared.lost (held spared); lost = spared.lost } → GoesOn s f new
+    gone_on few came_now same spared sp new new_is =
+        let is : new ≡ record { own = own; others = found ++ stayed s.lost (held s); lost = s.lost } =
+        new_is ∙ ap (λ xs. record { own = own; others = xs ++ stayed spared.lost (held spared); lost = spared.lost }) same
+        ∙ ap (λ xs. record { own = own; others = found ++ xs; lost = spared.lost }) sp.staying ∙ ap (λ n. record { own = own; others = found ++ stayed s.lost (held s); lost = n }) sp.lost_is in
         subst (GoesOn s f) (sym is) (record { own_is = own_is; lost_is = refl; held_are = held_after; few = let l = all_of in omega (arith, few, l) })
+
+-- where nothing may be lost and nothing else is held, the own context goes on
+pub gone_alone : (s : Sending) (f : Filling) → s.others ≡ [] → s.lost ≡ 0 → (new : Sending) → new ≡ record { own = next s.own f; others = s.others; lost = s.lost } → GoesOn s f new
+gone_alone s f alone none new new_is =
+    let start : Sending = record { own = s.own; others = []; lost = 0 } in
+    let s_is : s ≡ start = ap (λ xs. record { own = s.own; others = xs; lost = s.lost }) alone ∙ ap (λ n. record { own = s.own; others = []; lost = n }) none in
+    let came = come_all (next s.own f) [] f 0 [] (omega arith) (come_none (next s.own f) [] f) in
+    let is : new ≡ record { own = next s.own f; others = []; lost = 0 } =
+    new_is ∙ ap (λ (z : Sending). record { own = next z.own f; others = z.others; lost = z.lost }) s_is in
+    subst (λ z. GoesOn z f new) (sym s_is)
+    (subst (GoesOn start f) (sym is)
+    (gone_on start f (next s.own f) refl [] came 0 0 refl refl (λ many. omega (arith, many)) [] refl start (nothing_spared start) _ refl))

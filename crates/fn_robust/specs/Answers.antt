@@ -1,5 +1,5 @@
 -- What the robust sender answers (docs/DEFINITIONS.md, Losses).
-use Rattle.std.specs.Prelude.{◌≡◌, ℕ, suc, zero, ◌<◌, ◌≤◌, List, Some, length, slice_get}
+use Rattle.std.specs.Prelude.{◌≡◌, ℕ, ◌-◌, ◌<◌, ◌≤◌, List, Some, length, option_map, slice_get, unwrap_or}
 use Rattle.fn_context.specs.Entries.{Entries}
 use Rattle.fn_candidates.specs.Best.{IsUpTo}
 use Rattle.fn_candidates.specs.Codes.{code}
@@ -17,7 +17,7 @@ use Rattle.fn_engine.specs.Writing as writing
 use Rattle.fn_engine.specs.Writing.{IsWritable}
 use Rattle.fn_robust.specs.declared.sender.RobustFault.{RobustFault}
 use Rattle.fn_robust.specs.declared.sender.RobustFault.TheVariants as fault
-use Rattle.fn_robust.specs.Sending.{AreHeldAfter, Sending, held}
+use Rattle.fn_robust.specs.Sending.{AreHeldAfter, HasJust, Sending, held, stayed}
 
 abbrev pub pair_limit : ℕ
 pair_limit = 256
@@ -25,6 +25,10 @@ pair_limit = 256
 -- the filling fits in each of the contexts
 abbrev pub FitsEach : Accepting → List Holding → Filling → Type 0
 FitsEach a hs f = (i : ℕ) (h : Holding) → slice_get hs i ≡ Some h → Fitting a h.context f
+
+-- it fits in the own context, too
+abbrev pub FitsAll : Accepting → Entries → List Holding → Filling → Type 0
+FitsAll a own others f = Fitting a own f × FitsEach a others f
 
 -- The filling fits in the own context and in each of the others, and has the item; and what does, and does not come later, is the filling itself.
 pub record IsBest (a : Accepting) (own : Entries) (others : List Holding) (it : Item) (f : Filling) : Type 0 where
@@ -38,6 +42,10 @@ pub record IsBestFor (a : Accepting) (own : Entries) (others : List Holding) (it
   pub writable : IsWritable a it
   pub best : IsBest a own others it p.filling
   pub packed_is : p.packed ≡ packed p.filling
+
+-- a filling that fits in the context has the item
+abbrev pub IsPackable : Accepting → Entries → Item → Type 0
+IsPackable a own it = (f : Filling) × Fitting a own f × (item f ≡ it)
 
 -- A filling that fits in the own context has the item, and none that fits in all does.
 pub record HasNoReach (a : Accepting) (own : Entries) (others : List Holding) (it : Item) : Type 0 where
@@ -53,11 +61,16 @@ LacksReach (fault.Pack e) a own others it = writing.Blames e a own it
 LacksReach fault.NoReach a own others it = HasNoReach a own others it
 LacksReach fault.Contexts a own others it = ⊥
 
--- what a fault of `pack` is, where all numbers from this one on were asked
-abbrev pub refusal : PackFault → ℕ → RobustFault
-refusal pack.NoFormat zero = fault.Pack pack.NoFormat
-refusal pack.NoFormat (suc n) = fault.NoReach
-refusal e n = fault.Pack e
+-- the context of the last of the others, or the own one where there is none
+abbrev pub last_of : Entries → List Holding → Entries
+last_of own others = unwrap_or (option_map (λ h. h.context) (slice_get others (length others - 1))) own
+
+-- a fault of `pack` in one context, in the place of that in the own one: where no filling fits there, some fits in the own one, or why none does
+abbrev pub IsRefusal : PackFault → Accepting → Entries → Item → RobustFault → Type 0
+IsRefusal pack.NoFormat a own it fault.NoReach = IsPackable a own it
+IsRefusal pack.NoFormat a own it (fault.Pack e) = writing.Blames e a own it
+IsRefusal pack.NoFormat a own it fault.Contexts = ⊥
+IsRefusal e a own it r = r ≡ fault.Pack e
 
 -- ---- going on
 
@@ -67,6 +80,20 @@ pub record GoesOn (old : Sending) (f : Filling) (new : Sending) : Type 0 where
   pub lost_is : new.lost ≡ old.lost
   pub held_are : AreHeldAfter old.lost (held old) (held new) f
   pub few : length (held new) ≤ pair_limit
+
+-- the oldest context is taken out, or nothing, so that the same stay where the next packet is lost
+pub record SparesOldest (old new : Sending) : Type 0 where
+  pub own_is : new.own ≡ old.own
+  pub lost_is : new.lost ≡ old.lost
+  pub staying : stayed new.lost (held new) ≡ stayed old.lost (held old)
+
+-- the oldest context stays no longer, and it and the own one have just the paths of these entries, in their order
+pub record CanSpare (s : Sending) (left : Entries) : Type 0 where
+  pub oldest : Holding
+  pub at : slice_get s.others (length s.others - 1) ≡ Some oldest
+  pub gone : s.lost ≤ oldest.gap
+  pub has_just : HasJust left oldest.context
+  pub own_has_just : HasJust left s.own
 
 -- more would be held after it
 pub record HasTooMany (old : Sending) (f : Filling) : Type 0 where

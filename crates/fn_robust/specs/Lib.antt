@@ -1,3 +1,4 @@
 pub mod Sending
 pub mod Answers
+pub mod Lacking
 pub mod Laws

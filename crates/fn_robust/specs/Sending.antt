@@ -1,7 +1,8 @@
 -- What a receiver may hold, and how it goes on packet by packet (docs/DEFINITIONS.md, Losses).
 use Rattle.std.specs.Prelude.{◌≡◌, ℕ, suc, ◌<◌, nat_lt, List, [], ◌∷◌, None, Some, slice_get, IsSome, if◌then◌else◌}
 use Rattle.std.specs.List.{flat_map}
-use Rattle.fn_context.specs.Entries.{Entries, bits_at}
+use Rattle.std.specs.Map.{keys_of}
+use Rattle.fn_context.specs.Entries.{AreDistinct, Entries, bits_at}
 use Rattle.fn_filling.specs.declared.filling.Filling.{Filling}
 use Rattle.fn_filling.specs.Entries.{next}
 use Rattle.fn_elsewhere.specs.Held.{Holding, IsHeld, GoOn}
@@ -54,17 +55,16 @@ SameOutside left one other = (path : List ℕ) → bits_at left path ≡ None �
 abbrev pub HoldsOutside : Entries → Entries → Entries → Type 0
 HoldsOutside left one other = (path : List ℕ) → bits_at left path ≡ None → IsSome (bits_at one path) → bits_at one path ≡ bits_at other path
 
+-- it has none of them
+abbrev pub IsCovered : Entries → Entries → Type 0
+IsCovered left one = (path : List ℕ) → bits_at left path ≡ None → bits_at one path ≡ None
+
 -- one of these is the same outside of the entries
 pub record IsAmong (left : Entries) (found : List Holding) (context : Entries) : Type 0 where
   pub place : ℕ
   pub one : Holding
   pub at : slice_get found place ≡ Some one
   pub same : SameOutside left one.context context
-
--- the context came of some other by the filling
-pub record HasCome (f : Filling) (context : Entries) : Type 0 where
-  pub before : Entries
-  pub context_is : context ≡ next before f
 
 -- a pair that came of one of these by the filling
 pub record CameOf (before : List Holding) (f : Filling) (g : Holding) : Type 0 where
@@ -78,3 +78,8 @@ pub record HaveCome (first : Entries) (before : List Holding) (f : Filling) (fou
   pub all : (i : ℕ) (h : Holding) → slice_get before i ≡ Some h → IsHeld (record { gap = 0; context = first } ∷ found) 0 (next h.context f)
   pub only : (i : ℕ) (g : Holding) → slice_get found i ≡ Some g → CameOf before f g
   pub once : AreApart (record { gap = 0; context = first } ∷ found)
+
+-- the context has just the paths of these entries, in their order, and each once
+pub record HasJust (left context : Entries) : Type 0 where
+  pub distinct : AreDistinct context
+  pub paths_are : keys_of context ≡ keys_of left

@@ -5,7 +5,7 @@ ghost use Rattle.std.specs.Map.{keys_of};
 ghost use Rattle.std.specs.Option.{option_copied};
 ghost use Rattle.fn_context.specs.Entries.{bits_at};
 ghost use Rattle.fn_context.specs.Placing.{shown};
-ghost use Rattle.fn_filling.specs.Entries.{next};
+ghost use Rattle.fn_filling.specs.Entries.{entries, next};
 ghost use Rattle.fn_robust.specs.Sending as spec;
 
 use crate::held::Held;
@@ -28,24 +28,23 @@ pub(crate) fn next_of(
     Ok(after)
 }
 
-/// The contexts that come of these by the filling, each that is another map than the first one, which came of the sender's own, and than those before it.
+/// The contexts that come of these by the filling, which leaves these entries, each that is another map than what comes of the sender's own, and than those before
+/// it.
 pub(crate) fn others_of(
     alloc: Global,
-    first: &Context,
+    own: &Context,
     held: &[Held],
     filling: &Filling,
+    left: &[(String, Bits)],
 ) -> Result<Vec<Held>, AllocError>
-    requires { spec.HasCome filling.now first.now }
-    ensures { IfOk result (λ v. spec.HaveCome first.now held.now filling.now v.items) }
+    requires { shown left.now ≡ entries filling.now }
+    ensures { IfOk result (λ v. spec.HaveCome (next own.now filling.now) held.now filling.now v.items) }
 {
-    if held.is_empty() {
-        return Ok(Vec::new(alloc));
-    }
-    let left = filling.entries(alloc)?;
+    let alike = is_covered(own, left);
     let mut found = Vec::new(alloc);
     for i in 0..held.len() {
         let one = &held[i];
-        if is_known(first, found.as_slice(), &one.context, left.as_slice()) {
+        if is_known(own, alike, found.as_slice(), &one.context, left) {
             continue;
         }
         let context = next_of(alloc, &one.context, filling)?;
@@ -54,11 +53,44 @@ pub(crate) fn others_of(
     Ok(found)
 }
 
-/// Whether the first one or one of the others is the same outside of what is left.
-fn is_known(first: &Context, found: &[Held], context: &Context, left: &[(String, Bits)]) -> bool
-    ensures { IsTrue result ↔ (spec.SameOutside (shown left.now) first.now context.now ⊎ spec.IsAmong (shown left.now) found.now context.now) }
+/// Whether the own one, of whose paths each is left where that is known, or one of those found is the same outside of what is left.
+fn is_known(
+    own: &Context,
+    alike: bool,
+    found: &[Held],
+    context: &Context,
+    left: &[(String, Bits)],
+) -> bool
+    requires { IsTrue alike → spec.IsCovered (shown left.now) own.now }
+    ensures { IsTrue result ↔ (spec.SameOutside (shown left.now) own.now context.now ⊎ spec.IsAmong (shown left.now) found.now context.now) }
 {
-    is_same_outside(first, context, left) || is_among(found, context, left)
+    is_same_as_own(own, alike, context, left) || is_among(found, context, left)
+}
+
+/// Whether the own one is the same outside of what is left.
+fn is_same_as_own(own: &Context, alike: bool, context: &Context, left: &[(String, Bits)]) -> bool
+    requires { IsTrue alike → spec.IsCovered (shown left.now) own.now }
+    ensures { IsTrue result ↔ spec.SameOutside (shown left.now) own.now context.now }
+{
+    if alike {
+        holds_outside(context, own, left)
+    } else {
+        is_same_outside(own, context, left)
+    }
+}
+
+/// Whether each path of the context is left.
+fn is_covered(context: &Context, left: &[(String, Bits)]) -> bool
+    ensures { IsTrue result → spec.IsCovered (shown left.now) context.now }
+{
+    for place in 0..context.len() {
+        if let Some(path) = context.path_at(place) {
+            if !is_left(left, place, path) {
+                return false;
+            }
+        }
+    }
+    true
 }
 
 /// Whether one of these is the same outside of what is left.
@@ -132,4 +164,22 @@ fn is_anywhere(left: &[(String, Bits)], path: &str) -> bool
         }
     }
     false
+}
+
+/// Whether the context has just the paths that are left, in their order.
+pub(crate) fn has_paths(context: &Context, left: &[(String, Bits)]) -> bool
+    ensures { IsTrue result → spec.HasJust (shown left.now) context.now }
+{
+    if context.len() != left.len() {
+        return false;
+    }
+    for place in 0..context.len() {
+        let Some(path) = context.path_at(place) else {
+            return false;
+        };
+        if !is_at(left, place, path) {
+            return false;
+        }
+    }
+    true
 }

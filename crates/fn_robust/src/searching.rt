@@ -13,7 +13,8 @@ use fn_filling::{Filling, Item};
 use fn_loss::{all_serve, uses_of};
 use std::alloc::{AllocError, Global};
 
-/// The best filling for the item that fits in the sender's own context and in each of the others, with its packed bits.
+/// The best filling for the item that fits in the sender's own context and in each of the others, with its packed bits. The candidates are those of the context
+/// that is sought in: the last of the others, in which the fewest fit.
 pub(crate) fn best_for_all(
     alloc: Global,
     accepted: &Accepted,
@@ -28,9 +29,10 @@ pub(crate) fn best_for_all(
     let profile = accepted.profile();
     profile.keeps();
     let count = accepted.counts()[profile.top()];
+    let sought = last_of(own, others);
     let mut from = 0;
     loop {
-        match pack_from(alloc, accepted, own, item, from) {
+        match pack_from(alloc, accepted, sought, item, from) {
             Ok(found) => {
                 let Candidate { packed, number } = found;
                 let fits_all = fits_each(alloc, accepted, own, others, &packed.filling)?;
@@ -39,28 +41,41 @@ pub(crate) fn best_for_all(
                 }
                 from = number + 1;
             }
-            Err(fault) => return Err(refusal(fault, from)),
+            Err(fault) => return Err(refusal(alloc, accepted, own, item, fault)),
         }
     }
 }
 
-/// Why no filling is found, where those before this number don't fit in all contexts.
-fn refusal(fault: PackFault, from: u64) -> RobustFault
-    ensures { result ≡ spec.refusal fault from }
+/// The context of the last of the others, or the sender's own where there is none.
+fn last_of<'a>(own: &'a Context, others: &'a [Held]) -> &'a Context
+    ensures { result.now ≡ spec.last_of own.now others.now }
+{
+    match others.last() {
+        Some(last) => &last.context,
+        None => own,
+    }
+}
+
+/// Why no filling fits in all contexts, where this is why none more is found in one of them.
+fn refusal(
+    alloc: Global,
+    accepted: &Accepted,
+    own: &Context,
+    item: &Item,
+    fault: PackFault,
+) -> RobustFault
+    ensures { spec.IsRefusal fault accepted.now own.now item.now result }
 {
     match fault {
-        PackFault::NoFormat => {
-            if from == 0 {
-                RobustFault::Pack(PackFault::NoFormat)
-            } else {
-                RobustFault::NoReach
-            }
-        }
+        PackFault::NoFormat => match pack_from(alloc, accepted, own, item, 0) {
+            Ok(_) => RobustFault::NoReach,
+            Err(fault) => RobustFault::Pack(fault),
+        },
         fault => RobustFault::Pack(fault),
     }
 }
 
-/// Whether a filling that fits in the sender's own context fits in each of the others: whether there each reference that it uses serves.
+/// Whether a filling that fits in the last context fits in each: whether in each of the further ones each reference that it uses serves.
 fn fits_each(
     alloc: Global,
     accepted: &Accepted,
@@ -68,18 +83,19 @@ fn fits_each(
     others: &[Held],
     filling: &Filling,
 ) -> Result<bool, AllocError>
-    requires { Fitting accepted.now own.now filling.now }
-    ensures { IfOk result (λ b. IsTrue b ↔ spec.FitsEach accepted.now others.now filling.now) }
+    requires { Fitting accepted.now (spec.last_of own.now others.now) filling.now }
+    ensures { IfOk result (λ b. IsTrue b ↔ spec.FitsAll accepted.now own.now others.now filling.now) }
 {
-    let _ = own;
     if others.is_empty() {
         return Ok(true);
     }
     let uses = uses_of(alloc, accepted, filling)?;
-    for i in 0..others.len() {
+    if !all_serve(alloc, own, uses.as_slice())? {
+        return Ok(false);
+    }
+    for i in 0..others.len() - 1 {
         let other = &others[i];
-        let fits = all_serve(alloc, &other.context, uses.as_slice())?;
-        if !fits {
+        if !all_serve(alloc, &other.context, uses.as_slice())? {
             return Ok(false);
         }
     }

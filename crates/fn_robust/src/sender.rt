@@ -1,16 +1,19 @@
 //! The sender.
 
 ghost use Rattle.std.specs.Prelude.{◌≡◌, ◌↔◌, ◌+◌, ◌<◌, ◌≤◌, ◌++◌, [], IsTrue, length, vec_len, vec_capacity, IfOk, IfErr, OnOk, OnErr};
+ghost use Rattle.fn_context.specs.Placing.{shown};
+ghost use Rattle.fn_filling.specs.Entries.{entries, next};
 ghost use Rattle.fn_robust.specs.Sending as sending;
 ghost use Rattle.fn_robust.specs.Answers as spec;
 
-use crate::coming::{next_of, others_of};
+use crate::coming::{has_paths, next_of, others_of};
 use crate::held::{Held, keep_staying, staying};
 use crate::searching::best_for_all;
 use fn_accepted::Accepted;
+use fn_bits::Bits;
 use fn_context::Context;
 use fn_engine::{PackFault, Packed};
-use fn_filling::{Filling, Item};
+use fn_filling::{Filling, Item, advance};
 use std::alloc::{AllocError, Global};
 use std::marker::Model;
 use std::mem::swap;
@@ -45,8 +48,8 @@ impl From<AllocError> for RobustFault {
 /// a receiver may hold, with the number of packets that were lost right before.
 #[derive(Drop)]
 pub struct Robust {
-    own: Context,
-    others: Vec<Held>,
+    pub(crate) own: Context,
+    pub(crate) others: Vec<Held>,
     lost: usize,
 }
 
@@ -110,15 +113,66 @@ impl Robust {
         ensures fault { IfErr result (λ e. spec.Overflows e self.old filling.now) }
         ensures stays { OnErr result (self.new ≡ self.old) }
     {
-        let own = next_of(alloc, &self.own, filling)?;
-        let mut came = others_of(alloc, &own, self.others.as_slice(), filling)?;
+        if self.lost == 0 && self.others.is_empty() {
+            advance(alloc, &mut self.own, filling)?;
+            return Ok(());
+        }
+        let left = filling.entries(alloc)?;
+        let others = self.others.as_slice();
+        let mut came = others_of(alloc, &self.own, others, filling, left.as_slice())?;
         let kept = self.staying();
         if are_too_many(came.as_slice().len(), kept) {
             return Err(RobustFault::Contexts);
         }
         came.reserve(kept)?;
+        let own = self.next_own(alloc, filling, left.as_slice())?;
         self.put(own, came);
         Ok(())
+    }
+
+    /// The own context after the filling: the oldest one, where that stays no longer and all its entries and those of the own context are replaced, else a copy.
+    fn next_own(
+        &mut self,
+        alloc: Global,
+        filling: &Filling,
+        left: &[(String, Bits)],
+    ) -> Result<Context, AllocError>
+        requires { shown left.now ≡ entries filling.now }
+        ensures next { IfOk result (λ c. c ≡ next self.old.own filling.now) }
+        ensures spared { IfOk result (λ _. spec.SparesOldest self.old self.new) }
+        ensures stays { OnErr result (self.new ≡ self.old) }
+    {
+        if !self.spares_oldest(left) {
+            return next_of(alloc, &self.own, filling);
+        }
+        match self.others.pop() {
+            Some(oldest) => {
+                let Held { gap, context } = oldest;
+                let mut context = context;
+                match advance(alloc, &mut context, filling) {
+                    Ok(()) => Ok(context),
+                    Err(error) => {
+                        self.others.push_reserved(Held { gap, context });
+                        Err(error)
+                    }
+                }
+            }
+            None => next_of(alloc, &self.own, filling),
+        }
+    }
+
+    /// Whether the oldest context stays no longer, and it and the own one have just the paths that are left, in their order.
+    fn spares_oldest(&self, left: &[(String, Bits)]) -> bool
+        ensures { IsTrue result → spec.CanSpare self.now (shown left.now) }
+    {
+        match self.others.as_slice().last() {
+            Some(oldest) => {
+                oldest.gap >= self.lost
+                    && has_paths(&oldest.context, left)
+                    && has_paths(&self.own, left)
+            }
+            None => false,
+        }
     }
 
     /// How many of the pairs stay held where the next packet is lost.

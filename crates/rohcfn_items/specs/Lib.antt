@@ -5,3 +5,4 @@ pub mod Asked
 pub mod Why
 pub mod Step
 pub mod Loss
+pub mod Reach

@@ -76,7 +76,7 @@ reference_words (Some bits) = bits_text bits
 reference_words None = codes "nothing"
 
 abbrev pub use_words : List ℕ → List ℕ → List ℕ → List ℕ → List ℕ
-use_words path method has needs = codes "\n  " ++ path ++ codes " " ++ method ++ codes " has " ++ has ++ codes " needs " ++ needs
+use_words path method has needs = path ++ codes " " ++ method ++ codes " has " ++ has ++ codes " needs " ++ needs
 
 abbrev pub step_words : Step → List ℕ
 step_words s = codes ": step " ++ signed_decimal s.step ++ codes ", takes " ++ signed_decimal s.from ++ codes " to " ++ signed_decimal s.to
@@ -88,8 +88,11 @@ step_text None = []
 abbrev pub step_part : Unserved → List ℕ
 step_part x = step_text (step_of x)
 
+abbrev pub unserved_words : Unserved → List ℕ
+unserved_words x = use_words (string_bytes x.path) (method_words x.method) (reference_words x.reference) (bits_text x.needed) ++ step_part x
+
 abbrev pub use_line : Unserved → List ℕ
-use_line x = use_words (string_bytes x.path) (method_words x.method) (reference_words x.reference) (bits_text x.needed) ++ step_part x
+use_line x = codes "\n  " ++ unserved_words x
 
 -- ---- the cases
 

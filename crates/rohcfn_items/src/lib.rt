@@ -4,6 +4,7 @@
 mod asked;
 pub mod fields;
 pub mod loss;
+pub mod reach;
 pub mod stats;
 mod step;
 pub mod why;

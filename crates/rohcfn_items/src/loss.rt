@@ -342,18 +342,27 @@ fn refused_words(alloc: Global, method: &str, format: &str) -> Result<String, Al
 fn push_unserved(alloc: Global, text: &mut String, unserved: &Unserved) -> Result<(), AllocError>
     ensures { OnOk result (string_bytes text.new ≡ string_bytes text.old ++ spec.use_line unserved.now) }
 {
+    let words = unserved_words(alloc, unserved)?;
+    text.push_str("\n  ")?;
+    text.push_str(words.as_str())
+}
+
+/// The path and the method of a use, what the receiver has for it and what it needs, and the step from the one to the other where that can be told.
+pub(crate) fn unserved_words(alloc: Global, unserved: &Unserved) -> Result<String, AllocError>
+    ensures { IfOk result (λ text. string_bytes text ≡ spec.unserved_words unserved.now) }
+{
     let method = method_words(alloc, unserved.method)?;
     let has = reference_words(alloc, &unserved.reference)?;
     let needs = bits_cell(alloc, &unserved.needed)?;
-    let line = use_words(
+    let mut text = use_words(
         alloc,
         unserved.path.as_str(),
         method.as_str(),
         has.as_str(),
         needs.as_str(),
     )?;
-    text.push_str(line.as_str())?;
-    push_step(alloc, text, unserved)
+    push_step(alloc, &mut text, unserved)?;
+    Ok(text)
 }
 
 fn use_words(
@@ -365,7 +374,7 @@ fn use_words(
 ) -> Result<String, AllocError>
     ensures { IfOk result (λ text. string_bytes text ≡ spec.use_words path.now method.now has.now needs.now) }
 {
-    format!(in alloc; "\n  {path} {method} has {has} needs {needs}")
+    format!(in alloc; "{path} {method} has {has} needs {needs}")
 }
 
 fn method_words(alloc: Global, method: Referring) -> Result<String, AllocError>

@@ -101,7 +101,7 @@ fn line_words(
     Ok(front)
 }
 
-fn reason_text(
+pub(crate) fn reason_text(
     alloc: Global,
     line: usize,
     column: usize,

@@ -11,13 +11,14 @@ use Rattle.rohcfn_input.specs.OneLine.{IsLine}
 use Rattle.rohcfn_input.specs.declared.status.Answer.{Answer}
 use Rattle.rohcfn_input.specs.declared.status.Status.{Status}
 use Rattle.rohcfn_input.specs.declared.status.Status.TheVariants as status
-use Rattle.rohcfn_tool.specs.Printed.{HasLine, IsFinished, IsSendStep, SendsItems, SentBy, all_sent, one_refused, one_sent}
+use Rattle.rohcfn_tool.specs.Printed.{HasLine, IsFinished, IsSendStep, SendsItems, SentBy, all_sent, one_refused, one_sent, stop_of}
 use Rattle.rohcfn_tool.specs.Senders.{Blames, IsSenderFault, RefusesSent, own_of}
+use Rattle.rohcfn_tool.specs.declared.packets.Shape.{Shape}
 use Rattle.rohcfn_tool.specs.declared.sender.Sender.{Sender}
 
 -- the lines so far and those for what is left, by the sender as it is now, are all lines
-abbrev pub SentSoFar : Bool → Accepting → Sender → List Item → ℕ → Sender → List ℕ → Type 0
-SentSoFar shows a start items i s out = (st : Status) (rest : List ℕ) → SentBy shows a s (i + 1) (drop i items) st rest → SentBy shows a start 1 items st (out ++ rest)
+abbrev pub SentSoFar : Shape → Bool → Accepting → Sender → List Item → ℕ → Sender → List ℕ → Type 0
+SentSoFar shape shows a start items i s out = (st : Status) (rest : List ℕ) → SentBy shape shows a s (i + 1) (drop i items) st rest → SentBy shape shows a start 1 items st (out ++ rest)
 
 joined : (out text rest : List ℕ) → out ++ (text ++ 10 ∷ rest) ≡ (out ++ text ++ 10 ∷ []) ++ rest
 joined out text rest = simp append_assoc
@@ -26,34 +27,34 @@ joined out text rest = simp append_assoc
 pub refused_line : (a : Accepting) (s : Sender) (before after : List ℕ) (n : ℕ) (it : Item) (e : RobustFault) (line text : List ℕ) → Blames e a s it → IsSenderFault e n line → IsLine line → text ≡ line → after ≡ before ++ text ++ 10 ∷ [] → HasLine (RefusesSent a s n it) before after
 refused_line a s before after n it e line text blames is single same grown = (line, (e, blames, is, single), grown ∙ ap (λ l. before ++ l ++ 10 ∷ []) same)
 
-module _ (shows : Bool) (a : Accepting) (start : Sender) (items : List Item) where
-  pub sending_start : (out : List ℕ) → out ≡ [] → SentSoFar shows a start items 0 start out
-  sending_start out e st rest h = subst (λ o. SentBy shows a start 1 items st (o ++ rest)) (sym e) h
+module _ (shape : Shape) (shows : Bool) (a : Accepting) (start : Sender) (items : List Item) where
+  pub sending_start : (out : List ℕ) → out ≡ [] → SentSoFar shape shows a start items 0 start out
+  sending_start out e st rest h = subst (λ o. SentBy shape shows a start 1 items st (o ++ rest)) (sym e) h
 
   -- a line more
-  pub sending_on : (i : ℕ) (d x : Item) (s reached : Sender) (out new : List ℕ) (b : Bool) → i < length items → x ≡ get_or items i d → SentSoFar shows a start items i s out → IsSendStep a s reached out new (i + 1) x b → b ≡ false → SentSoFar shows a start items (i + 1) reached new
+  pub sending_on : (i : ℕ) (d x : Item) (s reached : Sender) (out new : List ℕ) (b : Bool) → i < length items → x ≡ get_or items i d → SentSoFar shape shows a start items i s out → IsSendStep shape a s reached out new (i + 1) x b → b ≡ false → SentSoFar shape shows a start items (i + 1) reached new
   sending_on i d x s reached out new b h e so step is st rest more =
-      let l = subst (λ (y : Bool). IsSendStep a s reached out new (i + 1) x y) is step in
+      let l = subst (λ (y : Bool). IsSendStep shape a s reached out new (i + 1) x y) is step in
       let text = l.2.0 in
       let here : drop i items ≡ x ∷ drop (i + 1) items = drop_more items i d h ∙ ap (λ y. y ∷ drop (i + 1) items) (sym e) in
-      let lines : SentBy shows a s (i + 1) (x ∷ drop (i + 1) items) st (text ++ 10 ∷ rest) = one_sent l.0 reached text rest l.1 l.2.1 more in
-      subst (λ o. SentBy shows a start 1 items st o) (joined out text rest ∙ ap (λ o. o ++ rest) (sym l.2.2))
-      (so st (text ++ 10 ∷ rest) (subst (λ xs. SentBy shows a s (i + 1) xs st (text ++ 10 ∷ rest)) (sym here) lines))
+      let lines : SentBy shape shows a s (i + 1) (x ∷ drop (i + 1) items) st (text ++ 10 ∷ rest) = one_sent l.0 reached text rest l.1 l.2.1 more in
+      subst (λ o. SentBy shape shows a start 1 items st o) (joined out text rest ∙ ap (λ o. o ++ rest) (sym l.2.2))
+      (so st (text ++ 10 ∷ rest) (subst (λ xs. SentBy shape shows a s (i + 1) xs st (text ++ 10 ∷ rest)) (sym here) lines))
 
   -- the line that refuses
-  pub sending_stop : (i : ℕ) (d x : Item) (s reached : Sender) (out new : List ℕ) (b : Bool) → i < length items → x ≡ get_or items i d → SentSoFar shows a start items i s out → IsSendStep a s reached out new (i + 1) x b → b ≡ true → SentBy shows a start 1 items status.Refused new
+  pub sending_stop : (i : ℕ) (d x : Item) (s reached : Sender) (out new : List ℕ) (b : Bool) → i < length items → x ≡ get_or items i d → SentSoFar shape shows a start items i s out → IsSendStep shape a s reached out new (i + 1) x b → b ≡ true → SentBy shape shows a start 1 items (stop_of shape) new
   sending_stop i d x s reached out new b h e so step is =
-      let f = subst (λ (y : Bool). IsSendStep a s reached out new (i + 1) x y) is step in
+      let f = subst (λ (y : Bool). IsSendStep shape a s reached out new (i + 1) x y) is step in
       let here : drop i items ≡ x ∷ drop (i + 1) items = drop_more items i d h ∙ ap (λ y. y ∷ drop (i + 1) items) (sym e) in
-      let last : SentBy shows a s (i + 1) (x ∷ drop (i + 1) items) status.Refused (f.0 ++ 10 ∷ []) = one_refused f.0 f.1 in
-      let whole = so status.Refused (f.0 ++ 10 ∷ []) (subst (λ xs. SentBy shows a s (i + 1) xs status.Refused (f.0 ++ 10 ∷ [])) (sym here) last) in
-      subst (λ o. SentBy shows a start 1 items status.Refused o) (sym (f.2 ∙ append_assoc out f.0 (10 ∷ []))) whole
+      let last : SentBy shape shows a s (i + 1) (x ∷ drop (i + 1) items) (stop_of shape) (f.0 ++ 10 ∷ []) = one_refused f.0 f.1 in
+      let whole = so (stop_of shape) (f.0 ++ 10 ∷ []) (subst (λ xs. SentBy shape shows a s (i + 1) xs (stop_of shape) (f.0 ++ 10 ∷ [])) (sym here) last) in
+      subst (λ o. SentBy shape shows a start 1 items (stop_of shape) o) (sym (f.2 ∙ append_assoc out f.0 (10 ∷ []))) whole
 
   -- after the last
-  pub sending_end : (i : ℕ) (s : Sender) (ctx : Entries) (out : List ℕ) (r : Result Answer AllocError) → length items ≤ i → SentSoFar shows a start items i s out → ctx ≡ own_of s → IfOk r (IsFinished shows ctx out) → IfOk r (SendsItems shows a start items)
+  pub sending_end : (i : ℕ) (s : Sender) (ctx : Entries) (out : List ℕ) (r : Result Answer AllocError) → length items ≤ i → SentSoFar shape shows a start items i s out → ctx ≡ own_of s → IfOk r (IsFinished shows ctx out) → IfOk r (SendsItems shape shows a start items)
   sending_end i s ctx out (Err e) h so own f = tt
   sending_end i s ctx out (Ok answer) h so own f =
       let ends = subst (λ c. IsFinished shows c out answer) own f in
-      let last : SentBy shows a s (i + 1) (drop i items) status.Done ends.text = subst (λ xs. SentBy shows a s (i + 1) xs status.Done ends.text) (sym (drop_all i items h)) (all_sent ends.ends) in
+      let last : SentBy shape shows a s (i + 1) (drop i items) status.Done ends.text = subst (λ xs. SentBy shape shows a s (i + 1) xs status.Done ends.text) (sym (drop_all i items h)) (all_sent ends.ends) in
       let whole = so status.Done ends.text last in
-      subst (λ st. SentBy shows a start 1 items st (string_bytes answer.output)) (sym ends.status_is) (subst (λ o. SentBy shows a start 1 items status.Done o) (sym ends.output_is) whole)
+      subst (λ st. SentBy shape shows a start 1 items st (string_bytes answer.output)) (sym ends.status_is) (subst (λ o. SentBy shape shows a start 1 items status.Done o) (sym ends.output_is) whole)

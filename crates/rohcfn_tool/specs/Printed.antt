@@ -20,7 +20,9 @@ use Rattle.fn_engine.specs.declared.reader.UnpackFault.{UnpackFault}
 use Rattle.fn_engine.specs.declared.reader.UnpackFault.TheVariants.{Truncated, Refused, OutOfMemory}
 use Rattle.fn_engine.specs.declared.search.Packed.{Packed}
 use Rattle.fn_engine.specs.declared.writer.PackFault.{PackFault}
+use Rattle.fn_robust.specs.declared.lacking.Lack.{Lack}
 use Rattle.fn_robust.specs.declared.sender.RobustFault.{RobustFault}
+use Rattle.fn_robust.specs.declared.sender.RobustFault.TheVariants.{NoReach, Contexts}
 use Rattle.fn_engine.specs.declared.writer.PackFault.TheVariants as writer
 use Rattle.rohcfn_input.specs.declared.bundle.Parts.{Parts}
 use Rattle.rohcfn_input.specs.declared.status.Answer.{Answer}
@@ -45,12 +47,13 @@ use Rattle.fn_reasons.specs.Reasons.{Verdicts}
 use Rattle.fn_reasons.specs.Settings.{Setting}
 use Rattle.fn_reasons.specs.declared.line.Line as reasons
 use Rattle.rohcfn_items.specs.Fields.{fields_text, head_text}
+use Rattle.rohcfn_items.specs.Reach.{lacks_text}
 use Rattle.rohcfn_items.specs.Why.{reasons_text}
 use Rattle.rohcfn_items.specs.Stats.{stats_text}
 use Rattle.rohcfn_tool.specs.declared.stats.Survey.{Survey}
 use Rattle.rohcfn_tool.specs.declared.stats.Survey.TheVariants as survey
 use Rattle.rohcfn_tool.specs.Loss.{LossBy}
-use Rattle.rohcfn_tool.specs.Senders.{IsSenderFault, RefusesSent, Sends, own_of, surviving}
+use Rattle.rohcfn_tool.specs.Senders.{AreLacks, Blames, IsSenderFault, RefusesSent, Sends, own_of, surviving}
 use Rattle.rohcfn_tool.specs.declared.sender.Sender.{Sender}
 use Rattle.rohcfn_tool.specs.declared.sender.Sender.TheVariants.{Plain}
 pub use Rattle.rohcfn_tool.specs.Refused.{IsItemFault, RefusesItem}
@@ -288,19 +291,44 @@ pub data StatsBy (a : Accepting) (s : Sender) (items : List Item) : Status → L
   counted_by : (fs : List Filling) (refused : List ℕ) → Packs a s 1 items fs refused
       → StatsBy a s items status.Done (stats_text a.profile.methods a.profile.top (map counted fs) ++ refused ++ 10 ∷ [])
 
--- What `pack --robust` prints for items, counted from n: the packed bits of each, and after the last the sender's own context, where it is wanted; the first that is
--- refused has the line of its fault, which is the last.
-pub data SentBy (shows : Bool) (a : Accepting) : Sender → ℕ → List Item → Status → List ℕ → Type 0 where
-  all_sent : {s : Sender} {n : ℕ} {text : List ℕ} → IsEnd shows (own_of s) text → SentBy shows a s n [] status.Done text
-  one_sent : {s : Sender} {n : ℕ} {it : Item} {items : List Item} {st : Status} (p : Packed) (after : Sender) (text rest : List ℕ) → Sends a s it p after → IsText text p.packed
-      → SentBy shows a after (n + 1) items st rest → SentBy shows a s n (it ∷ items) st (text ++ 10 ∷ rest)
-  one_refused : {s : Sender} {n : ℕ} {it : Item} {items : List Item} (text : List ℕ) → RefusesSent a s n it text → SentBy shows a s n (it ∷ items) status.Refused (text ++ 10 ∷ [])
+-- the line of an item that can't be packed for all that a receiver may hold, and then a line for each format
+pub record LacksReach (profile : List ℕ) (a : Accepting) (s : Sender) (n : ℕ) (it : Item) (text : List ℕ) : Type 0 where
+  pub blames : Blames NoReach a s it
+  pub lacks : List Lack
+  pub lacks_are : AreLacks a s it lacks
+  pub text_is : text ≡ (codes "item " ++ decimal n ++ codes ": F5 NoReach") ++ lacks_text profile a.profile.methods a.profile.top lacks
 
--- what `stats`, `loss` or `pack --robust` prints for items
+-- What `why` says of an item that a sender refuses: as it does in the own context; or what stands against it in all contexts; or the line alone.
+pub data ExplainsSent (profile : List ℕ) (a : Accepting) (s : Sender) (n : ℕ) (it : Item) : List ℕ → Type 0 where
+  not_packed : {text : List ℕ} → ExplainsItem profile a (own_of s) n it text → ExplainsSent profile a s n it text
+  no_reach : {text : List ℕ} → LacksReach profile a s n it text → ExplainsSent profile a s n it text
+  no_room : {text : List ℕ} → Blames Contexts a s it → text ≡ codes "item " ++ decimal n ++ codes ": F6 Contexts" → ExplainsSent profile a s n it text
+
+-- what is said of an item that a sender refuses: the line of its fault; for `why` the reasons, too
+abbrev pub FaultsSent : Shape → Accepting → Sender → ℕ → Item → List ℕ → Type 0
+FaultsSent Line a s n it text = RefusesSent a s n it text
+FaultsSent Tree a s n it text = RefusesSent a s n it text
+FaultsSent (Why profile) a s n it text = ExplainsSent profile.now a s n it text
+
+-- what is printed of a filling that was written
+abbrev pub WrittenAs : Shape → Accepting → ℕ → List Bool → Filling → List ℕ → Type 0
+WrittenAs Line a n bits f text = IsText text bits
+WrittenAs Tree a n bits f text = text ≡ tree_text a (codes "item") n (length bits) f
+WrittenAs (Why profile) a n bits f text = text ≡ head_of a (codes "item") n (length bits) f
+
+-- What `pack --robust` and `why --robust` print for items, counted from n: what is printed of each, and after the last the sender's own context, where it is wanted;
+-- what is said of the first that is refused is the last.
+pub data SentBy (shape : Shape) (shows : Bool) (a : Accepting) : Sender → ℕ → List Item → Status → List ℕ → Type 0 where
+  all_sent : {s : Sender} {n : ℕ} {text : List ℕ} → IsEnd shows (own_of s) text → SentBy shape shows a s n [] status.Done text
+  one_sent : {s : Sender} {n : ℕ} {it : Item} {items : List Item} {st : Status} (p : Packed) (after : Sender) (text rest : List ℕ) → Sends a s it p after → WrittenAs shape a n p.packed p.filling text
+      → SentBy shape shows a after (n + 1) items st rest → SentBy shape shows a s n (it ∷ items) st (text ++ 10 ∷ rest)
+  one_refused : {s : Sender} {n : ℕ} {it : Item} {items : List Item} (text : List ℕ) → FaultsSent shape a s n it text → SentBy shape shows a s n (it ∷ items) (stop_of shape) (text ++ 10 ∷ [])
+
+-- what `stats`, `loss`, `pack --robust` or `why --robust` prints for items
 abbrev pub SurveyBy : Survey → Accepting → Entries → List Item → Status → List ℕ → Type 0
 SurveyBy survey.Stats a ctx items = StatsBy a (Plain ctx) items
 SurveyBy (survey.Loss most) a ctx items = LossBy most a (Plain ctx) items
-SurveyBy (survey.RobustPack shows lost) a ctx items = SentBy shows a (surviving ctx lost) 1 items
+SurveyBy (survey.RobustPack shape shows lost) a ctx items = SentBy shape shows a (surviving ctx lost) 1 items
 SurveyBy (survey.RobustStats lost) a ctx items = StatsBy a (surviving ctx lost) items
 SurveyBy (survey.RobustLoss most lost) a ctx items = LossBy most a (surviving ctx lost) items
 
@@ -354,7 +382,9 @@ pub data Answered (order : Order) (parts : Parts) : Status → List ℕ → Type
   lost_told : {s : Status} {output : List ℕ} (profile : Bor (List ℕ)) (most : ℕ) → parts.profile ≡ Some profile → order.command ≡ command.Loss most
       → Stated (survey.Loss most) order profile.now parts s output → Answered order parts s output
   robust_packed : {s : Status} {output : List ℕ} (profile : Bor (List ℕ)) (lost : ℕ) → parts.profile ≡ Some profile → order.command ≡ command.RobustPack lost
-      → Stated (survey.RobustPack order.shows_context lost) order profile.now parts s output → Answered order parts s output
+      → Stated (survey.RobustPack Line order.shows_context lost) order profile.now parts s output → Answered order parts s output
+  robust_explained : {s : Status} {output : List ℕ} (profile : Bor (List ℕ)) (lost : ℕ) → parts.profile ≡ Some profile → order.command ≡ command.RobustWhy lost
+      → Stated (survey.RobustPack (Why profile) order.shows_context lost) order profile.now parts s output → Answered order parts s output
   robust_stated : {s : Status} {output : List ℕ} (profile : Bor (List ℕ)) (lost : ℕ) → parts.profile ≡ Some profile → order.command ≡ command.RobustStats lost
       → Stated (survey.RobustStats lost) order profile.now parts s output → Answered order parts s output
   robust_told : {s : Status} {output : List ℕ} (profile : Bor (List ℕ)) (most lost : ℕ) → parts.profile ≡ Some profile → order.command ≡ command.RobustLoss most lost
@@ -393,8 +423,8 @@ AnswersStatsIn what a ctx input = Holds (StatsIn what a ctx input)
 abbrev pub CountsItems : Accepting → Sender → List Item → Answer → Type 0
 CountsItems a s items = Holds (StatsBy a s items)
 
-abbrev pub SendsItems : Bool → Accepting → Sender → List Item → Answer → Type 0
-SendsItems shows a s items = Holds (SentBy shows a s 1 items)
+abbrev pub SendsItems : Shape → Bool → Accepting → Sender → List Item → Answer → Type 0
+SendsItems shape shows a s items = Holds (SentBy shape shows a s 1 items)
 
 abbrev pub Surveys : Survey → Accepting → Entries → List Item → Answer → Type 0
 Surveys what a ctx items = Holds (SurveyBy what a ctx items)
@@ -450,9 +480,7 @@ IsHeadText a what n bits f = HasLine (λ text. text ≡ head_of a what n bits f)
 
 -- what is printed of a filling that was written, and of one that was read
 abbrev pub IsWrittenText : Shape → Accepting → ℕ → List Bool → Filling → List ℕ → List ℕ → Type 0
-IsWrittenText Line a n bits f = IsBitsLine bits
-IsWrittenText Tree a n bits f = IsTreeText a (codes "item") n (length bits) f
-IsWrittenText (Why profile) a n bits f = IsHeadText a (codes "item") n (length bits) f
+IsWrittenText shape a n bits f = HasLine (WrittenAs shape a n bits f)
 
 abbrev pub IsFoundText : Shape → Accepting → List ℕ → ℕ → ℕ → Filling → List ℕ → List ℕ → Type 0
 IsFoundText Line a what n bits f = IsReadLine (item f) bits
@@ -470,7 +498,7 @@ IsItemStep shape a old new before after n it = IsStep (SaysItem shape a) (Faults
 abbrev pub IsPacketStep : Shape → Accepting → Entries → Entries → List ℕ → List ℕ → ℕ → List Bool → Bool → Type 0
 IsPacketStep shape a old new before after n packet = IsStep (SaysPacket shape a) (FaultsPacket shape a) old new before after n packet
 
--- The output goes on by the line of an item that the sender packed, and it goes on; or by that of its fault.
-abbrev pub IsSendStep : Accepting → Sender → Sender → List ℕ → List ℕ → ℕ → Item → Bool → Type 0
-IsSendStep a old new before after n it false = (p : Packed) × Sends a old it p new × IsBitsLine p.packed before after
-IsSendStep a old new before after n it true = HasLine (RefusesSent a old n it) before after
+-- The output goes on by what is printed of an item that the sender packed, and it goes on; or by what is said of its fault.
+abbrev pub IsSendStep : Shape → Accepting → Sender → Sender → List ℕ → List ℕ → ℕ → Item → Bool → Type 0
+IsSendStep shape a old new before after n it false = (p : Packed) × Sends a old it p new × HasLine (WrittenAs shape a n p.packed p.filling) before after
+IsSendStep shape a old new before after n it true = HasLine (FaultsSent shape a old n it) before after

@@ -8,6 +8,8 @@ use Rattle.fn_engine.specs.declared.writer.PackFault.TheVariants as writer
 use Rattle.fn_filling.specs.Entries.{next}
 use Rattle.fn_filling.specs.declared.filling.Item.{Item}
 use Rattle.fn_robust.specs.Answers as robust
+use Rattle.fn_robust.specs.Lacking as lacking
+use Rattle.fn_robust.specs.declared.lacking.Lack.{Lack}
 use Rattle.fn_robust.specs.declared.sender.RobustFault.{RobustFault}
 use Rattle.fn_robust.specs.declared.sender.RobustFault.TheVariants.{Pack, NoReach, Contexts}
 use Rattle.rohcfn_input.specs.OneLine.{IsLine}
@@ -60,3 +62,8 @@ IsSenderFault Contexts n text = text ≡ codes "item " ++ decimal n ++ codes ": 
 -- a fault that is there, with its line, which is one
 abbrev pub RefusesSent : Accepting → Sender → ℕ → Item → List ℕ → Type 0
 RefusesSent a s n it text = (e : RobustFault) × Blames e a s it × IsSenderFault e n text × IsLine text
+
+-- what stands against an item that can't be packed for all that a receiver may hold
+abbrev pub AreLacks : Accepting → Sender → Item → List Lack → Type 0
+AreLacks a (Plain ctx) it ls = ⊥
+AreLacks a (Surviving s) it ls = lacking.AreLacks a s.own s.others it ls

@@ -59,7 +59,11 @@ pub fn answer(alloc: Global, order: &Order<'_>, parts: &Parts<'_>) -> Result<Ans
         Command::Stats => answer_stats(alloc, Survey::Stats, order, profile, parts),
         Command::Loss(most) => answer_stats(alloc, Survey::Loss(most), order, profile, parts),
         Command::RobustPack(lost) => {
-            let what = Survey::RobustPack(order.shows_context, lost);
+            let what = Survey::RobustPack(Shape::Line, order.shows_context, lost);
+            answer_stats(alloc, what, order, profile, parts)
+        }
+        Command::RobustWhy(lost) => {
+            let what = Survey::RobustPack(Shape::Why(profile), order.shows_context, lost);
             answer_stats(alloc, what, order, profile, parts)
         }
         Command::RobustStats(lost) => {

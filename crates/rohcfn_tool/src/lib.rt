@@ -9,6 +9,7 @@ pub mod line;
 mod loss;
 pub mod packets;
 pub mod program;
+mod reaching;
 mod sender;
 mod sending;
 mod stats;

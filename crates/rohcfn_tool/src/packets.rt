@@ -34,7 +34,7 @@ pub enum Shape<'a> {
 }
 
 /// The status after an item or a packet that is refused.
-fn stop_status(shape: Shape<'_>) -> Status
+pub(crate) fn stop_status(shape: Shape<'_>) -> Status
     ensures { result ≡ spec.stop_of shape.entry }
 {
     match shape {
@@ -194,7 +194,7 @@ fn stop_item(
 }
 
 /// Adds the line of packed bits, or the fields of their filling, or its head line.
-fn push_written(
+pub(crate) fn push_written(
     alloc: Global,
     shape: Shape<'_>,
     accepted: &Accepted,

@@ -9,7 +9,8 @@ use fn_accepted::Accepted;
 use fn_context::Context;
 use fn_engine::{PackFault, Packed, pack};
 use fn_filling::{Item, advance};
-use fn_robust::{Robust, RobustFault};
+use fn_robust::{Lack, Robust, RobustFault};
+use sqlite_items::Items;
 use std::alloc::{AllocError, Global};
 
 /// A sender of items, packed one after the other.
@@ -40,6 +41,22 @@ impl Sender {
         match self {
             Sender::Plain(context) => context,
             Sender::Surviving(robust) => robust.context(),
+        }
+    }
+
+    /// What stands against packing an item for all that a receiver may hold, format by format.
+    pub(crate) fn lacks(
+        &self,
+        alloc: Global,
+        accepted: &Accepted,
+        item: &Item,
+    ) -> Result<Items<Lack>, AllocError>
+        requires { spec.Blames RobustFault.NoReach accepted.now self.now item.now }
+        ensures { IfOk result (spec.AreLacks accepted.now self.now item.now) }
+    {
+        match self {
+            Sender::Plain(_) => Ok(Items::new(alloc)),
+            Sender::Surviving(robust) => robust.lacks(alloc, accepted, item),
         }
     }
 

@@ -1,36 +1,47 @@
-//! The lines for items that the robust sender packs, and of those that a sender refuses.
+//! What is printed of items that the robust sender packs, and of those that a sender refuses.
 
 ghost use Rattle.std.specs.Prelude.{◌≡◌, IfOk, OnOk, string_bytes};
 ghost use Rattle.rohcfn_input.specs.OneLine.{IsLine};
 ghost use Rattle.rohcfn_tool.specs.Senders as senders;
 ghost use Rattle.rohcfn_tool.specs.Printed as spec;
 
-use crate::packets::{finish, item_fault, plain_line, push_packed};
+use crate::packets::{Shape, finish, item_fault, plain_line, push_written, stop_status};
+use crate::reaching::explain_sent;
 use crate::sender::Sender;
 use fn_accepted::Accepted;
+use fn_engine::Packed;
 use fn_filling::Item;
 use fn_robust::RobustFault;
 use rohcfn_input::spelling::push_line;
-use rohcfn_input::status::{Answer, Status};
+use rohcfn_input::status::Answer;
 use std::alloc::{AllocError, Global};
 
-/// A line of packed bits for each item, up to the first that is refused, and after the last the sender's own context, where it is wanted.
+/// What is printed of each item in the shape, up to the first that is refused, and after the last the sender's own context, where it is wanted.
 pub(crate) fn send_all(
     alloc: Global,
+    shape: Shape<'_>,
     shows: bool,
     accepted: &Accepted,
     start: Sender,
     items: &[Item],
 ) -> Result<Answer, AllocError>
-    ensures { IfOk result (spec.SendsItems shows accepted.now start items.now) }
+    ensures { IfOk result (spec.SendsItems shape.entry shows accepted.now start items.now) }
 {
     let mut sender = start;
     let mut output = String::new(alloc);
     for (i, item) in items.iter().enumerate() {
-        let refused = send_one(alloc, accepted, &mut sender, &mut output, i + 1, item)?;
+        let refused = send_one(
+            alloc,
+            shape,
+            accepted,
+            &mut sender,
+            &mut output,
+            i + 1,
+            item,
+        )?;
         if refused {
             return Ok(Answer {
-                status: Status::Refused,
+                status: stop_status(shape),
                 output,
             });
         }
@@ -38,28 +49,69 @@ pub(crate) fn send_all(
     finish(alloc, shows, output, sender.context())
 }
 
-/// Adds the line of an item, whose number counts from 1. The sender goes on to the next. Whether it was refused.
+/// Adds what is printed of an item, whose number counts from 1. The sender goes on to the next. Whether it was refused.
 fn send_one(
     alloc: Global,
+    shape: Shape<'_>,
     accepted: &Accepted,
     sender: &mut Sender,
     output: &mut String,
     number: usize,
     item: &Item,
 ) -> Result<bool, AllocError>
-    ensures { IfOk result (spec.IsSendStep accepted.now sender.old sender.new (string_bytes output.old) (string_bytes output.new) number item.now) }
+    ensures { IfOk result (spec.IsSendStep shape.entry accepted.now sender.old sender.new (string_bytes output.old) (string_bytes output.new) number item.now) }
 {
     match sender.send(alloc, accepted, item) {
-        Ok(sent) => {
-            push_packed(alloc, output, &sent.packed)?;
+        Ok(Packed { filling, packed }) => {
+            push_written(alloc, shape, accepted, output, number, &packed, &filling)?;
             Ok(false)
         }
         Err(fault) => {
-            let line = sender_fault(alloc, number, fault)?;
-            push_line(output, line.as_str())?;
+            stop_sent(alloc, shape, accepted, sender, output, number, item, fault)?;
             Ok(true)
         }
     }
+}
+
+/// Adds what is said of a refused item.
+fn stop_sent(
+    alloc: Global,
+    shape: Shape<'_>,
+    accepted: &Accepted,
+    sender: &Sender,
+    output: &mut String,
+    number: usize,
+    item: &Item,
+    fault: RobustFault,
+) -> Result<(), AllocError>
+    requires { senders.Blames fault accepted.now sender.now item.now }
+    ensures { OnOk result (spec.HasLine (spec.FaultsSent shape.entry accepted.now sender.now number item.now) (string_bytes output.old) (string_bytes output.new)) }
+{
+    match shape {
+        Shape::Line => refuse_sent(alloc, accepted, sender, output, number, item, fault),
+        Shape::Tree => refuse_sent(alloc, accepted, sender, output, number, item, fault),
+        Shape::Why(octets) => explain_sent(
+            alloc, octets, accepted, sender, output, number, item, fault,
+        ),
+    }
+}
+
+/// Adds the line of a refused item.
+fn refuse_sent(
+    alloc: Global,
+    accepted: &Accepted,
+    sender: &Sender,
+    output: &mut String,
+    number: usize,
+    item: &Item,
+    fault: RobustFault,
+) -> Result<(), AllocError>
+    requires { senders.Blames fault accepted.now sender.now item.now }
+    ensures { OnOk result (spec.HasLine (senders.RefusesSent accepted.now sender.now number item.now) (string_bytes output.old) (string_bytes output.new)) }
+{
+    let _ = (accepted, sender, item);
+    let line = sender_fault(alloc, number, fault)?;
+    push_line(output, line.as_str())
 }
 
 /// The line of an item that a sender refuses.

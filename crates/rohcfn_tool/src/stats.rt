@@ -1,4 +1,4 @@
-//! What is answered to `stats`, and by what to `loss` and to `pack --robust`.
+//! What is answered to `stats`, and by what to `loss`, `pack --robust` and `why --robust`.
 
 ghost use Rattle.std.specs.Prelude.{◌≡◌, ◌++◌, IfOk, OnOk, string_bytes};
 ghost use Rattle.rohcfn_tool.specs.Senders as senders;
@@ -6,6 +6,7 @@ ghost use Rattle.rohcfn_tool.specs.Printed as spec;
 
 use crate::answers::bad_line;
 use crate::loss::lose_all;
+use crate::packets::Shape;
 use crate::sender::Sender;
 use crate::sending::{send_all, sender_fault};
 use fn_accepted::Accepted;
@@ -26,29 +27,29 @@ use std::alloc::{AllocError, Global};
 
 /// What is told of items that are packed.
 #[derive(Clone, Copy)]
-pub(crate) enum Survey {
+pub(crate) enum Survey<'a> {
     /// How many there are, and how many bits they take.
     Stats,
     /// What receivers read of them where up to so many packets are lost.
     Loss(u8),
-    /// Their packed bits, and the last context where it is wanted, of packets that survive losses of up to so many in a row.
-    RobustPack(bool, u8),
+    /// What is printed of each in that shape, and the last context where it is wanted, of packets that survive losses of up to so many in a row.
+    RobustPack(Shape<'a>, bool, u8),
     /// How many such packets there are, and how many bits they take.
     RobustStats(u8),
     /// What receivers read of them where up to so many are lost, the first number, and as many as the second says do no harm.
     RobustLoss(u8, u8),
 }
 
-/// The answer to `stats`, `loss` or `pack --robust`, by the octets of a profile and the items among the parts: what is counted of the packets, and a line for each item that is refused; or the
+/// The answer to `stats`, `loss`, `pack --robust` or `why --robust`, by the octets of a profile and the items among the parts: what is counted of the packets, and a line for each item that is refused; or the
 /// line of another fault.
 pub(crate) fn answer_stats(
     alloc: Global,
-    what: Survey,
+    what: Survey<'_>,
     order: &Order<'_>,
     profile: &[u8],
     parts: &Parts<'_>,
 ) -> Result<Answer, AllocError>
-    ensures { IfOk result (spec.AnswersStats what order.now profile.now parts.now) }
+    ensures { IfOk result (spec.AnswersStats what.entry order.now profile.now parts.now) }
 {
     match parts.items {
         Some(items) => stats_by(alloc, what, order, profile, parts, items),
@@ -59,13 +60,13 @@ pub(crate) fn answer_stats(
 /// The answer by the octets of a profile and of items.
 fn stats_by(
     alloc: Global,
-    what: Survey,
+    what: Survey<'_>,
     order: &Order<'_>,
     profile: &[u8],
     parts: &Parts<'_>,
     input: &[u8],
 ) -> Result<Answer, AllocError>
-    ensures { IfOk result (spec.AnswersStatsBy what order.now profile.now parts.now input.now) }
+    ensures { IfOk result (spec.AnswersStatsBy what.entry order.now profile.now parts.now input.now) }
 {
     match accept(alloc, order.top, profile, Origin::of(order.version, parts))? {
         Judged::Accepted(accepted) => stats_for(alloc, what, &accepted, parts, input),
@@ -76,12 +77,12 @@ fn stats_by(
 /// The answer by an accepted profile and the octets of items.
 fn stats_for(
     alloc: Global,
-    what: Survey,
+    what: Survey<'_>,
     accepted: &Accepted,
     parts: &Parts<'_>,
     input: &[u8],
 ) -> Result<Answer, AllocError>
-    ensures { IfOk result (spec.AnswersStatsFor what accepted.now parts.now.context input.now) }
+    ensures { IfOk result (spec.AnswersStatsFor what.entry accepted.now parts.now.context input.now) }
 {
     match read_context(alloc, parts) {
         Ok(context) => stats_in(alloc, what, accepted, context, input),
@@ -96,12 +97,12 @@ fn stats_for(
 /// The answer in a context, by the octets of items.
 fn stats_in(
     alloc: Global,
-    what: Survey,
+    what: Survey<'_>,
     accepted: &Accepted,
     context: Context,
     input: &[u8],
 ) -> Result<Answer, AllocError>
-    ensures { IfOk result (spec.AnswersStatsIn what accepted.now context input.now) }
+    ensures { IfOk result (spec.AnswersStatsIn what.entry accepted.now context input.now) }
 {
     match read_items(alloc, input) {
         Ok(items) => tell_all(alloc, what, accepted, context, items.as_slice()),
@@ -116,19 +117,19 @@ fn stats_in(
 /// What is told of the packets of items.
 fn tell_all(
     alloc: Global,
-    what: Survey,
+    what: Survey<'_>,
     accepted: &Accepted,
     context: Context,
     items: &[Item],
 ) -> Result<Answer, AllocError>
-    ensures { IfOk result (spec.Surveys what accepted.now context items.now) }
+    ensures { IfOk result (spec.Surveys what.entry accepted.now context items.now) }
 {
     match what {
         Survey::Stats => count_all(alloc, accepted, Sender::Plain(context), items),
         Survey::Loss(most) => lose_all(alloc, accepted, most, Sender::Plain(context), items),
-        Survey::RobustPack(shows, lost) => {
+        Survey::RobustPack(shape, shows, lost) => {
             let sender = Sender::surviving(alloc, &context, lost)?;
-            send_all(alloc, shows, accepted, sender, items)
+            send_all(alloc, shape, shows, accepted, sender, items)
         }
         Survey::RobustStats(lost) => {
             let sender = Sender::surviving(alloc, &context, lost)?;

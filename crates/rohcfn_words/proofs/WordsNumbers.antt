@@ -8,9 +8,9 @@ use Rattle.std.proofs.lemmas.Fmt.{decimal_is_IsNumeral}
 use Rattle.std.proofs.lemmas.Slice.Eq.{bytes_eq-Decides}
 use Rattle.clap.specs.Words.{Row, first_of}
 use Rattle.rohcfn_words.specs.declared.words.Command.{Command}
-use Rattle.rohcfn_words.specs.declared.words.Command.TheVariants.{Run, Stats, Loss, RobustPack, RobustStats, RobustLoss}
+use Rattle.rohcfn_words.specs.declared.words.Command.TheVariants.{Run, Stats, Loss, Why, RobustPack, RobustStats, RobustLoss, RobustWhy}
 use Rattle.rohcfn_words.specs.declared.words.Direction.TheVariants.{Pack}
-use Rattle.rohcfn_words.specs.Words.{Asked, ReadsLost, ReadsRobust, asked_by, asked_in, command_asked, command_named, is_set, lost_in, lost_spelled, robust_by, robust_command}
+use Rattle.rohcfn_words.specs.Words.{Asked, ReadsLost, ReadsRobust, asked_by, asked_in, command_asked, command_named, is_set, lost_in, lost_spelled, direction_at, robust_by, robust_command}
 
 both_true : (a b : Bool) → (a && b) ≡ true → (a ≡ true) × (b ≡ true)
 both_true true b h = (refl, h)
@@ -87,6 +87,12 @@ robust_loses rows most n top few below l r t =
     ap (λ x. option_and_then (robust_by (first_of (codes "robust") rows)) (option_map Loss x)) lost ∙ robust_number rows n (Loss most) below r in
     λ i. option_map (λ (a : Asked). a.command) (asked_by (command i) (t i) (is_set (first_of (codes "context") rows)) (is_set (first_of (codes "v2") rows)) (is_set (first_of (codes "wide") rows)))
 
+robust_tells : (rows : List Row) (n : ℕ) (top : List ℕ) → n < 64 → first_of (codes "robust") rows ≡ Some (decimal n) → first_of (codes "items") rows ≡ Some (codes "true") → first_of (codes "top") rows ≡ Some top → command_asked (codes "why") rows ≡ Some (RobustWhy n)
+robust_tells rows n top below r items t =
+    let command : robust_by (first_of (codes "robust") rows) (Why (direction_at (is_set (first_of (codes "items") rows)))) ≡ Some (RobustWhy n) =
+    ap (λ x. robust_by (first_of (codes "robust") rows) (Why (direction_at (is_set x)))) items ∙ robust_number rows n (Why Pack) below r in
+    λ i. option_map (λ (a : Asked). a.command) (asked_by (command i) (t i) (is_set (first_of (codes "context") rows)) (is_set (first_of (codes "v2") rows)) (is_set (first_of (codes "wide") rows)))
+
 -- with another text none is asked for
 unspelled : (text : List ℕ) (command : Option Command) → lost_spelled text ≡ None → option_and_then (robust_by (Some text)) command ≡ None
 unspelled text None none = refl
@@ -103,5 +109,6 @@ robust_is_read = record {
   packs = robust_packs;
   counts = robust_counts;
   loses = robust_loses;
+  tells = robust_tells;
   refuses = robust_refused;
 }

@@ -10,7 +10,7 @@ use Rattle.clap.specs.declared.error.kind.ErrorKind.TheVariants.{DisplayHelp, Ou
 use Rattle.fn_cert.specs.declared.certificate.Version.{Version}
 use Rattle.fn_cert.specs.declared.certificate.Version.TheVariants.{One, Two}
 use Rattle.rohcfn_words.specs.declared.words.Command.{Command}
-use Rattle.rohcfn_words.specs.declared.words.Command.TheVariants.{Show, Lint, Draw, Check, Prove, ExplainCheck, ExplainProve, Run, Fields, Why, Stats, Loss, RobustPack, RobustStats, RobustLoss, Line}
+use Rattle.rohcfn_words.specs.declared.words.Command.TheVariants.{Show, Lint, Draw, Check, Prove, ExplainCheck, ExplainProve, Run, Fields, Why, Stats, Loss, RobustPack, RobustStats, RobustLoss, RobustWhy, Line}
 use Rattle.rohcfn_words.specs.declared.words.Direction.{Direction}
 use Rattle.rohcfn_words.specs.declared.words.Direction.TheVariants.{Pack, Unpack}
 use Rattle.rohcfn_words.specs.declared.words.End.{End}
@@ -109,6 +109,9 @@ with_sending name = with_rule (with_flags name) robust_option
 abbrev pub with_items : List ℕ → App
 with_items name = with_rule (with_flags name) items_flag
 
+abbrev pub with_reasons : List ℕ → App
+with_reasons name = with_rule (with_items name) robust_option
+
 abbrev pub with_receive : List ℕ → App
 with_receive name = with_rule (with_version name) receive_flag
 
@@ -123,7 +126,7 @@ bare_program = on_top (λ top. record top { no_binary_name = true; subcommand_re
 -- with its commands
 unfoldable pub program : App
 program = with_subcommand (with_subcommand (with_subcommand (with_subcommand (with_subcommand (with_subcommand (with_subcommand (with_subcommand (with_subcommand (with_subcommand (with_subcommand (with_subcommand bare_program (with_sending (codes "pack")).top)
-    (with_flags (codes "unpack")).top) (with_items (codes "fields")).top) (with_items (codes "why")).top) (with_robust (codes "stats")).top) (with_losses (codes "loss")).top) (with_top (codes "show")).top) (with_top (codes "lint")).top) (with_top (codes "draw")).top) (with_explain (codes "check")).top) (with_explain (codes "prove")).top) (with_wide (codes "line")).top
+    (with_flags (codes "unpack")).top) (with_items (codes "fields")).top) (with_reasons (codes "why")).top) (with_robust (codes "stats")).top) (with_losses (codes "loss")).top) (with_top (codes "show")).top) (with_top (codes "lint")).top) (with_top (codes "draw")).top) (with_explain (codes "check")).top) (with_explain (codes "prove")).top) (with_wide (codes "line")).top
 
 -- a command, the name of a method, whether the last context is printed, the version of a certificate that is made, and whether the line is the wide one
 pub record Asked : Type 0 where
@@ -164,8 +167,14 @@ abbrev pub robust_run : Direction → ℕ → Option Command
 robust_run Pack n = Some (RobustPack n)
 robust_run Unpack n = None
 
+-- why one is refused, likewise
+abbrev pub robust_why : Direction → ℕ → Option Command
+robust_why Pack n = Some (RobustWhy n)
+robust_why Unpack n = None
+
 abbrev pub robust_command : Command → ℕ → Option Command
 robust_command (Run direction) n = robust_run direction n
+robust_command (Why direction) n = robust_why direction n
 robust_command Stats n = Some (RobustStats n)
 robust_command (Loss most) n = Some (RobustLoss most n)
 robust_command _ n = None
@@ -221,7 +230,7 @@ pub record ReadsLost : Type 0 where
   pub refuses : (rows : List Row) (text : List ℕ) → first_of (codes "lost") rows ≡ Some text → ((n : ℕ) → n < 64 → text ≢ decimal n)
       → asked_in (Some (codes "loss", rows)) ≡ None
 
--- What `pack`, `stats` and `loss` make of the text that `--robust` has, likewise.
+-- What `pack`, `stats`, `loss` and `why` make of the text that `--robust` has, likewise.
 pub record ReadsRobust : Type 0 where
   pub packs : (rows : List Row) (n : ℕ) (top : List ℕ) → n < 64 → first_of (codes "robust") rows ≡ Some (decimal n) → first_of (codes "top") rows ≡ Some top
       → command_asked (codes "pack") rows ≡ Some (RobustPack n)
@@ -229,6 +238,8 @@ pub record ReadsRobust : Type 0 where
       → command_asked (codes "stats") rows ≡ Some (RobustStats n)
   pub loses : (rows : List Row) (most n : ℕ) (top : List ℕ) → most < 64 → n < 64 → first_of (codes "lost") rows ≡ Some (decimal most) → first_of (codes "robust") rows ≡ Some (decimal n) → first_of (codes "top") rows ≡ Some top
       → command_asked (codes "loss") rows ≡ Some (RobustLoss most n)
+  pub tells : (rows : List Row) (n : ℕ) (top : List ℕ) → n < 64 → first_of (codes "robust") rows ≡ Some (decimal n) → first_of (codes "items") rows ≡ Some (codes "true") → first_of (codes "top") rows ≡ Some top
+      → command_asked (codes "why") rows ≡ Some (RobustWhy n)
   pub refuses : (name text : List ℕ) (rows : List Row) → first_of (codes "robust") rows ≡ Some text → ((n : ℕ) → n < 64 → text ≢ decimal n)
       → asked_in (Some (name, rows)) ≡ None
 
@@ -306,6 +317,8 @@ pub record ReadsWords : Type 0 where
   pub loss_robust : asked_of (codes "loss" ∷ codes "--top" ∷ codes "plain" ∷ codes "--robust" ∷ codes "3" ∷ []) ≡ Some (record { command = RobustLoss 8 3; top = codes "plain"; shows_context = false; version = One; is_wide = false })
   pub loss_both : asked_of (codes "loss" ∷ codes "--top" ∷ codes "plain" ∷ codes "--robust" ∷ codes "15" ∷ codes "--lost" ∷ codes "2" ∷ []) ≡ Some (record { command = RobustLoss 2 15; top = codes "plain"; shows_context = false; version = One; is_wide = false })
   pub loss_robust_empty : asked_of (codes "loss" ∷ codes "--top" ∷ codes "plain" ∷ codes "--robust=" ∷ []) ≡ None
+  pub why_robust : asked_of (codes "why" ∷ codes "--top" ∷ codes "plain" ∷ codes "--items" ∷ codes "--robust" ∷ codes "2" ∷ []) ≡ Some (record { command = RobustWhy 2; top = codes "plain"; shows_context = false; version = One; is_wide = false })
+  pub why_robust_packets : asked_of (codes "why" ∷ codes "--top" ∷ codes "plain" ∷ codes "--robust" ∷ codes "2" ∷ []) ≡ None
   pub unpack_robust : asked_of (codes "unpack" ∷ codes "--top" ∷ codes "plain" ∷ codes "--robust" ∷ codes "1" ∷ []) ≡ None
   pub fields_robust : asked_of (codes "fields" ∷ codes "--top" ∷ codes "plain" ∷ codes "--items" ∷ codes "--robust" ∷ codes "1" ∷ []) ≡ None
   pub lint : asked_of (codes "lint" ∷ codes "--top" ∷ codes "plain" ∷ []) ≡ Some (record { command = Lint; top = codes "plain"; shows_context = false; version = One; is_wide = false })

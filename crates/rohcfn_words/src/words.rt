@@ -2,7 +2,7 @@
 ghost use Rattle.std.specs.Prelude.{◌≡◌, ◌↔◌, None, Some, false, map, IfOk, IfErr, option_map};
 ghost use Rattle.clap.specs.Words.{app_of, kind_of, subcommand_rows_of};
 ghost use Rattle.clap.specs.declared.builder.command.Command.TheViews.{out-Command as fields_of};
-ghost use Rattle.rohcfn_words.specs.Words.{ReadsLost, ReadsRobust, ReadsWords, RefusesError, RefusesWords, asked, asked_in, asked_of, check_at, command_named, direction_at, end_at, prove_at, is_set, lost_in, lost_spelled, program, robust_by, robust_command, robust_run, version_asked, with_explain, with_flags, with_items, with_losses, with_lost, with_receive, with_robust, with_sending, with_top, with_version, with_wide};
+ghost use Rattle.rohcfn_words.specs.Words.{ReadsLost, ReadsRobust, ReadsWords, RefusesError, RefusesWords, asked, asked_in, asked_of, check_at, command_named, direction_at, end_at, prove_at, is_set, lost_in, lost_spelled, program, robust_by, robust_command, robust_run, robust_why, version_asked, with_explain, with_flags, with_items, with_losses, with_lost, with_reasons, with_receive, with_robust, with_sending, with_top, with_version, with_wide};
 
 use clap::error::ErrorKind;
 use clap::{Arg, ArgAction, ArgMatches};
@@ -44,6 +44,8 @@ pub enum Command {
     RobustStats(u8),
     /// Tells what is read of them after losses of up to so many in a row, the first number, where they survive as many as the second says.
     RobustLoss(u8, u8),
+    /// Tells for the first item that is refused such a packet what stands against each format.
+    RobustWhy(u8),
     /// Sends or receives packets of several flows on one line, by the part `profile`.
     Line(End),
 }
@@ -100,8 +102,8 @@ impl From<AllocError> for WordsError {
 
 /// Reads the words that follow the program's name: a command, `pack`, `unpack`, `fields`, `why`, `stats`, `loss`, `show`, `lint`,
 /// `draw`, `check`, `prove` or `line`, and its flags: `--top NAME`, for all commands but `show`, `lint` and `draw` also `--v2`, for `pack`, `unpack`, `fields` and `why` also
-/// `--context`, for `fields` and `why` also `--items`, for `loss` also `--lost N`, for `pack`, `stats` and `loss` also `--robust N`, for `check` and `prove` also
-/// `--explain`, and for `line` also `--receive` and `--wide`.
+/// `--context`, for `fields` and `why` also `--items`, for `loss` also `--lost N`, for `pack`, `stats`, `loss` and `why --items` also `--robust N`, for `check` and
+/// `prove` also `--explain`, and for `line` also `--receive` and `--wide`.
 ///
 /// The clauses say it by clap's own account of a command line (`asked_of`), on which clap's parse is
 /// proved exact. N is a decimal number from 0 to 63 without a sign or a leading zero (`lost_is_read`, `robust_is_read`), and that
@@ -133,7 +135,7 @@ pub fn lost_is_read()
     ensures { ReadsLost }
 {}
 
-/// A law of the texts that `--robust` takes: which ones they are, and what `pack`, `stats` and `loss` ask for with each.
+/// A law of the texts that `--robust` takes: which ones they are, and what `pack`, `stats`, `loss` and `why` ask for with each.
 #[tactic(auto, using(crate::proofs::WordsNumbers::robust_is_read))]
 pub fn robust_is_read()
     ensures { ReadsRobust }
@@ -147,6 +149,8 @@ const USUALLY_LOST: &str = "8";
 const ROBUST_HELP: &str = "Packets survive losses of up to N in a row, 0 to 63";
 
 const NO_ORDER: &str = "error: a command and --top NAME are needed\n";
+
+const NO_ITEMS: &str = "error: '--robust <N>' goes with '--items': packets are read and not sent\n";
 
 // What goes in and comes out, with an example for each command. It ends each text for the person who called.
 const INPUT: &str = "\
@@ -165,6 +169,7 @@ A bundle is read from standard input: parts, each after a line `=== PART`. For e
   rohcfn fields --top plain --items <BUNDLE  profile, items > the fields of each item's packet
   rohcfn why --top plain <BUNDLE             profile, packets > why the first that is refused is
   rohcfn why --top plain --items <BUNDLE     profile, items > the same of the first item that is
+                                             (with --robust N, of packets that survive losses)
   rohcfn stats --top plain <BUNDLE           profile, items > the items and packed bits of each format
   rohcfn loss --top plain <BUNDLE            profile, items > what is read of them after lost packets
   rohcfn loss --top plain --lost 2 <BUNDLE   the same, where at most 2 in a row are lost, and not 8
@@ -193,7 +198,7 @@ fn program<'a>(alloc: Global) -> Result<clap::Command<'a>, AllocError>
     let two = one.subcommand(unpack)?;
     let fields = with_items(alloc, "fields", "Lists the fields of the part packets")?;
     let three = two.subcommand(fields)?;
-    let why = with_items(alloc, "why", "Tells why one of the part packets is refused")?;
+    let why = with_reasons(alloc, "why", "Tells why one of the part packets is refused")?;
     let reasons = three.subcommand(why)?;
     let stats = with_robust(alloc, "stats", "Counts the packed bits of the part items")?;
     let counted = reasons.subcommand(stats)?;
@@ -382,6 +387,22 @@ fn with_items<'a>(
     with_flags(alloc, name, about)?.arg(items)
 }
 
+// A command with the flags `--top`, `--v2`, `--context` and `--items`, and the option `--robust`.
+fn with_reasons<'a>(
+    alloc: Global,
+    name: &'a str,
+    about: &'a str,
+) -> Result<clap::Command<'a>, AllocError>
+    ensures app { IfOk result (λ command. app_of command ≡ with_reasons name.entry.now) }
+    ensures local { IfOk result (λ command. (fields_of command).has_globals ≡ false) }
+{
+    let robust = Arg::new(alloc, "robust")
+        .long("robust")
+        .value_name("N")
+        .help(ROBUST_HELP);
+    with_items(alloc, name, about)?.arg(robust)
+}
+
 // A command with the flags `--top`, `--v2` and `--receive`.
 fn with_receive<'a>(
     alloc: Global,
@@ -490,6 +511,7 @@ fn robust_of(command: Command, lost: u8) -> Option<Command>
 {
     match command {
         Command::Run(direction) => robust_run(direction, lost),
+        Command::Why(direction) => robust_why(direction, lost),
         Command::Stats => Some(Command::RobustStats(lost)),
         Command::Loss(most) => Some(Command::RobustLoss(most, lost)),
         _ => None,
@@ -501,6 +523,15 @@ fn robust_run(direction: Direction, lost: u8) -> Option<Command>
 {
     match direction {
         Direction::Pack => Some(Command::RobustPack(lost)),
+        Direction::Unpack => None,
+    }
+}
+
+fn robust_why(direction: Direction, lost: u8) -> Option<Command>
+    ensures { result ≡ robust_why direction lost }
+{
+    match direction {
+        Direction::Pack => Some(Command::RobustWhy(lost)),
         Direction::Unpack => None,
     }
 }
@@ -529,7 +560,15 @@ fn no_order<'a>(alloc: Global, matches: &ArgMatches<'a>) -> Result<String, Alloc
         Some((option, text)) => format!(in alloc;
             "error: invalid value '{text}' for '--{option} <N>': a number from 0 to {MOST_LOST} is needed\n\nFor more information, try '--help'.\n\n{INPUT}"
         ),
-        None => format!(in alloc; "{NO_ORDER}\n{INPUT}"),
+        None => format!(in alloc; "{}\n{INPUT}", lacking(matches)),
+    }
+}
+
+// What is lacking to an order.
+fn lacking<'a>(matches: &ArgMatches<'a>) -> &'static str {
+    match matches.subcommand() {
+        Some(("why", flags)) if flags.get_str("robust").is_some() => NO_ITEMS,
+        _ => NO_ORDER,
     }
 }
 

@@ -1,24 +1,24 @@
 use Rattle.std.proofs.Common.{◌∙◌, ◌+◌, refl, sym, ap, subst, arith}
 use Rattle.std.proofs.lemmas.Option.{slice_get_read}
-use Rattle.fn_context.specs.Placing.{shown}
+use Rattle.fn_filling.specs.Entries.{next}
 use Rattle.fn_elsewhere.specs.Held.{Holding}
 use Rattle.fn_robust.proofs.Comings.{ComeTo, come_all, known_step, new_step}
 use Rattle.fn_robust.proofs.coming.others_of.Goals as goal
 
 pub loop-i-preserved-then-is_known : goal.loop-i-preserved-then-is_known
 loop-i-preserved-then-is_known c =
-    known_step c.args.first.now c.args.held.now c.args.filling.now c.loop-i.i c.loop-i.found.items c.index-held-i.result
+    known_step (next c.args.own.now c.args.filling.now) c.args.held.now c.args.filling.now c.loop-i.i c.loop-i.found.items c.index-held-i.result
     (slice_get_read c.args.held.now _ c.loop-i.i c.index-held-i.result refl c.loop-i-test.true c.index-held-i.is) c.loop-i.invariant
-    _ _ _ (ap (λ xs. shown xs) c.as_slice-in-loop-i.ensures.value ∙ c.in_ok-left.ensures) c.as_slice.ensures.value (ap (λ (h : Holding). h.context) c.one.view_is)
-    c.requires (c.is_known.ensures.0 c.if-is_known.true)
+    _ _ _ c.requires c.as_slice.ensures.value (ap (λ (h : Holding). h.context) c.one.view_is)
+    c.args.own.now refl (c.is_known.ensures.0 c.if-is_known.true)
 
 pub loop-i-preserved : goal.loop-i-preserved
 loop-i-preserved c =
-    subst (ComeTo c.args.first.now c.args.held.now c.args.filling.now (c.loop-i.i + 1)) (sym c.in_ok-push.ensures.items)
-    (new_step c.args.first.now c.args.held.now c.args.filling.now c.loop-i.i c.loop-i.found.items c.index-held-i.result
+    subst (ComeTo (next c.args.own.now c.args.filling.now) c.args.held.now c.args.filling.now (c.loop-i.i + 1)) (sym c.in_ok-push.ensures.items)
+    (new_step (next c.args.own.now c.args.filling.now) c.args.held.now c.args.filling.now c.loop-i.i c.loop-i.found.items c.index-held-i.result
     (slice_get_read c.args.held.now _ c.loop-i.i c.index-held-i.result refl c.loop-i-test.true c.index-held-i.is) c.loop-i.invariant
-    _ _ _ (ap (λ xs. shown xs) c.as_slice-in-loop-i.ensures.value ∙ c.in_ok-left.ensures) c.as_slice.ensures.value (ap (λ (h : Holding). h.context) c.one.view_is)
-    _ c.in_ok-context.ensures (λ known. let t = c.is_known.ensures.1 known in absurd (cc (c.if-is_known.false, t))))
+    _ _ _ c.requires c.as_slice.ensures.value (ap (λ (h : Holding). h.context) c.one.view_is)
+    c.args.own.now refl _ c.in_ok-context.ensures (λ known. let t = c.is_known.ensures.1 known in absurd (cc (c.if-is_known.false, t))))
 
 pub returns : goal.returns
-returns c = come_all c.args.first.now c.args.held.now c.args.filling.now c.loop-i.i c.loop-i.found.items (omega (arith, c.loop-i-test.false)) c.loop-i.invariant
+returns c = come_all (next c.args.own.now c.args.filling.now) c.args.held.now c.args.filling.now c.loop-i.i c.loop-i.found.items (omega (arith, c.loop-i-test.false)) c.loop-i.invariant

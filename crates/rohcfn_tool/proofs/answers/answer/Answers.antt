@@ -1,7 +1,7 @@
 use Rattle.std.proofs.Common.{refl, subst}
 use Rattle.rohcfn_tool.specs.Line.{Lined}
 use Rattle.rohcfn_tool.specs.declared.stats.Survey.TheVariants as survey
-use Rattle.rohcfn_tool.specs.Printed.{Answered, AnsweredRun, no_profile, shown, linted, drawn, checked, proved, check_explained, prove_explained, ran, told, explained, lined, stated, lost_told, robust_packed, robust_stated, robust_told, Stated}
+use Rattle.rohcfn_tool.specs.Printed.{Answered, AnsweredRun, no_profile, shown, linted, drawn, checked, proved, check_explained, prove_explained, ran, told, explained, lined, stated, lost_told, robust_packed, robust_explained, robust_stated, robust_told, Stated}
 use Rattle.rohcfn_tool.specs.declared.packets.Shape.TheVariants.{Line, Tree, Why}
 use Rattle.rohcfn_report.specs.Explained.{Explained}
 use Rattle.rohcfn_report.specs.Surveys.{DrawnBy}
@@ -69,7 +69,7 @@ returns-in-Loss c =
 
 pub returns-in-RobustPack : goal.returns-in-RobustPack
 returns-in-RobustPack c =
-    passed_on (Stated (survey.RobustPack c.args.order.now.shows_context c.in-RobustPack.lost) c.args.order.now c.in-Some.profile.now c.args.parts.now) (Answered c.args.order.now c.args.parts.now) c.answer_stats-in-RobustPack.result (λ s out h. robust_packed c.in-Some.profile c.in-RobustPack.lost c.in-Some.is c.in-RobustPack.is h) c.answer_stats-in-RobustPack.ensures
+    passed_on (Stated (survey.RobustPack Line c.args.order.now.shows_context c.in-RobustPack.lost) c.args.order.now c.in-Some.profile.now c.args.parts.now) (Answered c.args.order.now c.args.parts.now) c.answer_stats-in-RobustPack.result (λ s out h. robust_packed c.in-Some.profile c.in-RobustPack.lost c.in-Some.is c.in-RobustPack.is h) c.answer_stats-in-RobustPack.ensures
 
 pub returns-in-RobustStats : goal.returns-in-RobustStats
 returns-in-RobustStats c =
@@ -78,3 +78,7 @@ returns-in-RobustStats c =
 pub returns-in-RobustLoss : goal.returns-in-RobustLoss
 returns-in-RobustLoss c =
     passed_on (Stated (survey.RobustLoss c.in-RobustLoss.most c.in-RobustLoss.lost) c.args.order.now c.in-Some.profile.now c.args.parts.now) (Answered c.args.order.now c.args.parts.now) c.answer_stats-in-RobustLoss.result (λ s out h. robust_told c.in-Some.profile c.in-RobustLoss.most c.in-RobustLoss.lost c.in-Some.is c.in-RobustLoss.is h) c.answer_stats-in-RobustLoss.ensures
+
+pub returns-in-RobustWhy : goal.returns-in-RobustWhy
+returns-in-RobustWhy c =
+    passed_on (Stated (survey.RobustPack (Why c.in-Some.profile) c.args.order.now.shows_context c.in-RobustWhy.lost) c.args.order.now c.in-Some.profile.now c.args.parts.now) (Answered c.args.order.now c.args.parts.now) c.answer_stats-in-RobustWhy.result (λ s out h. robust_explained c.in-Some.profile c.in-RobustWhy.lost c.in-Some.is c.in-RobustWhy.is h) c.answer_stats-in-RobustWhy.ensures
