@@ -1,5 +1,5 @@
 -- Which uses of a filling don't serve in a context, and what is told of each (docs/DEFINITIONS.md, Losses).
-use Rattle.std.specs.Prelude.{◌≡◌, ℕ, List, [], ◌∷◌, string_bytes, ℤ}
+use Rattle.std.specs.Prelude.{◌≡◌, ℕ, ◌<◌, List, [], ◌∷◌, Some, slice_get, string_bytes, ℤ}
 use Rattle.fn_normal.specs.declared.profile.Method.{Method}
 use Rattle.fn_filling.specs.declared.filling.Filling.{Filling}
 use Rattle.fn_filling.specs.Entries.{Path}
@@ -31,3 +31,12 @@ pub record HasUnserved (methods : List Method) (ctx : Context) (k : ℕ) (args :
 -- each of these serves in the context
 abbrev pub TheyServe : Context → List Use → Type 0
 TheyServe ctx us = (u : Use) → IsAmong u us → Serves ctx u
+
+-- The first of these uses that doesn't serve is told.
+pub record IsFirstUnserved (ctx : Context) (us : List Use) (x : Unserved) : Type 0 where
+  pub place : ℕ
+  pub use : Use
+  pub at : slice_get us place ≡ Some use
+  pub before : (i : ℕ) (u : Use) → i < place → slice_get us i ≡ Some u → Serves ctx u
+  pub fails : Serves ctx use → ⊥
+  pub told : IsTold ctx use x

@@ -4,7 +4,7 @@
 pub use hearing::{Heard, Kind, hear};
 pub use judging::{Case, Journal, Reading, case_of, judge};
 pub use scores::{Group, Score, reach_of, score_of};
-pub use unserved::{Unserved, all_serve, unserved_among, unserved_uses};
+pub use unserved::{Unserved, all_serve, first_unserved, unserved_among, unserved_uses};
 pub use uses::{Referring, Using, uses_of};
 
 pub mod hearing;

@@ -1,6 +1,6 @@
 //! Which of the references that a filling uses don't serve in a context.
 
-ghost use Rattle.std.specs.Prelude.{◌≡◌, ◌↔◌, IsTrue, IfOk, Some, []};
+ghost use Rattle.std.specs.Prelude.{◌≡◌, ◌↔◌, IsTrue, IfOk, IfSome, IfNone, Some, []};
 ghost use Rattle.std.specs.Option.{option_copied};
 ghost use Rattle.fn_context.specs.Entries.{bits_at};
 ghost use Rattle.fn_fits.specs.Fits.{reference_of};
@@ -62,6 +62,25 @@ pub fn unserved_among(
         found.push(line)?;
     }
     Ok(found)
+}
+
+/// The first of these uses that doesn't serve in the context, or None where each serves.
+pub fn first_unserved(
+    alloc: Global,
+    context: &Context,
+    uses: &[Using],
+) -> Result<Option<Unserved>, AllocError>
+    ensures first { IfOk result (λ o. IfSome o (spec.IsFirstUnserved (bits_at context.now) uses.now)) }
+    ensures none { IfOk result (λ o. IfNone o (spec.TheyServe (bits_at context.now) uses.now)) }
+{
+    for i in 0..uses.len() {
+        let one = &uses[i];
+        if !serves_in(alloc, context, one)? {
+            let line = told(alloc, context, one)?;
+            return Ok(Some(line));
+        }
+    }
+    Ok(None)
 }
 
 /// Whether each of these uses serves in the context.

@@ -6,11 +6,11 @@ use Rattle.fn_filling.specs.declared.filling.Item.{Item}
 use Rattle.fn_filling.specs.Fillings.{item}
 use Rattle.fn_accepted.specs.Accepted.{Accepting}
 use Rattle.fn_elsewhere.specs.Held.{Holding}
+use Rattle.fn_elsewhere.specs.Listed.{UsesAre}
 use Rattle.fn_elsewhere.specs.Uses.{Use}
 use Rattle.fn_engine.specs.Reading.{Fitting}
 use Rattle.fn_engine.specs.Searching.{number_in}
-use Rattle.fn_loss.specs.declared.unserved.Unserved.{Unserved}
-use Rattle.fn_loss.specs.Unserved.{AreUnserved, HasUnserved}
+use Rattle.fn_loss.specs.Unserved.{IsFirstUnserved}
 use Rattle.fn_robust.specs.declared.lacking.Lack.{Lack}
 use Rattle.fn_robust.specs.Answers.{FitsEach}
 
@@ -31,8 +31,9 @@ pub record IsLack (a : Accepting) (others : List Holding) (f : Filling) (l : Lac
   pub at : slice_get others place ≡ Some one
   pub gap_is : l.gap ≡ one.gap
   pub before : (i : ℕ) (h : Holding) → i < place → slice_get others i ≡ Some h → Fitting a h.context f
-  pub more : List Unserved
-  pub unserved : HasUnserved a.profile.methods (bits_at one.context) a.profile.top [] [] f (l.unserved ∷ more)
+  pub uses : List Use
+  pub uses_are : UsesAre a.profile.methods a.profile.top [] [] f uses
+  pub first : IsFirstUnserved (bits_at one.context) uses l.unserved
 
 -- a line of the format is there
 abbrev pub IsTold : List Lack → ℕ → Type 0
@@ -54,11 +55,3 @@ pub data AddsLack (a : Accepting) (others : List Holding) (f : Filling) (old : L
   was_told : IsTold old (format_of f) → AddsLack a others f old old
   fits_all : FitsEach a others f → AddsLack a others f old old
   lacks : (l : Lack) → (IsTold old (format_of f) → ⊥) → IsLack a others f l → AddsLack a others f old (old ++ l ∷ [])
-
--- the first of the uses that doesn't serve
-pub record IsFirstOf (ctx : Entries) (uses : List Use) (x : Unserved) : Type 0 where
-  pub more : List Unserved
-  pub unserved : AreUnserved (bits_at ctx) uses (x ∷ more)
-
-abbrev pub NoneOf : Entries → List Use → Type 0
-NoneOf ctx uses = AreUnserved (bits_at ctx) uses []

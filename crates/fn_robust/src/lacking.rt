@@ -11,7 +11,7 @@ use fn_accepted::Accepted;
 use fn_context::Context;
 use fn_engine::{Candidate, PackFault, pack_from};
 use fn_filling::{Filling, Item};
-use fn_loss::{Unserved, Using, unserved_among, uses_of};
+use fn_loss::{Unserved, first_unserved, uses_of};
 use sqlite_items::Items;
 use std::alloc::{AllocError, Global};
 
@@ -116,22 +116,6 @@ fn lack_of(
                 unserved,
             }));
         }
-    }
-    Ok(None)
-}
-
-/// The first of the uses that doesn't serve in the context.
-fn first_unserved(
-    alloc: Global,
-    context: &Context,
-    uses: &[Using],
-) -> Result<Option<Unserved>, AllocError>
-    ensures some { IfOk result (λ o. IfSome o (spec.IsFirstOf context.now uses.now)) }
-    ensures none { IfOk result (λ o. IfNone o (spec.NoneOf context.now uses.now)) }
-{
-    let told = unserved_among(alloc, context, uses)?;
-    for one in told {
-        return Ok(Some(one));
     }
     Ok(None)
 }

@@ -1,0 +1,25 @@
+use Rattle.std.proofs.Common.{refl, arith}
+use Rattle.std.proofs.lemmas.Option.{slice_get_read}
+use Rattle.fn_context.specs.Entries.{bits_at}
+use Rattle.fn_elsewhere.specs.Uses.{Serves}
+use Rattle.fn_fits.proofs.Each.{before_end, before_next}
+use Rattle.fn_loss.proofs.unserved.first_unserved.Goals as goal
+
+pub returns-then-not-branch-in_ok-line-clause-first : goal.returns-then-not-branch-in_ok-line-clause-first
+returns-then-not-branch-in_ok-line-clause-first c = record {
+  place = c.loop-i.i;
+  use = c.index-uses-i.result;
+  at = slice_get_read c.args.uses.now _ c.loop-i.i c.index-uses-i.result refl c.loop-i-test.true c.index-uses-i.is;
+  before = c.loop-i.invariant;
+  fails = λ served. let t = c.in_ok-serves_in.ensures.1 served in absurd (cc (t, c.if-not-branch.true));
+  told = c.in_ok-line.ensures;
+}
+
+pub loop-i-preserved : goal.loop-i-preserved
+loop-i-preserved c =
+    before_next (λ j u. Serves (bits_at c.args.context.now) u) c.args.uses.now c.loop-i.i c.index-uses-i.result
+    (slice_get_read c.args.uses.now _ c.loop-i.i c.index-uses-i.result refl c.loop-i-test.true c.index-uses-i.is)
+    (c.in_ok-serves_in.ensures.0 c.if-not-branch.false) c.loop-i.invariant
+
+pub returns-clause-none : goal.returns-clause-none
+returns-clause-none c u among = before_end (λ j u. Serves (bits_at c.args.context.now) u) c.args.uses.now c.loop-i.i (omega (arith, c.loop-i-test.false)) c.loop-i.invariant among.0 u among.1
