@@ -27,7 +27,7 @@ from .reference.built import PLAIN
 from .reference.samples import CERTIFICATES, MODE, OPT, SEQ, TICK, TURN
 
 ALL = 1 << 62
-DRAWING = ("pack", "unpack", "send", "reset", "feed")
+DRAWING = ("robust ", "pack", "unpack", "send", "reset", "feed")
 AGAIN = "refused, as before, then right\n"
 REPEATED = "refused, items kept, refused again\n"
 

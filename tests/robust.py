@@ -1,8 +1,8 @@
-"""Packets that survive losses, through the built program: `pack`, `stats` and `loss` with `--robust N`.
+"""Packets that survive losses, through the built program: `pack`, `stats`, `loss` and `why` with `--robust N`.
 
-    robust.py            `--robust 0` changes nothing of the stored cases; `pack --robust N` and `stats --robust N` against a slow search over what a receiver
-                         may hold, on small profiles; and the headers of data/ over a link that loses packets, never more than N in a row: what `unpack` reads of
-                         those that come through, in the receiver's own context, is compared with their items
+    robust.py            `--robust 0` changes nothing of the stored cases; `pack`, `stats` and `why --items` with `--robust N` against a slow search over what a
+                         receiver may hold, on small profiles; and the headers of data/ over a link that loses packets, never more than N in a row: what `unpack`
+                         reads of those that come through, in the receiver's own context, is compared with their items
     robust.py --all      the same with 100,000 packets that come through
     robust.py tables     prints the rows of README and docs/LOSS.md: how many bits a header of data/ takes for each N, and what is read after lost packets
 """
@@ -10,10 +10,11 @@ import collections
 import concurrent.futures
 import itertools
 import random
+import re
 import sys
 
 from examples import headers
-from . import cases, roundtrip, stats
+from . import cases, loss, roundtrip, stats
 from .program import EXAMPLES, ROOT, bundle, lines, run
 from .reference.reading import Field, Format, Method
 from .reference.samples import bracket, enforce, literal
@@ -82,17 +83,18 @@ def own_subjects():
 
 
 def without_loss():
-    """For each stored case of `pack`, `stats` and `loss` that is no usage fault whether it prints the same with `--robust 0`."""
+    """For each stored case of `pack`, `stats`, `loss` and `why --items` that is no usage fault whether it prints the same with `--robust 0`."""
     def tried(case):
         name, text, status, output = case
         return name, run(text) == (output.decode(), status)
 
     found = []
     for name, text, status, output in cases.cases():
-        for command in (b"pack", b"stats", b"loss"):
+        for command in (b"pack", b"stats", b"loss", b"why"):
             head = b"=== words\n" + command + b" "
-            words = text.partition(head)[2].partition(b"\n")[0]
-            if text.count(head) == 1 and status != 2 and b"--robust" not in words:
+            words = text.partition(head)[2].partition(b"\n")[0].split()
+            sends = command != b"why" or b"--items" in words
+            if text.count(head) == 1 and status != 2 and sends and not any(it.startswith(b"--robust") for it in words):
                 found.append((name, text.replace(head, head + b"--robust 0 "), status, output))
     with concurrent.futures.ThreadPoolExecutor(max_workers=4) as pool:
         return list(pool.map(tried, found))
@@ -134,6 +136,38 @@ class Holding:
         return reaching[0], None
 
 
+    def lacks(self, header, asked):
+        """For each format with a filling that fits in the own context, the best one first, the lines of which one tells why that best one doesn't do."""
+        told = {}
+        for key, filling in self.fillings(self.frozen(self.own), header, asked).items():
+            if filling.index not in told:
+                bad = [(gap, context) for gap, context in self.pairs if key not in self.fillings(context, header, asked)]
+                least = min(gap for gap, _ in bad)
+                told[filling.index] = {lacking(self.subject, filling, gap, dict(context)) for gap, context in bad if gap == least}
+        return list(told.values())
+
+
+def uses(subject, method, filling, prefix=""):
+    """The fields that a filling encodes by `static` or `lsb`, those of a filling inside in the place of their field."""
+    for field in subject.methods[method].formats[filling.index].fields:
+        path = prefix + field.name
+        if field.library() in ("static", "lsb"):
+            initial = None if field.part == "local" else subject.initial.get(field.name)
+            yield loss.Use(path, field.library(), [filling.level.value(it) for it in field.encoding[1:]], filling.level.sides[field.name][0], initial)
+        elif field.is_called() and field.name in filling.inner:
+            yield from uses(subject, field.encoding[1], filling.inner[field.name], path + ".")
+
+
+def lacking(subject, filling, gap, context):
+    """The line of a filling that doesn't fit in a context after so many lost packets."""
+    top = len(subject.methods) - 1
+    given = [(it, context.get(it.path, it.initial)) for it in uses(subject, top, filling)]
+    use, reference = next(it for it in given if not loss.serves(*it))
+    place = next(number for number, line in enumerate(subject.profile.splitlines(), 1) if re.match(subject.name + r"\b", line))
+    format_name = subject.methods[top].formats[filling.index].shown()
+    return "%d:1: %s.%s: lost %d: %s" % (place, subject.name, format_name, gap, loss.told(use, reference).strip())
+
+
 def shape(filling):
     """What tells a filling from others: the formats and the sides of all fields."""
     return filling.index, tuple(sorted(filling.level.sides.items())), tuple(sorted((name, shape(it)) for name, it in filling.inner.items()))
@@ -152,6 +186,15 @@ def wanted(subject, draw, count):
     return found
 
 
+def is_explained(subject, lost, start, items, lacks):
+    """Whether `why` tells of the last item, which is refused, what stands against it, and of the others their formats."""
+    seen, status = printed(subject, "why --items --robust %d" % lost, start, items)
+    heads, rest = seen[:len(items) - 1], seen[len(items):]
+    if status or not all(it.startswith("item %d " % number) for number, it in enumerate(heads, 1)):
+        return False
+    return lacks is None or len(rest) == len(lacks) and all(it in due for it, due in zip(rest, lacks))
+
+
 def searched(subject, start, lost, draw, count=SMALL):
     """Whether `pack` and `stats` with `--robust` print what the search finds, how many items they were given, and which faults were found."""
     holding, kept, packets, faults, counted = Holding(subject, start, lost), [], [], [], []
@@ -163,6 +206,7 @@ def searched(subject, start, lost, draw, count=SMALL):
             if len(faults) < 3:
                 due = [*packets, "item %d: %s" % (len(kept) + 1, fault)], 1
                 well = well and printed(subject, "pack --robust %d --context" % lost, start, [*kept, line]) == due
+                well = well and is_explained(subject, lost, start, [*kept, line], holding.lacks(header, asked) if fault == "F5 NoReach" else None)
             faults.append("item %d: %s" % (number, fault))
         else:
             kept.append(line)

@@ -11,6 +11,7 @@ mod flows;
 mod outcome;
 mod packets;
 mod samples;
+mod senders;
 mod stop;
 
 use fn_accepted::Accepted;
@@ -88,6 +89,7 @@ fn accepted_outcome(
     match call {
         "pack" => packets::packs(alloc, accepted, sample),
         "unpack" => packets::unpacks(alloc, accepted, sample),
+        "robust" => senders::robust_packs(alloc, accepted, sample),
         "send" => flows::sends(alloc, accepted, sample),
         "reset" => flows::resets(alloc, accepted, sample),
         "feed" => flows::feeds(alloc, accepted, sample),

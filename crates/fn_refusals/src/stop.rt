@@ -4,6 +4,7 @@ use fn_bits::BitsError;
 use fn_context::ContextError;
 use fn_engine::{PackFault, UnpackFault};
 use fn_names::ReadError;
+use fn_robust::RobustFault;
 use std::alloc::{AllocError, AllocFailed};
 use std::fmt::{Display, Formatter, Write};
 use std::io::ErrorKind;
@@ -89,6 +90,15 @@ impl From<PackFault> for Stop {
         match fault {
             PackFault::OutOfMemory => Stop::Memory,
             _ => Stop::Row("no packet"),
+        }
+    }
+}
+
+impl From<RobustFault> for Stop {
+    fn from(fault: RobustFault) -> Stop {
+        match fault {
+            RobustFault::Pack(fault) => Stop::from(fault),
+            RobustFault::NoReach | RobustFault::Contexts => Stop::Row("no packet"),
         }
     }
 }
