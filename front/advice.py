@@ -91,6 +91,41 @@ def of_token(fault):
         yield "a missing `%s`%s?" % (mark, " after `%s`" % fault.token(-1) if fault.place else "")
 
 
+def past_operand(tokens, at):
+    """The place after the operand that begins at a place: a number, a name with its attribute, or what stands in brackets, with a minus before it."""
+    at += at < len(tokens) and tokens[at].text == "-"
+    at = notation.after_brackets(tokens, at) if at < len(tokens) and tokens[at].text == "(" else at + 1
+    return at + 2 if at < len(tokens) and tokens[at].text == "." else at
+
+
+def begin_of_operand(tokens, end):
+    """The place at which the operand begins that ends before a place."""
+    at, depth = end - 1, 0
+    while at > 0:
+        depth += (tokens[at].text == ")") - (tokens[at].text == "(")
+        if depth == 0:
+            break
+        at -= 1
+    return at - 2 if at > 1 and tokens[at - 1].text == "." else at
+
+
+def of_remainder(fault):
+    """What to put in round brackets where `%` stands beside another operator: a power on either side of it, else the remainder itself."""
+    tokens, at = fault.tokens, fault.place
+    if fault.token() != "%":
+        return
+    begin, end = begin_of_operand(tokens, at), past_operand(tokens, at + 1)
+    front, behind = (begin, at), (at + 1, end)
+    if begin > 1 and tokens[begin - 1].text == "^":
+        front = begin_of_operand(tokens, begin - 1), at
+    if end < len(tokens) and tokens[end].text == "^":
+        behind = at + 1, past_operand(tokens, end + 1)
+    powers = [it for it in (front, behind) if it not in ((begin, at), (at + 1, end))]
+    for first, last in powers or [(begin, end)]:
+        if last <= len(tokens):
+            yield "put round brackets around `%s`" % fault.text[tokens[first].start:tokens[last - 1].start + len(tokens[last - 1].text)]
+
+
 def methods(fault):
     return {it.name: len(it.parameters) for it in fault.profile.methods}
 
@@ -159,7 +194,7 @@ def of_kind(fault):
             return
 
 
-KNOWN = {"E01": of_character, "E10": of_token, "E20": of_unknown, "E21": of_name, "E22": of_arguments, "E27": of_top, "E29": of_sections, "E31": of_kind}
+KNOWN = {"E01": of_character, "E10": of_token, "E14": of_remainder, "E20": of_unknown, "E21": of_name, "E22": of_arguments, "E27": of_top, "E29": of_sections, "E31": of_kind}
 
 
 def hints(fault):

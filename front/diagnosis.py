@@ -5,9 +5,11 @@ import re
 import subprocess
 import sys
 
-from . import advice, definitions, mending, terminal
+from . import advice, definitions, mending, parts, terminal
 
 LINE = re.compile(r"profile:(\d+):(\d+): (E\d\d) (.*)")
+BITS = re.compile(rb"(items|packets):(\d+): I[12] bad (item|packet)")  # a line that is no item or no packet
+HEX = re.compile(rb"(?:0[xX])?([0-9a-fA-F]+)(?![:0-9a-zA-Z])")  # its first word, where that is octets in hexadecimal alone
 RED, BLUE, PLAIN = "\033[1;31m", "\033[1;34m", "\033[0m"
 WIDTH = 160  # characters of a line that are shown
 GREATEST = 10  # faults of one text that are shown
@@ -101,6 +103,22 @@ def show(printed, name, text, above, again):
         terminal.writes("\n".join(lines_of(it, terminal.shown(name), paint, above)) + "\n")
 
 
+def show_bits(printed, file, paint):
+    """Shows what helps where a line of items or packets has octets alone, and not how many bits they are."""
+    found = BITS.fullmatch(printed.rstrip(b"\n").rpartition(b"\n")[2])
+    if found is None:
+        return
+    file.seek(0)
+    lines = (parts.part_in(file.read(), found.group(1).decode()) or (b"", 0))[0].split(b"\n")
+    number = int(found.group(2))
+    octets = HEX.match(lines[number - 1].strip()) if number <= len(lines) else None
+    if octets is not None:
+        digits = octets.group(1).decode()
+        digits += "0" * (len(digits) % 2)
+        due = "%d:%s" % (4 * len(octets.group(1)), digits)
+        terminal.writes(paint(BLUE, "help: ") + "the number of bits and a colon stand before the octets: %s\n" % terminal.shown(due if len(due) < WIDTH else due[:WIDTH] + "..."))
+
+
 def fault_in(octets):
     """What stops octets on their way to standard output, or None."""
     rest = memoryview(octets)
@@ -140,4 +158,5 @@ def shown(call, file, name, text, top, above):
         words = [call[0], "--", "show", "--top", top]
         return subprocess.run(words, input=b"=== profile\n" + copy.encode(), stdout=subprocess.PIPE, stderr=subprocess.DEVNULL, check=False).stdout
     show(printed, name, text.decode(errors="replace"), above, again)
+    show_bits(printed, file, painter())
     return status

@@ -483,6 +483,7 @@ def diagnosed(place):
         ran = place.call("show", "octets.fn", "--diagnose")
         line = "octets.fn:1:%d: %s %s\n1 | %s\n  | %s^\n" % (column, name, said, line, " " * (column - 1))
         check("a fault of octets: %s" % name, ran[:2] == (1, "profile:1:%d: %s %s\n" % (column, name, said)) and ran[2].startswith(line), ran)
+    lines_of_octets(place)
     place.write("p.fn", "q { } ;;\n")
     line = "profile:1:8: E10 unexpected token\n"
     check("nothing more in a pipe", place.call("show", "p.fn") == (1, line, ""), place.call("show", "p.fn"))
@@ -494,6 +495,19 @@ def diagnosed(place):
     (place.root / "docs" / "FAULTS.md").unlink()
     due = plain.removeprefix(line) + "see docs/FAULTS.md, E10; docs/FORMATS.md\n"
     check("where there are no pages", place.call("show", "p.fn", "--diagnose") == (1, line, due), place.call("show", "p.fn", "--diagnose"))
+
+
+def lines_of_octets(place):
+    """What is shown of a line of items or packets that has octets alone; of other bad lines nothing is."""
+    for command, words, due in (("pack", "--item 16:5abc --item 0x5ABC", "16:5ABC"), ("pack", "--item 123", "12:1230"), ("unpack", "--packet 96af00", "24:96af00")):
+        part, word = ("items", "I1 bad item") if command == "pack" else ("packets", "I2 bad packet")
+        ran = place.call(command, "plain.fn", *words.split(), "--diagnose")
+        number = words.count("--item ") if command == "pack" else 1
+        said = "help: the number of bits and a colon stand before the octets: %s\n" % due
+        check("octets alone: %s" % words, (ran[0], ran[1].splitlines()[-1:], ran[2]) == (1, ["%s:%d: %s" % (part, number, word)], said), ran)
+    for words in ("16:5a", "none", "5abc=8:01", "16:5abc:00"):
+        ran = place.call("pack", "plain.fn", "--item", words, "--diagnose")
+        check("another bad line: %s" % words, ran == (1, "items:1: I1 bad item\n", ""), ran)
 
 
 def in_bundles(place):
