@@ -9,7 +9,7 @@ from . import advice, definitions, mending, parts, terminal
 
 LINE = re.compile(r"profile:(\d+):(\d+): (E\d\d) (.*)")
 BITS = re.compile(rb"(items|packets):(\d+): I[12] bad (item|packet)")  # a line that is no item or no packet
-HEX = re.compile(rb"(?:0[xX])?([0-9a-fA-F]+)(?![:0-9a-zA-Z])")  # its first word, where that is octets in hexadecimal alone
+HEX = re.compile(rb"(?:0[xX])?([0-9a-fA-F]+)(?=\s|$)")  # its first word, where that is octets in hexadecimal alone
 RED, BLUE, PLAIN = "\033[1;31m", "\033[1;34m", "\033[0m"
 WIDTH = 160  # characters of a line that are shown
 GREATEST = 10  # faults of one text that are shown
