@@ -35,8 +35,8 @@ TheyServe ctx us = (u : Use) → IsAmong u us → Serves ctx u
 -- The first of these uses that doesn't serve is told.
 pub record IsFirstUnserved (ctx : Context) (us : List Use) (x : Unserved) : Type 0 where
   pub place : ℕ
-  pub use : Use
-  pub at : slice_get us place ≡ Some use
+  pub one : Use
+  pub at : slice_get us place ≡ Some one
   pub before : (i : ℕ) (u : Use) → i < place → slice_get us i ≡ Some u → Serves ctx u
-  pub fails : Serves ctx use → ⊥
-  pub told : IsTold ctx use x
+  pub fails : Serves ctx one → ⊥
+  pub told : IsTold ctx one x

@@ -82,6 +82,10 @@ module _ (s : Sending) (f : Filling) (own : Entries) (own_is : own ≡ next s.ow
         ∙ ap (λ xs. record { own = own; others = found ++ xs; lost = spared.lost }) sp.staying ∙ ap (λ n. record { own = own; others = found ++ stayed s.lost (held s); lost = n }) sp.lost_is in
         subst (GoesOn s f) (sym is) (record { own_is = own_is; lost_is = refl; held_are = held_after; few = let l = all_of in omega (arith, few, l) })
 
+pub no_others : (hs : List Holding) → length hs ≡ 0 → hs ≡ []
+no_others [] none = refl
+no_others (h ∷ hs) none = absurd (cc)
+
 -- where nothing may be lost and nothing else is held, the own context goes on
 pub gone_alone : (s : Sending) (f : Filling) → s.others ≡ [] → s.lost ≡ 0 → (new : Sending) → new ≡ record { own = next s.own f; others = s.others; lost = s.lost } → GoesOn s f new
 gone_alone s f alone none new new_is =

@@ -1,6 +1,7 @@
 -- What is told so far of what stands against packing an item.
 use Rattle.std.proofs.Common.{◌≡◌, ◌∙◌, refl, sym, ap, subst, ℕ, zero, suc, ◌+◌, ◌<◌, ◌≤◌, List, [], ◌∷◌, ◌++◌, length, map, inl, inr, arith}
-use Rattle.std.specs.Prelude.{Some, slice_get}
+use Rattle.std.specs.Prelude.{Result, Ok, Err, OnOk, Some, slice_get}
+use Rattle.std.specs.declared.alloc.AllocError.{AllocError}
 use Rattle.std.proofs.lemmas.Bool.{cases_lt}
 use Rattle.std.proofs.lemmas.List.{map-append}
 use Rattle.std.proofs.lemmas.Option.{slice_get_within}
@@ -18,17 +19,17 @@ use Rattle.fn_engine.specs.Writing.{HasNoneFrom, IsPackedFrom}
 use Rattle.fn_robust.specs.declared.lacking.Lack.{Lack}
 use Rattle.fn_robust.specs.Answers.{FitsEach, HasNoReach}
 use Rattle.fn_robust.specs.Lacking.{AddsLack, AreLacks, IsBestOfFormat, IsLack, IsTold, fits_all, format_of, lacks, was_told}
-use Rattle.fn_robust.proofs.Staying.{at_either, at_left, at_right, past}
-
--- what follows a list stands past it
-past_is : {A : Type 0} (xs : List A) (i : ℕ) → past xs i ≡ length xs + i
-past_is [] i = refl
-past_is (x ∷ xs) i = ap suc (past_is xs i)
+use Rattle.fn_robust.proofs.Staying.{at_either, at_left, at_right, past, past_is}
 
 -- the only one of a list of one
 only_one : {A : Type 0} (x y : A) (i : ℕ) → slice_get (x ∷ []) i ≡ Some y → (i ≡ 0) × (x ≡ y)
 only_one x y zero at = (refl, cc)
 only_one x y (suc i) at = absurd (cc)
+
+-- a line more
+pub pushed : (a : Accepting) (others : List Holding) (f : Filling) (old now : List Lack) (l : Lack) (r : Result (Unit {0}) AllocError) → OnOk r (now ≡ old ++ l ∷ []) → (IsTold old (format_of f) → ⊥) → IsLack a others f l → OnOk r (AddsLack a others f old now)
+pushed a others f old now l (Ok u) grown new is = subst (AddsLack a others f old) (sym grown) (lacks l new is)
+pushed a others f old now l (Err e) grown new is = tt
 
 module _ (a : Accepting) (own : Entries) (others : List Holding) (it : Item) where
   -- of all candidates with a number below this one
@@ -47,7 +48,7 @@ module _ (a : Accepting) (own : Entries) (others : List Holding) (it : Item) whe
     each = λ i r at. absurd (cc);
     in_order = λ i j r s l at_i at_j. absurd (cc);
     under = λ i r at. absurd (cc);
-    all = λ g fits has l. absurd (omega (arith, l));
+    all = λ g there has l. absurd (omega (arith, l));
   }
 
   module _ (from : ℕ) (ls : List Lack) (c : Candidate) (p : LackTo from ls) (h : IsPackedFrom a own it from c) where
@@ -56,11 +57,11 @@ module _ (a : Accepting) (own : Entries) (others : List Holding) (it : Item) whe
 
     -- with a line of its format all up to it have one
     covered : (now : List Lack) → ((n : ℕ) → IsTold ls n → IsTold now n) → IsTold now (format_of f) → (g : Filling) → Fitting a own g → item g ≡ it → number_in a g < c.number + 1 → IsTold now (format_of g)
-    covered now keeps here g fits has below =
+    covered now keeps here g there has below =
         elim (cases_lt (number_in a g) from) [
-          | inl before ↦ keeps (format_of g) (p.all g fits has before)
+          | inl before ↦ keeps (format_of g) (p.all g there has before)
           | inr from_here ↦
-              let same : g ≡ f = h.first.first g fits has from_here (omega (arith, below)) in
+              let same : g ≡ f = h.first.first g there has from_here (omega (arith, below)) in
               subst (λ z. IsTold now (format_of z)) (sym same) here
         ]
 
@@ -69,12 +70,12 @@ module _ (a : Accepting) (own : Entries) (others : List Holding) (it : Item) whe
     best_now new = record {
       fits = h.first.fits;
       has = h.first.has;
-      first = λ g fits has same_format.
+      first = λ g there has same_format.
           elim (cases_lt (number_in a g) from) [
-            | inl before ↦ absurd (new (subst (IsTold ls) same_format (p.all g fits has before)))
+            | inl before ↦ absurd (new (subst (IsTold ls) same_format (p.all g there has before)))
             | inr from_here ↦ elim (cases_lt c.number (number_in a g)) [
               | inl above ↦ let n = h.first.number_is in omega (arith, above, n)
-              | inr up_to ↦ let same : g ≡ f = h.first.first g fits has from_here up_to in let n : number_in a g ≡ number_in a f = ap (number_in a) same in omega (arith, n)
+              | inr up_to ↦ let same : g ≡ f = h.first.first g there has from_here up_to in let n : number_in a g ≡ number_in a f = ap (number_in a) same in omega (arith, n)
             ]
           ];
     }
@@ -140,7 +141,7 @@ module _ (a : Accepting) (own : Entries) (others : List Holding) (it : Item) whe
       under = λ i r at. let u = p.under i r at in let up = h.first.above in omega (arith, u, up);
       all = covered ls (λ n t. t) told;
     }
-    one_told none now (fits_all fits) = absurd (none fits)
+    one_told none now (fits_all there) = absurd (none there)
     one_told none now (lacks l new is) = one_lacks l new is
 
   pub all_told : (from : ℕ) (ls : List Lack) → LackTo from ls → HasNoneFrom a own it from → AreLacks a own others it ls
@@ -149,9 +150,9 @@ module _ (a : Accepting) (own : Entries) (others : List Holding) (it : Item) whe
     lines_are = p.lines_are;
     each = p.each;
     in_order = p.in_order;
-    all = λ g fits has.
+    all = λ g there has.
         elim (cases_lt (number_in a g) from) [
-          | inl under ↦ p.all g fits has under
-          | inr from_here ↦ absurd (h.none g fits has from_here)
+          | inl under ↦ p.all g there has under
+          | inr from_here ↦ absurd (h.none g there has from_here)
         ];
   }

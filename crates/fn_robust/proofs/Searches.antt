@@ -1,14 +1,17 @@
 -- What the search for a filling that fits in all contexts finds.
-use Rattle.std.proofs.Common.{◌≡◌, sym, subst, ℕ, zero, suc, ◌+◌, ◌-◌, ◌<◌, ◌≤◌, List, inl, inr, arith}
+use Rattle.std.proofs.Common.{◌≡◌, ◌∙◌, ap, refl, sym, subst, ℕ, zero, suc, ◌+◌, ◌-◌, ◌<◌, ◌≤◌, List, [], ◌∷◌, inl, inr, arith}
 use Rattle.std.specs.Prelude.{Option, None, Some, length, option_map, slice_get, slice_index_or, unwrap_or}
 use Rattle.std.proofs.lemmas.Bool.{cases_lt}
-use Rattle.fn_context.specs.Entries.{Entries}
+use Rattle.std.proofs.lemmas.Option.{slice_get_within}
+use Rattle.fn_context.specs.Entries.{Entries, bits_at}
 use Rattle.fn_filling.specs.declared.filling.Filling.{Filling}
 use Rattle.fn_filling.specs.declared.filling.Item.{Item}
 use Rattle.fn_filling.specs.Fillings.{item}
 use Rattle.fn_profile.specs.Resolved.{Resolved, IsSound}
 use Rattle.fn_accepted.specs.Accepted.{Accepting, IsAccepted}
 use Rattle.fn_elsewhere.specs.Held.{Holding}
+use Rattle.fn_fits.proofs.Each.{Before}
+use Rattle.fn_loss.specs.Uses.{FitsAnywhere}
 use Rattle.fn_engine.specs.declared.search.Candidate.{Candidate}
 use Rattle.fn_engine.specs.declared.search.Packed.{Packed}
 use Rattle.fn_engine.specs.declared.writer.PackFault.{PackFault}
@@ -29,6 +32,30 @@ at_last a own others f all = by (slice_get others (length others - 1)) refl
     by : (o : Option Holding) → slice_get others (length others - 1) ≡ o → Fitting a (unwrap_or (option_map (λ h. h.context) o) own) f
     by None is = all.0
     by (Some h) is = all.1 (length others - 1) h is
+
+-- where there is no other that is all
+pub fits_alone : (a : Accepting) (own : Entries) (others : List Holding) (f : Filling) → length others ≡ 0 → Fitting a (last_of own others) f → FitsAll a own others f
+fits_alone a own [] f none here = (here, λ i h at. absurd (cc))
+fits_alone a own (x ∷ xs) f none here = absurd (cc)
+
+-- a filling that fits in the last fits in all where it fits in the own one and in those before the last
+module _ (a : Accepting) (own : Entries) (others : List Holding) (f : Filling) (here : Fitting a (last_of own others) f) where
+  pub anywhere : FitsAnywhere a.profile.methods a.profile.top [] [] f
+  anywhere = record { context = bits_at (last_of own others); fits = here }
+
+  pub fits_in_all : Fitting a own f → Before (λ j h. Fitting a h.context f) others (length others - 1) → FitsAll a own others f
+  fits_in_all own_fits before = (own_fits, each)
+    where
+      each : (i : ℕ) (h : Holding) → slice_get others i ≡ Some h → Fitting a h.context f
+      each i h at =
+          elim (cases_lt i (length others - 1)) [
+            | inl first ↦ before i h first at
+            | inr last ↦
+                let within = slice_get_within others i h at in
+                let place : i ≡ length others - 1 = omega (arith, last, within) in
+                let last_is : last_of own others ≡ h.context = ap (λ o. unwrap_or (option_map (λ (z : Holding). z.context) o) own) (sym (ap (slice_get others) place) ∙ at) in
+                subst (λ ctx. Fitting a ctx f) last_is here
+          ]
 
 module _ (a : Accepting) (own : Entries) (others : List Holding) (it : Item) where
   abbrev sought : Entries

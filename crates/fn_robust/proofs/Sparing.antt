@@ -5,6 +5,7 @@ use Rattle.std.specs.List.{IsDistinct, AllByRecursion}
 use Rattle.std.specs.Map.{keys_of}
 use Rattle.std.specs.Str.{bytes_eq}
 use Rattle.std.proofs.lemmas.Bool.{cases_lt, ltb-true}
+use Rattle.std.proofs.lemmas.List.{length-append}
 use Rattle.std.proofs.lemmas.Slice.Eq.{bytes_eq-Decides}
 use Rattle.fn_context.specs.Entries.{AreDistinct, Entries, overridden, with_entry}
 use Rattle.fn_context.proofs.EntriesOverrides.{bytes_eq-sym}
@@ -13,6 +14,7 @@ use Rattle.fn_filling.specs.Entries.{entries, next}
 use Rattle.fn_elsewhere.specs.Held.{Holding}
 use Rattle.fn_robust.specs.Sending.{HasJust, Sending, held, stayed, stays}
 use Rattle.fn_robust.specs.Answers.{CanSpare, SparesOldest}
+use Rattle.fn_robust.proofs.Staying.{at_right, past, past_is}
 
 -- an entry at whose path the others have none stays the first
 past_first : (e : List ℕ × List Bool) (es others : Entries) → AllByRecursion (λ y. bytes_eq e.0 y ≡ false) (keys_of others) → overridden (e ∷ es) others ≡ e ∷ overridden es others
@@ -70,7 +72,7 @@ same_all (x ∷ xs) (y ∷ ys) (suc n) many past same =
 stays_not : (n : ℕ) (h : Holding) → n ≤ h.gap → stays n h ≡ []
 stays_not n h gone = by (nat_lt h.gap n) refl
   where
-    by : (b : Bool) → nat_lt h.gap n ≡ b → cond b (record { gap = suc h.gap; context = h.context } ∷ []) [] ≡ []
+    by : (b : Bool) → nat_lt h.gap n ≡ b → cond {A = List Holding} b (record { gap = suc h.gap; context = h.context } ∷ []) [] ≡ []
     by true is = let l = ltb-true h.gap n is in absurd (omega (arith, l, gone))
     by false is = refl
 
@@ -83,9 +85,11 @@ nothing_spared s = record { own_is = refl; lost_is = refl; staying = refl }
 
 -- the last of a list that ends so
 last_is : (hs : List Holding) (h oldest : Holding) → slice_get (hs ++ h ∷ []) (length (hs ++ h ∷ []) - 1) ≡ Some oldest → h ≡ oldest
-last_is [] h oldest at = cc
-last_is (x ∷ []) h oldest at = cc
-last_is (x ∷ y ∷ hs) h oldest at = last_is (y ∷ hs) h oldest at
+last_is hs h oldest at =
+    let count = length-append hs (h ∷ []) in
+    let place : length (hs ++ h ∷ []) - 1 ≡ past hs 0 = let e = past_is hs 0 in omega (arith, count, e) in
+    let there : Some h ≡ Some oldest = sym (at_right hs (h ∷ []) 0 h refl) ∙ ap (slice_get (hs ++ h ∷ [])) (sym place) ∙ at in
+    cc
 
 module _ (s : Sending) (left : Entries) (can : CanSpare s left) (rest : List Holding) (h : Holding) (others_are : s.others ≡ rest ++ h ∷ []) where
   oldest_is : h ≡ can.oldest

@@ -1,5 +1,5 @@
 -- Pairs that are apart, and those that stay held.
-use Rattle.std.proofs.Common.{◌≡◌, ◌∙◌, refl, sym, ap, subst, ℕ, zero, suc, ◌<◌, ◌⊎◌, inl, inr, nat_lt, Bool, true, false, cond, List, [], ◌∷◌, ◌++◌}
+use Rattle.std.proofs.Common.{◌≡◌, ◌∙◌, refl, sym, ap, subst, ℕ, zero, suc, ◌<◌, ◌⊎◌, inl, inr, nat_lt, Bool, true, false, cond, List, [], ◌∷◌, ◌++◌, ◌+◌, length, arith}
 use Rattle.std.specs.Prelude.{Some, slice_get}
 use Rattle.std.proofs.lemmas.Bool.{ltb-true, lt-ltb}
 use Rattle.fn_context.specs.Entries.{bits_at}
@@ -12,6 +12,10 @@ use Rattle.fn_robust.specs.Sending.{AreApart, IsSamePair, stayed, stays}
 abbrev pub past : {A : Type 0} → List A → ℕ → ℕ
 past [] i = i
 past (x ∷ xs) i = suc (past xs i)
+
+pub past_is : {A : Type 0} (xs : List A) (i : ℕ) → past xs i ≡ length xs + i
+past_is [] i = omega arith
+past_is (x ∷ xs) i = let e = past_is xs i in omega (arith, e)
 
 pub at_left : {A : Type 0} (xs ys : List A) (i : ℕ) (x : A) → slice_get xs i ≡ Some x → slice_get (xs ++ ys) i ≡ Some x
 at_left [] ys i x at = absurd (cc)

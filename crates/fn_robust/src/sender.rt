@@ -113,7 +113,7 @@ impl Robust {
         ensures fault { IfErr result (λ e. spec.Overflows e self.old filling.now) }
         ensures stays { OnErr result (self.new ≡ self.old) }
     {
-        if self.lost == 0 && self.others.is_empty() {
+        if self.lost == 0 && self.others.as_slice().is_empty() {
             advance(alloc, &mut self.own, filling)?;
             return Ok(());
         }

@@ -5,10 +5,10 @@ use Rattle.fn_elsewhere.specs.Uses.{Serves}
 use Rattle.fn_fits.proofs.Each.{before_end, before_next}
 use Rattle.fn_loss.proofs.unserved.first_unserved.Goals as goal
 
-pub returns-then-not-branch-in_ok-line-clause-first : goal.returns-then-not-branch-in_ok-line-clause-first
-returns-then-not-branch-in_ok-line-clause-first c = record {
+pub returns-then-not-branch-clause-first : goal.returns-then-not-branch-clause-first
+returns-then-not-branch-clause-first c = record {
   place = c.loop-i.i;
-  use = c.index-uses-i.result;
+  one = c.index-uses-i.result;
   at = slice_get_read c.args.uses.now _ c.loop-i.i c.index-uses-i.result refl c.loop-i-test.true c.index-uses-i.is;
   before = c.loop-i.invariant;
   fails = λ served. let t = c.in_ok-serves_in.ensures.1 served in absurd (cc (t, c.if-not-branch.true));
