@@ -1,5 +1,5 @@
 -- What is told so far of what stands against packing an item.
-use Rattle.std.proofs.Common.{◌≡◌, ◌∙◌, refl, sym, ap, subst, ℕ, zero, suc, ◌+◌, ◌<◌, ◌≤◌, List, [], ◌∷◌, ◌++◌, length, map, inl, inr, arith}
+use Rattle.std.proofs.Common.{◌≡◌, ◌∙◌, refl, sym, ap, subst, ℕ, zero, suc, ◌+◌, ◌<◌, List, [], ◌∷◌, ◌++◌, map, inl, inr, arith}
 use Rattle.std.specs.Prelude.{Result, Ok, Err, OnOk, Some, slice_get}
 use Rattle.std.specs.declared.alloc.AllocError.{AllocError}
 use Rattle.std.proofs.lemmas.Bool.{cases_lt}
@@ -12,12 +12,11 @@ use Rattle.fn_filling.specs.Fillings.{item}
 use Rattle.fn_accepted.specs.Accepted.{Accepting}
 use Rattle.fn_elsewhere.specs.Held.{Holding}
 use Rattle.fn_engine.specs.declared.search.Candidate.{Candidate}
-use Rattle.fn_engine.specs.declared.writer.PackFault.TheVariants as pack
 use Rattle.fn_engine.specs.Reading.{Fitting}
 use Rattle.fn_engine.specs.Searching.{number_in}
 use Rattle.fn_engine.specs.Writing.{HasNoneFrom, IsPackedFrom}
 use Rattle.fn_robust.specs.declared.lacking.Lack.{Lack}
-use Rattle.fn_robust.specs.Answers.{FitsEach, HasNoReach}
+use Rattle.fn_robust.specs.Answers.{FitsEach}
 use Rattle.fn_robust.specs.Lacking.{AddsLack, AreLacks, IsBestOfFormat, IsLack, IsTold, fits_all, format_of, lacks, was_told}
 use Rattle.fn_robust.proofs.Staying.{at_either, at_left, at_right, past, past_is}
 

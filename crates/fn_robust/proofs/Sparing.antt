@@ -1,6 +1,6 @@
 -- The oldest context in the place of a copy of the own one.
 use Rattle.std.proofs.Common.{◌≡◌, ◌∙◌, refl, sym, ap, subst, ℕ, zero, suc, ◌+◌, ◌-◌, ◌<◌, ◌≤◌, Bool, true, false, cond, nat_lt, List, [], ◌∷◌, ◌++◌, length, inl, inr, arith}
-use Rattle.std.specs.Prelude.{Some, None, slice_get}
+use Rattle.std.specs.Prelude.{Some, slice_get}
 use Rattle.std.specs.List.{IsDistinct, AllByRecursion}
 use Rattle.std.specs.Map.{keys_of}
 use Rattle.std.specs.Str.{bytes_eq}
@@ -12,7 +12,7 @@ use Rattle.fn_context.proofs.EntriesOverrides.{bytes_eq-sym}
 use Rattle.fn_filling.specs.declared.filling.Filling.{Filling}
 use Rattle.fn_filling.specs.Entries.{entries, next}
 use Rattle.fn_elsewhere.specs.Held.{Holding}
-use Rattle.fn_robust.specs.Sending.{HasJust, Sending, held, stayed, stays}
+use Rattle.fn_robust.specs.Sending.{HasJust, Sending, stayed, stays}
 use Rattle.fn_robust.specs.Answers.{CanSpare, SparesOldest}
 use Rattle.fn_robust.proofs.Staying.{at_right, past, past_is}
 

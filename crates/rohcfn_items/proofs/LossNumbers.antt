@@ -1,6 +1,6 @@
 -- Powers of two as far as 64 bits, and lists that are joined number by number.
-use Rattle.std.proofs.Common.{◌≡◌, ◌∙◌, sym, ap, ℕ, zero, suc, ◌+◌, ◌-◌, ◌<◌, ◌≤◌, ◌^◌, Bool, true, false, cond, ◌&&◌, nat_eq, nat_le, List, ◌++◌, length, append_assoc, arith}
-use Rattle.std.specs.Prelude.{flat_map, Option, Some, None, ℤ, pos, negsuc, ◌≤ℤ◌}
+use Rattle.std.proofs.Common.{◌≡◌, ◌∙◌, sym, ap, ℕ, suc, ◌+◌, ◌-◌, ◌<◌, ◌≤◌, ◌^◌, Bool, true, false, cond, ◌&&◌, nat_eq, nat_le, List, ◌++◌, length, append_assoc, arith}
+use Rattle.std.specs.Prelude.{flat_map, Some, None, ℤ, pos, negsuc, ◌≤ℤ◌}
 use Rattle.std.specs.Int.RustNames.{unsigned_abs}
 use Rattle.fn_bits.specs.Number.{num}
 use Rattle.rohcfn_items.specs.Step.{is_small, near_step, step_between, steps}

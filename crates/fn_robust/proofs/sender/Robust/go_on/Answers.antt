@@ -1,4 +1,4 @@
-use Rattle.std.proofs.Common.{◌≡◌, ◌∙◌, refl, sym, ap, subst, length}
+use Rattle.std.proofs.Common.{◌∙◌, refl, sym, ap, subst, length}
 use Rattle.std.proofs.lemmas.Bool.{eqb-true}
 use Rattle.fn_filling.specs.Entries.{next}
 use Rattle.fn_robust.specs.Sending.{HaveCome, Sending}

@@ -1,8 +1,7 @@
-use Rattle.std.proofs.Common.{◌≡◌, ◌∙◌, ◌++◌, ◌∷◌, [], sym, ap, subst}
+use Rattle.std.proofs.Common.{◌≡◌, ◌∙◌, ◌++◌, ◌∷◌, [], sym, ap}
 use Rattle.fn_context.specs.Placing.{shown}
 use Rattle.fn_filling.specs.Entries.{next}
 use Rattle.fn_elsewhere.specs.Held.{Holding}
-use Rattle.fn_robust.specs.Answers.{CanSpare}
 use Rattle.fn_robust.specs.Sending.{Sending}
 use Rattle.fn_robust.proofs.Sparing.{advanced, spared}
 use Rattle.fn_robust.proofs.sender.Robust.next_own.Goals as goal
