@@ -96,50 +96,55 @@ def told(*words, **parts):
     return "%s\n%s" % ("".join("[%s]" % it for it in words), "".join("=== %s\n%s" % it for it in parts.items()))
 
 
+TOP, REST, CERTIFICATE = ["--top", "two"], {"profile": PROFILE}, {"certificate": "rohcfn-certificate 1\nend\n"}
+
+# Words that name files, the words that the program is told of them, and the parts that it is given, besides the profile; None where it is told nothing.
+COMPOSED = [
+    (["pack", "a profile.fn", "--item", "8:02"], ["pack", *TOP], {"items": "8:02\n"}),
+    (["pack", "--item=8:02 y=1:80", "a profile.fn", "--items", "items", "--item", "8:03"], ["pack", *TOP], {"items": "8:02 y=1:80\n8:01\n8:03\n"}),
+    (["pack", "a profile.fn", "--top", "one", "--items", "items", "--v2", "--context", "--from-context", "context", "--certificate", "certificate"],
+     ["pack", "--top", "one", "--v2", "--context"], {"items": "8:01\n", "context": "x 8:07\n", **CERTIFICATE}),
+    (["pack", "a profile.fn", "--item", "8:02", "--from-context", "packed"], ["pack", *TOP], {"items": "8:02\n", "context": "x 8:02\n"}),
+    (["unpack", "a profile.fn", "--packets", "packed", "--packet", "9:1280"], ["unpack", *TOP], {"packets": "8:10\n8:11\n9:1280\n"}),
+    (["fields", "a profile.fn", "--packets", "packed", "--packet=9:1280", "--context"], ["fields", *TOP, "--context"], {"packets": "8:10\n8:11\n9:1280\n"}),
+    (["fields", "a profile.fn", "--items", "items", "--item", "8:03", "--from-context", "context"], ["fields", *TOP, "--items"],
+     {"items": "8:01\n8:03\n", "context": "x 8:07\n"}),
+    (["stats", "a profile.fn", "--items", "items", "--item", "8:03", "--v2", "--from-context", "context"], ["stats", *TOP, "--v2"], {"items": "8:01\n8:03\n", "context": FILES["context"]}),
+    (["loss", "a profile.fn", "--items", "items", "--lost", "3", "--v2", "--from-context", "context"], ["loss", *TOP, "--v2", "--lost=3"], {"items": "8:01\n", "context": FILES["context"]}),
+    (["loss", "--lost=63", "a profile.fn", "--item", "8:03", "--certificate", "certificate"], ["loss", *TOP, "--lost=63"], {"items": "8:03\n", **CERTIFICATE}),
+    (["loss", "a profile.fn", "--item", "8:03"], ["loss", *TOP], {"items": "8:03\n"}),
+    (["pack", "a profile.fn", "--item", "8:03", "--robust", "3", "--context"], ["pack", *TOP, "--context", "--robust=3"], {"items": "8:03\n"}),
+    (["stats", "--robust=0", "a profile.fn", "--items", "items"], ["stats", *TOP, "--robust=0"], {"items": "8:01\n"}),
+    (["loss", "a profile.fn", "--robust", "63", "--item", "8:03", "--lost=2"], ["loss", *TOP, "--lost=2", "--robust=63"], {"items": "8:03\n"}),
+    (["fields", "--item=8:02", "a profile.fn", "--v2", "--certificate", "certificate"], ["fields", *TOP, "--v2", "--items"], {"items": "8:02\n", **CERTIFICATE}),
+    (["show", "a profile.fn"], ["show", *TOP], {}),
+    (["lint", "a profile.fn", "--from-context", "context"], ["lint", *TOP], {"context": "x 8:07\n"}),
+    (["show", "a profile.fn", "--top", "--help"], None, None),
+    (["check", "a profile.fn", "--certificate", "certificate", "--v2"], ["check", *TOP, "--v2"], CERTIFICATE),
+    (["prove", "./a profile.fn", "--v2"], ["prove", *TOP, "--v2"], {}),
+    (["line", "a profile.fn", "--events", "events"], ["line", *TOP], {"events": "reset 0\n"}),
+    (["line", "a profile.fn", "--octets", "octets"], ["line", *TOP, "--receive"], {"octets": "00\n80\n"}),
+    (["line", "a profile.fn", "--receive", "--octets", "sent"], ["line", *TOP, "--receive"], {"octets": "0080\n"}),
+    (["line", "a profile.fn", "--wide", "--events", "events"], ["line", *TOP, "--wide"], {"events": "reset 0\n"}),
+    (["line", "a profile.fn", "--wide", "--octets", "octets"], ["line", *TOP, "--receive", "--wide"], {"octets": "00\n80\n"}),
+]
+# Texts of a profile, and the method that is the top of each.
+LAST = (("none", "", "top"), ("cut", "a { } b {", "b"), ("bad", "a { } ? c(d { {", "a"), ("bits", "a { x =:= '0}'; } }", "a"))
+
+
 def composed(place):
     """The bundles of each option."""
-    top, rest = ["--top", "two"], {"profile": PROFILE}
-    certificate = {"certificate": "rohcfn-certificate 1\nend\n"}
-    due = [
-        (["pack", "a profile.fn", "--item", "8:02"], ["pack", *top], {"items": "8:02\n"}),
-        (["pack", "--item=8:02 y=1:80", "a profile.fn", "--items", "items", "--item", "8:03"], ["pack", *top], {"items": "8:02 y=1:80\n8:01\n8:03\n"}),
-        (["pack", "a profile.fn", "--top", "one", "--items", "items", "--v2", "--context", "--from-context", "context", "--certificate", "certificate"],
-         ["pack", "--top", "one", "--v2", "--context"], {"items": "8:01\n", "context": "x 8:07\n", **certificate}),
-        (["pack", "a profile.fn", "--item", "8:02", "--from-context", "packed"], ["pack", *top], {"items": "8:02\n", "context": "x 8:02\n"}),
-        (["unpack", "a profile.fn", "--packets", "packed", "--packet", "9:1280"], ["unpack", *top], {"packets": "8:10\n8:11\n9:1280\n"}),
-        (["fields", "a profile.fn", "--packets", "packed", "--packet=9:1280", "--context"], ["fields", *top, "--context"], {"packets": "8:10\n8:11\n9:1280\n"}),
-        (["fields", "a profile.fn", "--items", "items", "--item", "8:03", "--from-context", "context"], ["fields", *top, "--items"],
-         {"items": "8:01\n8:03\n", "context": "x 8:07\n"}),
-        (["stats", "a profile.fn", "--items", "items", "--item", "8:03", "--v2", "--from-context", "context"], ["stats", *top, "--v2"], {"items": "8:01\n8:03\n", "context": FILES["context"]}),
-        (["loss", "a profile.fn", "--items", "items", "--lost", "3", "--v2", "--from-context", "context"], ["loss", *top, "--v2", "--lost=3"], {"items": "8:01\n", "context": FILES["context"]}),
-        (["loss", "--lost=63", "a profile.fn", "--item", "8:03", "--certificate", "certificate"], ["loss", *top, "--lost=63"], {"items": "8:03\n", **certificate}),
-        (["loss", "a profile.fn", "--item", "8:03"], ["loss", *top], {"items": "8:03\n"}),
-        (["pack", "a profile.fn", "--item", "8:03", "--robust", "3", "--context"], ["pack", *top, "--context", "--robust=3"], {"items": "8:03\n"}),
-        (["stats", "--robust=0", "a profile.fn", "--items", "items"], ["stats", *top, "--robust=0"], {"items": "8:01\n"}),
-        (["loss", "a profile.fn", "--robust", "63", "--item", "8:03", "--lost=2"], ["loss", *top, "--lost=2", "--robust=63"], {"items": "8:03\n"}),
-        (["fields", "--item=8:02", "a profile.fn", "--v2", "--certificate", "certificate"], ["fields", *top, "--v2", "--items"], {"items": "8:02\n", **certificate}),
-        (["show", "a profile.fn"], ["show", *top], {}),
-        (["lint", "a profile.fn", "--from-context", "context"], ["lint", *top], {"context": "x 8:07\n"}),
-        (["show", "a profile.fn", "--top", "--help"], None, None),
-        (["check", "a profile.fn", "--certificate", "certificate", "--v2"], ["check", *top, "--v2"], certificate),
-        (["prove", "./a profile.fn", "--v2"], ["prove", *top, "--v2"], {}),
-        (["line", "a profile.fn", "--events", "events"], ["line", *top], {"events": "reset 0\n"}),
-        (["line", "a profile.fn", "--octets", "octets"], ["line", *top, "--receive"], {"octets": "00\n80\n"}),
-        (["line", "a profile.fn", "--receive", "--octets", "sent"], ["line", *top, "--receive"], {"octets": "0080\n"}),
-        (["line", "a profile.fn", "--wide", "--events", "events"], ["line", *top, "--wide"], {"events": "reset 0\n"}),
-        (["line", "a profile.fn", "--wide", "--octets", "octets"], ["line", *top, "--receive", "--wide"], {"octets": "00\n80\n"}),
-    ]
-    for words, asked, parts in due:
+    for words, asked, parts in COMPOSED:
         seen = place.call(*words)
         if asked is not None:
-            check("a bundle: %s" % words, seen == (7, told(*asked, **parts, **rest), ""), seen)
+            check("a bundle: %s" % words, seen == (7, told(*asked, **parts, **REST), ""), seen)
     seen = place.call("pack", "a profile.fn", "--items", "-", given=b"8:05")
-    check("items of standard input", seen == (7, told("pack", *top, items="8:05\n", **rest), ""), seen)
+    check("items of standard input", seen == (7, told("pack", *TOP, items="8:05\n", **REST), ""), seen)
     seen = place.call("prove", "-", given=PROFILE.encode())
-    check("a profile of standard input", seen == (7, told("prove", *top, **rest), ""), seen)
+    check("a profile of standard input", seen == (7, told("prove", *TOP, **REST), ""), seen)
     seen = place.call("show", "--diagnose", "a profile.fn")
-    check("a program that names no fault", seen == (7, told("show", *top, **rest), ""), seen)
-    for name, text, last in (("none", "", "top"), ("cut", "a { } b {", "b"), ("bad", "a { } ? c(d { {", "a"), ("bits", "a { x =:= '0}'; } }", "a")):
+    check("a program that names no fault", seen == (7, told("show", *TOP, **REST), ""), seen)
+    for name, text, last in LAST:
         place.write(name, text)
         check("the top of %s" % name, place.call("show", name) == (7, told("show", "--top", last, profile=text), ""), place.call("show", name))
 
@@ -177,58 +182,68 @@ def untouched(place):
         check("untouched: %s" % (words,), place.call(*words) == (7, due + "\n", ""), place.call(*words))
 
 
-def usage(place):
-    """Words that ask for nothing, which need no input; help, version; a terminal."""
-    due = {
-        ("pack", "a profile.fn"): "pack needs one of --item, --items, --pcap",
-        ("unpack", "a profile.fn", "--top", "two"): "unpack needs one of --packet, --packets",
-        ("fields", "a profile.fn"): "fields needs one of --item, --items, --pcap, --packet, --packets",
-        ("fields", "a profile.fn", "--items"): "--items needs a value",
-        ("fields", "a profile.fn", "--packet", "8:01", "--items", "x"): "--items and --packet don't go together",
-        ("fields", "a profile.fn", "--pcap", "x", "--packets", "y"): "--pcap and --packets don't go together",
-        ("fields", "a profile.fn", "--item", "8:01", "--pcap", "x"): "--item and --pcap don't go together",
-        ("fields", "a profile.fn", "--item", "8:01", "--wide"): "--wide is no option of fields",
-        ("stats", "a profile.fn"): "stats needs one of --item, --items, --pcap",
-        ("stats", "a profile.fn", "--packet", "8:01"): "--packet is no option of stats",
-        ("stats", "a profile.fn", "--item", "8:01", "--context"): "--context is no option of stats",
-        ("loss", "a profile.fn", "--lost", "3"): "loss needs one of --item, --items, --pcap",
-        ("loss", "a profile.fn", "--packet", "8:01"): "--packet is no option of loss",
-        ("loss", "a profile.fn", "--item", "8:01", "--context"): "--context is no option of loss",
-        ("loss", "a profile.fn", "--item", "8:01", "--lost"): "--lost needs a value",
-        ("loss", "a profile.fn", "--item", "8:01", "--lost", "1", "--lost=2"): "--lost stands twice",
-        ("stats", "a profile.fn", "--item", "8:01", "--lost", "1"): "--lost is no option of stats",
-        ("pack", "a profile.fn", "--robust", "3"): "pack needs one of --item, --items, --pcap",
-        ("pack", "a profile.fn", "--item", "8:01", "--robust"): "--robust needs a value",
-        ("loss", "a profile.fn", "--item", "8:01", "--robust", "1", "--robust=2"): "--robust stands twice",
-        ("unpack", "a profile.fn", "--packet", "8:01", "--robust", "1"): "--robust is no option of unpack",
-        ("line", "a profile.fn"): "line needs one of --events, --octets, --pcap",
-        ("line", "a profile.fn", "--octets", "x", "--events", "y"): "--events and --octets don't go together",
-        ("line", "a profile.fn", "--events", "x", "--receive"): "--receive needs --octets",
-        ("pack", "a profile.fn", "--item", "8:01", "--flow", "0"): "--flow goes with --pcap, and is a number from 0",
-        ("line", "a profile.fn", "--pcap", "x", "--flow", "0"): "--flow is no option of line",
-        ("pack", "a profile.fn", "--item", "8:01", "--pcap", "x"): "--item and --pcap don't go together",
-        ("show", "a profile.fn", "--v2"): "--v2 is no option of show",
-        ("check", "a profile.fn", "--item", "8:01"): "--item is no option of check",
-        ("pack", "--item", "8:01"): "the file of a profile is needed",
-        ("pack", "-", "--items", "-"): "standard input can be one file alone",
-        ("show", "a profile.fn", "another"): "unexpected argument 'another' found",
-        ("show", "a profile.fn", "--v2=1"): "unexpected argument '--v2=1' found",
-        ("show", "a profile.fn", "--top"): "--top needs a value",
-        ("show", "a profile.fn", "--top", "a", "--top=b"): "--top stands twice",
-        ("pack", "a profile.fn", "--pcap", "x", "--flow=-1"): "--flow goes with --pcap, and is a number from 0",
-        ("pack", "a profile.fn", "--context", "items"):
-        "unexpected argument 'items' found; --context has no value, --from-context FILE gives the context to begin with",
-        ("show", "a profile.fn", "--tip"): "unexpected argument '--tip' found",
-    }
+# Words that ask for nothing, and what is said of them.
+FAULTY = {
+    ("pack", "a profile.fn"): "pack needs one of --item, --items, --pcap",
+    ("unpack", "a profile.fn", "--top", "two"): "unpack needs one of --packet, --packets",
+    ("fields", "a profile.fn"): "fields needs one of --item, --items, --pcap, --packet, --packets",
+    ("fields", "a profile.fn", "--items"): "--items needs a value",
+    ("fields", "a profile.fn", "--packet", "8:01", "--items", "x"): "--items and --packet don't go together",
+    ("fields", "a profile.fn", "--pcap", "x", "--packets", "y"): "--pcap and --packets don't go together",
+    ("fields", "a profile.fn", "--item", "8:01", "--pcap", "x"): "--item and --pcap don't go together",
+    ("fields", "a profile.fn", "--item", "8:01", "--wide"): "--wide is no option of fields",
+    ("stats", "a profile.fn"): "stats needs one of --item, --items, --pcap",
+    ("stats", "a profile.fn", "--packet", "8:01"): "--packet is no option of stats",
+    ("stats", "a profile.fn", "--item", "8:01", "--context"): "--context is no option of stats",
+    ("loss", "a profile.fn", "--lost", "3"): "loss needs one of --item, --items, --pcap",
+    ("loss", "a profile.fn", "--packet", "8:01"): "--packet is no option of loss",
+    ("loss", "a profile.fn", "--item", "8:01", "--context"): "--context is no option of loss",
+    ("loss", "a profile.fn", "--item", "8:01", "--lost"): "--lost needs a value",
+    ("loss", "a profile.fn", "--item", "8:01", "--lost", "1", "--lost=2"): "--lost stands twice",
+    ("stats", "a profile.fn", "--item", "8:01", "--lost", "1"): "--lost is no option of stats",
+    ("pack", "a profile.fn", "--robust", "3"): "pack needs one of --item, --items, --pcap",
+    ("pack", "a profile.fn", "--item", "8:01", "--robust"): "--robust needs a value",
+    ("loss", "a profile.fn", "--item", "8:01", "--robust", "1", "--robust=2"): "--robust stands twice",
+    ("unpack", "a profile.fn", "--packet", "8:01", "--robust", "1"): "--robust is no option of unpack",
+    ("line", "a profile.fn"): "line needs one of --events, --octets, --pcap",
+    ("line", "a profile.fn", "--octets", "x", "--events", "y"): "--events and --octets don't go together",
+    ("line", "a profile.fn", "--events", "x", "--receive"): "--receive needs --octets",
+    ("pack", "a profile.fn", "--item", "8:01", "--flow", "0"): "--flow goes with --pcap, and is a number from 0",
+    ("line", "a profile.fn", "--pcap", "x", "--flow", "0"): "--flow is no option of line",
+    ("pack", "a profile.fn", "--item", "8:01", "--pcap", "x"): "--item and --pcap don't go together",
+    ("show", "a profile.fn", "--v2"): "--v2 is no option of show",
+    ("check", "a profile.fn", "--item", "8:01"): "--item is no option of check",
+    ("pack", "--item", "8:01"): "the file of a profile is needed",
+    ("pack", "-", "--items", "-"): "standard input can be one file alone",
+    ("show", "a profile.fn", "another"): "unexpected argument 'another' found",
+    ("show", "a profile.fn", "--v2=1"): "unexpected argument '--v2=1' found",
+    ("show", "a profile.fn", "--top"): "--top needs a value",
+    ("show", "a profile.fn", "--top", "a", "--top=b"): "--top stands twice",
+    ("pack", "a profile.fn", "--pcap", "x", "--flow=-1"): "--flow goes with --pcap, and is a number from 0",
+    ("pack", "a profile.fn", "--context", "items"):
+    "unexpected argument 'items' found; --context has no value, --from-context FILE gives the context to begin with",
+    ("show", "a profile.fn", "--tip"): "unexpected argument '--tip' found",
+}
+
+
+def usage_faults():
+    """These words, numbers of losses that are none, and options of each command with no file of a profile."""
+    yield from FAULTY.items()
     for value in ("64", "+1", "-1", "01", "", "1x", " 1", "100", "\u0661"):
         for command, name in (("loss", "--lost"), ("loss", "--robust"), ("pack", "--robust"), ("stats", "--robust")):
-            due[command, "a profile.fn", "--item", "8:01", name, value] = "invalid value '%s' for '%s <N>': a number from 0 to 63 is needed" % (value, name)
+            yield (command, "a profile.fn", "--item", "8:01", name, value), "invalid value '%s' for '%s <N>': a number from 0 to 63 is needed" % (value, name)
     table = commands.table()
     for command in table.commands:
-        due.update({(command, "--%s=1" % it.name): "the file of a profile is needed" for it in table.of(command, files=True) if it.value and it.name != "top"})
-    due["show", "--diagnose"] = "the file of a profile is needed"
+        for it in table.of(command, files=True):
+            if it.value and it.name != "top":
+                yield (command, "--%s=1" % it.name), "the file of a profile is needed"
+    yield ("show", "--diagnose"), "the file of a profile is needed"
+
+
+def usage(place):
+    """Words that ask for nothing, which need no input; help, version; a terminal."""
     with open("/dev/zero", "rb") as endless:
-        for words, text in due.items():
+        for words, text in dict(usage_faults()).items():
             ran = subprocess.run([place.command, *words], stdin=endless, capture_output=True, cwd=place.files, env=place.environment, timeout=20, check=False)
             seen = ran.returncode, ran.stdout, ran.stderr.decode()
             check("a usage fault: %s" % (words,), seen == (2, b"", "error: %s\n\nFor more information, try '--help'.\n" % text), seen)
@@ -237,10 +252,15 @@ def usage(place):
             text = ran.stderr.decode()
             check("help: %s" % words, ran.returncode == 0 and "Usage: rohcfn%s " % part in text and "--from-context FILE" in text, text)
     check("the program's own usage faults, with no input", place.call("pack", "--tip", given=b"input") == (7, "[pack][--tip]\n", ""))
-    seen = place.call("--version")
-    check("the kit", seen == (0, "rohcfn, kit kit of --version\n", ""), seen)
     status, seen = place.on_terminal()
     check("a bare call in a terminal", status == 7 and seen.startswith("rohcfn: a bundle is awaited on standard input"), seen)
+    version(place)
+
+
+def version(place):
+    """What `--version` tells: the kit, the commit of the sources, and that of the program."""
+    seen = place.call("--version")
+    check("the kit", seen == (0, "rohcfn, kit kit of --version\n", ""), seen)
     if shutil.which("git") is None:
         return
     for words in (["init", "-q"], ["add", "bin", "front"], ["commit", "-q", "-m", "one"]):
@@ -312,26 +332,42 @@ ESP4 = bytes.fromhex("4500003000074000403200007f0000017f000002" "0000abcd0001000
 ESP6 = bytes.fromhex("6000000000203240" "20010000000000000000000000000001" "20010000000000000000000000000002" "0000abcd00010008" "ffff")
 V4 = "v [4]; h [4]; tos [8]; len [16]; id [16]; off [16]; ttl [8]; p [8]; sum [16]; s [32]; d [32];"
 LONG = "v [4]; tc [8]; fl [20]; len [16]; nh [8]; hl [8]; s1 [64]; s2 [64]; d1 [64]; d2 =:= irregular(64);"
+SIX = bytes.fromhex("6001234500181140" "20010000000000000000000000000001" "20010000000000000000000000000002")
+UDP, RTP = bytes.fromhex("1234567800180000"), bytes.fromhex("80e0fffe0000000a00000001")
+ESP = "i [32]; n [A * 2 + 0x10];"
+# Headers that are cut by profiles: the profile's name, the fields of its header, its control fields, the headers, what is inferred for them, and the flow of the first.
+CUT = [
+    ("esp", ESP, "", [ESP4[20:28], ESP6[40:48]], "", 0),
+    ("four_esp", V4 + ESP, "CONTROL { msn [16]; q =:= static [1]; r [4]; ENFORCE(2 == 2 && (r.UVALUE) == msn.UVALUE + 1); }", [ESP4[:28]],
+     " msn=16:0007", 0),
+    ("six", LONG.replace("=:= irregular(64)", "=:= uncompressed_value(64, 2)"), "CONTROL { msn [8]; }", [SIX], " msn=8:00", 1),
+    ("six_udp", LONG.replace("=:= irregular(64)", "[64]") + "sp [16]; dp [16]; ul [16]; us [16];", "CONTROL { msn [8]; udp_checksum_used [1]; }",
+     [SIX + UDP], " msn=8:00 udp_checksum_used=1:00", 0),
+    ("rtp", "v [2]; p [1]; x [1]; c [4]; m [1]; t [7]; n [16]; ts [32]; s [32];", "CONTROL { msn [4]; ts_stride [32]; }", [RTP],
+     " msn=4:e0 ts_stride=32:00000001", 0),
+]
+# Calls that are refused, each with its status and what it says.
+REFUSED = [
+    (["pack", "width.fn", "--pcap", "mixed"], 2, "width.fn: w's header has 7 bits, and --pcap cuts none of that length"),
+    (["pack", "open.fn", "--pcap", "mixed"], 2, "open.fn: the fields of w's header have no constant lengths, so --pcap doesn't know what to cut"),
+    (["pack", "asks.fn", "--pcap", "zero"], 2,
+     "--pcap can't infer other: of an asked field it knows msn, ip_id_behaviour, udp_checksum_used and ts_stride alone"),
+    (["pack", "narrow.fn", "--pcap", "zero"], 2, "--pcap infers 3 for ip_id_behaviour, which has 1 bits"),
+    (["pack", "esp.fn", "--pcap", "items"], 3, "items: this is no capture of the classic pcap format"),
+    (["pack", "esp.fn", "--pcap", "next"], 3, "next: this is a pcapng capture; `editcap -F pcap IN OUT` makes a classic one of it"),
+    (["pack", "esp.fn", "--pcap", "short"], 3, "short: the capture ends inside packet 1"),
+    (["pack", "esp.fn", "--pcap", "cut"], 3, "cut: the capture ends inside packet 2"),
+    (["pack", "esp.fn", "--pcap", "link"], 3, "link: packets of the link type 105 can't be read"),
+    (["pack", "esp.fn", "--pcap", "nothing"], 2, "nothing: no packet has a header of esp"),
+    (["pack", "rtp.fn", "--pcap", "control"], 2, "control: 1 of 1 packets have no header of rtp\nrohcfn: control: no packet has a header of rtp"),
+    (["pack", "esp.fn", "--pcap", "no capture"], 3, "no capture: No such file or directory"),
+]
 
 
 def by_hand(place):
     """Headers of IPv6 and ESP, alone and together, by what the profile's header is; what is refused."""
-    six = bytes.fromhex("6001234500181140" "20010000000000000000000000000001" "20010000000000000000000000000002")
-    udp = bytes.fromhex("1234567800180000")
-    rtp = bytes.fromhex("80e0fffe0000000a00000001")
-    place.write("mixed", capture(101, [ESP4, ESP6, six + udp + rtp + b"body"]))
-    esp = "i [32]; n [A * 2 + 0x10];"
-    due = [
-        ("esp", esp, "", [ESP4[20:28], ESP6[40:48]], "", 0),
-        ("four_esp", V4 + esp, "CONTROL { msn [16]; q =:= static [1]; r [4]; ENFORCE(2 == 2 && (r.UVALUE) == msn.UVALUE + 1); }", [ESP4[:28]],
-         " msn=16:0007", 0),
-        ("six", LONG.replace("=:= irregular(64)", "=:= uncompressed_value(64, 2)"), "CONTROL { msn [8]; }", [six], " msn=8:00", 1),
-        ("six_udp", LONG.replace("=:= irregular(64)", "[64]") + "sp [16]; dp [16]; ul [16]; us [16];", "CONTROL { msn [8]; udp_checksum_used [1]; }",
-         [six + udp], " msn=8:00 udp_checksum_used=1:00", 0),
-        ("rtp", "v [2]; p [1]; x [1]; c [4]; m [1]; t [7]; n [16]; ts [32]; s [32];", "CONTROL { msn [4]; ts_stride [32]; }", [rtp],
-         " msn=4:e0 ts_stride=32:00000001", 0),
-    ]
-    for name, fields, control, cut, asked, flow in due:
+    place.write("mixed", capture(101, [ESP4, ESP6, SIX + UDP + RTP + b"body"]))
+    for name, fields, control, cut, asked, flow in CUT:
         text = "A = 2^3;\nhelp { UNCOMPRESSED { y [8]; } }\n%s { UNCOMPRESSED { ENFORCE(1 == 1); %s } %s COMPRESSED { } }\n" % (name, fields, control)
         place.write(name + ".fn", text)
         for at, header in enumerate(cut):
@@ -343,6 +379,11 @@ def by_hand(place):
     seen = place.call("pack", "esp.fn", "--pcap", "mixed")
     lines = "flow 0, 127.0.0.1 to 127.0.0.2, index 0000abcd: 1 headers\nflow 1, [2001:0:0:0:0:0:0:1] to [2001:0:0:0:0:0:0:2], index 0000abcd: 1 headers\n"
     check("flows of ESP", seen[0] == 2 and seen[2].endswith(lines), seen)
+    refused(place)
+
+
+def refused(place):
+    """Profiles and captures by which nothing can be cut, and flows that a line has no room for."""
     place.write("width.fn", "w { UNCOMPRESSED { a [7]; } }")
     place.write("open.fn", "w { UNCOMPRESSED { a [VARIABLE]; } }")
     place.write("asks.fn", "w { UNCOMPRESSED { i [32]; n [32]; } CONTROL { other [1]; } }")
@@ -352,23 +393,10 @@ def by_hand(place):
     place.write("next", b"\x0a\x0d\x0d\x0a" + bytes(40))
     place.write("short", capture(101, [ESP4])[:-1])
     place.write("cut", capture(101, [ESP4]) + bytes(9))
-    place.write("control", capture(101, [six + udp + b"\x80\xc8" + rtp[2:]]))
+    place.write("control", capture(101, [SIX + UDP + b"\x80\xc8" + RTP[2:]]))
     place.write("link", capture(105, [ESP4]))
     place.write("nothing", capture(101, []))
-    for words, status, text in (
-            (["pack", "width.fn", "--pcap", "mixed"], 2, "width.fn: w's header has 7 bits, and --pcap cuts none of that length"),
-            (["pack", "open.fn", "--pcap", "mixed"], 2, "open.fn: the fields of w's header have no constant lengths, so --pcap doesn't know what to cut"),
-            (["pack", "asks.fn", "--pcap", "zero"], 2,
-             "--pcap can't infer other: of an asked field it knows msn, ip_id_behaviour, udp_checksum_used and ts_stride alone"),
-            (["pack", "narrow.fn", "--pcap", "zero"], 2, "--pcap infers 3 for ip_id_behaviour, which has 1 bits"),
-            (["pack", "esp.fn", "--pcap", "items"], 3, "items: this is no capture of the classic pcap format"),
-            (["pack", "esp.fn", "--pcap", "next"], 3, "next: this is a pcapng capture; `editcap -F pcap IN OUT` makes a classic one of it"),
-            (["pack", "esp.fn", "--pcap", "short"], 3, "short: the capture ends inside packet 1"),
-            (["pack", "esp.fn", "--pcap", "cut"], 3, "cut: the capture ends inside packet 2"),
-            (["pack", "esp.fn", "--pcap", "link"], 3, "link: packets of the link type 105 can't be read"),
-            (["pack", "esp.fn", "--pcap", "nothing"], 2, "nothing: no packet has a header of esp"),
-            (["pack", "rtp.fn", "--pcap", "control"], 2, "control: 1 of 1 packets have no header of rtp\nrohcfn: control: no packet has a header of rtp"),
-            (["pack", "esp.fn", "--pcap", "no capture"], 3, "no capture: No such file or directory")):
+    for words, status, text in REFUSED:
         seen = place.call(*words)
         check("refused: %s" % words, seen == (status, "", "rohcfn: %s\n" % text), seen)
     seen = place.call("line", "esp.fn", "--pcap", "many")

@@ -50,12 +50,24 @@ def packets_of(count, octets=b""):
 
 def files():
     """The files that the calls name, each with its text."""
+    yield from parts()
+    yield from computed()
+    yield from captures()
+    yield from long()
+
+
+def parts():
+    """A profile, what would begin a part of its own, and parts that are long."""
     yield "p.fn", PROBE
     yield "heading", "8:01\n8:02\n=== context\nhops 8:40\n"
     yield "crlf", "8:01\r\n=== context\r\n"
     yield "long context", "17:a00380\n" * 419_431 + "=== context\nsn 8:07\n"
     yield "long octets", "00a00380\n" + "0 24:014007\n" * 420_000
     yield "long items", "24:014007\n" * 420_000
+
+
+def computed():
+    """Profiles with numbers, brackets and fields that the script computes with."""
     yield "powers.fn", profile(front="A = 2 ^ 127;\nB = A ^ 127;\nC = B ^ 127;\nD = C ^ 127;\n")
     yield "products.fn", profile("i [A * A * A];", front="A = 2 ^ 120;\n")
     yield "digits.fn", profile("i [%s];" % ("9" * 100_000))
@@ -68,6 +80,10 @@ def files():
     yield "nothing.fn", profile("x [0]; " * 30_000 + FIELDS)
     yield "raised.fn", profile("i [(2 ^ 127) ^ 127];")
     yield "esp.fn", profile()
+
+
+def captures():
+    """Captures."""
     yield "one", capture(1, [ETHERNET + ESP4])
     yield "two", capture(1, [ETHERNET + ESP4, ETHERNET + ESP4[:19] + b"\x03" + ESP4[20:]])
     yield "endless", capture(1, []) + struct.pack("<IIII", 1, 2, 0xFFFFFFFF, 0xFFFFFFFF) + bytes(2 * MIB)
@@ -76,6 +92,10 @@ def files():
     yield "flows", capture(1, []) + b"".join(packets_of(100_000))
     yield "empty packets", capture(1, []) + struct.pack("<IIII", 1, 2, 0, 0) * 600_000
     yield "same flow", capture(1, []) + b"".join(packets_of(1)) * 250_000
+
+
+def long():
+    """Texts of 1 MB; and names and a text with what a terminal obeys."""
     yield "quotes.fn", "'" * MIB
     yield "open.fn", "a {" * (MIB // 3)
     yield "constants.fn", "a = 1;" * (MIB // 6)

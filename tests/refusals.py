@@ -93,8 +93,22 @@ def build(library):
 def rows():
     """Name, bundle, output and status of each row, and how many levels are drawn up for it; all this was written by hand. A candidate is drawn up level by level up to
     where it leads nowhere; of `tick` that is the first one, and then the last where the first isn't the item."""
-    tick, opt, exchanged = CERTIFICATES["tick"], CERTIFICATES["opt"], CERTIFICATES["tick"].replace("leaf short\nleaf full", "leaf full\nleaf short")
     yield "plain packed", bundle("pack --top plain", PLAIN.decode(), items="16:5abc\n"), "18:96af00\n", 0, 1
+    yield "a bad part", "=== %s\n" % ("\x1b" * 90), "bundle: I4 bad part %s..\n" % ("\\u{1b}" * 80), 1, 0
+    yield from of_tick()
+    yield from of_opt()
+    yield from lost()
+    yield from of_seq()
+    yield from of_flows()
+    yield from of_version_2()
+    yield from of_surveys()
+    yield from explained()
+    yield from named()
+
+
+def of_tick():
+    """Rows of `tick`."""
+    tick, exchanged = CERTIFICATES["tick"], CERTIFICATES["tick"].replace("leaf short\nleaf full", "leaf full\nleaf short")
     parts = {"context": "sn 8:00\n", "items": "8:01\n"}
     yield "tick packed", bundle("pack --top tick", TICK, **parts), "8:0b\n", 0, 1
     yield "tick packed by a certificate", bundle("pack --top tick", TICK, certificate=tick, **parts), "8:0b\n", 0, 1
@@ -102,35 +116,46 @@ def rows():
     yield "tick shown", bundle("show --top tick", TICK), (EXAMPLES / "tick-show.expected").read_text(), 0, 0
     yield "tick checked", bundle("check --top tick", TICK, certificate=tick), "accepted\n", 0, 0
     yield "tick with its leaves exchanged", bundle("check --top tick", TICK, certificate=exchanged), "check: V4 tick node 1 short\n", 1, 0
-    parts = {"context": "ttl.field 8:40\n", "items": "8:40\n8:41\n"}
-    packets = "1:00\n9:a080\n=== context\nttl.field 8:41\nttl 8:41\n"
-    yield "opt packed", bundle("pack --top opt --context", OPT, **parts), packets, 0, 4
-    yield "opt packed by a certificate", bundle("pack --top opt --context", OPT, certificate=opt, **parts), packets, 0, 4
-    told = "packet 1 - 1 bits\n  ttl      header  8:40  0:    static_or_irreg.static_enc\n"
-    told += "    field  header  8:40  0:    static\n  flag     local   1:00  1:00  irregular\n"
-    yield "opt told", bundle("fields --top opt", OPT, context="ttl.field 8:40\n", packets="1:00\n"), told, 0, 2
     counted = "items 1 bits 9 mean 9.0\n  format  items  bits  mean\n  short   0      0     -\n  full    1      9     9.0\n    d     1      1     1.0\n    sn    1      8     8.0\n"
     yield "tick counted", bundle("stats --top tick", TICK, items="8:01\n9:0000\n"), counted + "item 2: F3 NoFormat\n", 0, 4
     yield "tick packed for a loss", bundle("pack --robust 1 --top tick", TICK, items="8:01\n8:02\n"), "9:8080\n9:8100\n", 0, 4
-    yield from lost()
+
+
+def of_opt():
+    """Rows of `opt`."""
+    parts = {"context": "ttl.field 8:40\n", "items": "8:40\n8:41\n"}
+    packets = "1:00\n9:a080\n=== context\nttl.field 8:41\nttl 8:41\n"
+    yield "opt packed", bundle("pack --top opt --context", OPT, **parts), packets, 0, 4
+    yield "opt packed by a certificate", bundle("pack --top opt --context", OPT, certificate=CERTIFICATES["opt"], **parts), packets, 0, 4
+    told = "packet 1 - 1 bits\n  ttl      header  8:40  0:    static_or_irreg.static_enc\n"
+    told += "    field  header  8:40  0:    static\n  flag     local   1:00  1:00  irregular\n"
+    yield "opt told", bundle("fields --top opt", OPT, context="ttl.field 8:40\n", packets="1:00\n"), told, 0, 2
+
+
+def of_seq():
+    """Rows of `seq`, whose items ask for a value."""
     yield "seq packed", bundle("pack --top seq", SEQ, items="8:06 msn=8:03\n"), "4:30\n", 0, 1
     yield "seq unpacked", bundle("unpack --top seq", SEQ, packets="4:30\n"), "8:06 msn=8:03 took 4\n", 0, 1
     yield "seq without what is asked", bundle("pack --top seq", SEQ, items="8:06\n"), "item 1: F2 Asked msn\n", 1, 0
     yield "seq without a filling", bundle("pack --top seq", SEQ, items="8:07 msn=8:03\n"), "item 1: F3 NoFormat\n", 1, 1
+
+
+def of_flows():
+    """Rows of lines of flows."""
     events, items = "send 0 8:01\nsend 1 8:01\nsend 0 8:02\n", "0 8:01\n1 8:01\n0 8:02\n"
     yield "two flows", bundle("line --top tick", TICK, events=events), "0080800180800014\n" + items, 0, 5
     yield "two flows received", bundle("line --receive --top tick", TICK, octets="0080800180800014\n"), items, 0, 3
-    yield "a bad part", "=== %s\n" % ("\x1b" * 90), "bundle: I4 bad part %s..\n" % ("\\u{1b}" * 80), 1, 0
     yield "a flow that is reset", bundle("line --top tick", TICK, events="send 0 8:01\nreset 0\nsend 0 8:01\n"), "00808010008080\n0 8:01\n0 8:01\n", 0, 4
     events, items = "send 40 8:01\nreset 40\nsend 63 8:01\n", "40 8:01\n63 8:01\n"
     yield "two flows of 64", bundle("line --wide --top tick", TICK, events=events), "288080683f8080\n" + items, 0, 4
     yield "two flows of 64 received", bundle("line --wide --receive --top tick", TICK, octets="288080683f8080\n"), items, 0, 2
+
+
+def of_version_2():
+    """Rows of version 2."""
     yield "mode packed in version 2", bundle("pack --top mode --v2", MODE, items="8:05\n"), "8:05\n", 0, 1
     yield "turn packed in version 2", bundle("pack --top turn --v2", TURN, items="4:30\n"), "4:80\n", 0, 1
     yield "mode proved in version 2", bundle("prove --top mode --v2", MODE), CERTIFICATES["mode"], 0, 0
-    yield from of_surveys()
-    yield from explained()
-    yield from named()
 
 
 def lost():
