@@ -527,6 +527,7 @@ def diagnosed(place):
 
 def lines_of_octets(place):
     """What is shown of a line of items or packets that has octets alone; of other bad lines nothing is."""
+    place.write("plain.fn", parted((EXAMPLES / "plain.bundle").read_text())[1]["profile"])
     for command, words, due in (("pack", "--item 16:5abc --item 0x5ABC", "16:5ABC"), ("pack", "--item 123", "12:1230"), ("unpack", "--packet 96af00", "24:96af00")):
         part, word = ("items", "I1 bad item") if command == "pack" else ("packets", "I2 bad packet")
         ran = place.call(command, "plain.fn", *words.split(), "--diagnose")
