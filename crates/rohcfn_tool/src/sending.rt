@@ -109,7 +109,9 @@ fn refuse_sent(
     requires { senders.Blames fault accepted.now sender.now item.now }
     ensures { OnOk result (spec.HasLine (senders.RefusesSent accepted.now sender.now number item.now) (string_bytes output.old) (string_bytes output.new)) }
 {
-    let _ = (accepted, sender, item);
+    let _ = accepted;
+    let _ = sender;
+    let _ = item;
     let line = sender_fault(alloc, number, fault)?;
     push_line(output, line.as_str())
 }
