@@ -108,8 +108,9 @@ def long_inputs():
 
 
 def shown(name):
-    """A part's name as its fault line has it: its first 80 characters, those of Unicode's category Cc by their numbers, and two dots where it has more."""
-    front = "".join("\\u{%x}" % ord(it) if unicodedata.category(it) == "Cc" else it for it in name[:80])
+    """A part's name as its fault line has it: its first 80 characters, those of Unicode's categories Cc, Cf, Zl and Zp by their numbers, and two dots where it has more.
+    (Of Cf that is so up to U+206F and of U+FEFF, and no other is tried.)"""
+    front = "".join("\\u{%x}" % ord(it) if unicodedata.category(it) in ("Cc", "Cf", "Zl", "Zp") else it for it in name[:80])
     return front + (".." if len(name) > 80 else "")
 
 
@@ -119,6 +120,7 @@ def names():
     characters = [chr(number) for number in range(1024) if number != 10]
     others = ["\u2028", "\u202e", "\u200b", "\ud7ff", "\ue000", "\ufeff", "\uffff", "\U00010000", "\U0010ffff"]
     trials = ["a%sb" % "".join(characters[start:start + 60]) for start in range(0, len(characters), 60)] + ["".join(others), "\\u{1b}", "\\"]
+    trials += ["".join(chr(it) for it in range(0x2000 + start, 0x2070, 2) if it != 0x2065) for start in (0, 1)]  # (U+2065 is none yet)
     trials += [it * count for it in ("x", "\x1b", "\x85", "\xe9", "\u20ac", "\U0001f600") for count in (79, 80, 81, 1000)]
     for name in trials:
         yield "a part of %d characters: %s" % (len(name), ascii(name[:2])), b"=== %s\n" % name.encode(), 1, ("bundle: I4 bad part %s\n" % shown(name)).encode()

@@ -1,11 +1,11 @@
 -- Names of parts as they are shown.
 use Rattle.std.proofs.Common.{◌≡◌, ◌∙◌, ℕ, Bool, true, false, List, if◌then◌else◌, refl, ap, Bor, codes}
-use Rattle.std.specs.Char.{encode_utf8, is_control}
+use Rattle.std.specs.Char.{encode_utf8}
 use Rattle.std.specs.Str.{IsUtf8, is_utf8}
 use Rattle.std.proofs.lemmas.Str.{IsUtf8-from_is_utf8, is_utf8-from_IsUtf8}
 use Rattle.rohcfn_input.specs.declared.bundle.BadPart.{BadPart}
 use Rattle.rohcfn_input.specs.declared.bundle.BadPart.TheVariants.{Named}
-use Rattle.rohcfn_input.specs.Bundle.{escaped, shown_character, shown_name, shown_text}
+use Rattle.rohcfn_input.specs.Bundle.{escaped, is_unseen, shown_character, shown_name, shown_text}
 
 pub not_utf8 : (text : List ℕ) → ¬ (IsUtf8 text) → is_utf8 text ≡ false
 not_utf8 text bad = by_test (is_utf8 text) refl
@@ -21,8 +21,8 @@ name_text bad name is utf8 =
 pub name_dash : (bad : BadPart) (name : Bor (List ℕ)) → bad ≡ Named name → ¬ (IsUtf8 name.now) → shown_name bad ≡ codes "-"
 name_dash bad name is other = ap shown_name is ∙ ap (λ b. if b then shown_text name.now else codes "-") (not_utf8 name.now other)
 
-pub control_shown : (c : ℕ) → is_control c ≡ true → shown_character c ≡ escaped c
-control_shown c is = ap (λ b. if b then escaped c else encode_utf8 c) is
+pub unseen_shown : (c : ℕ) → is_unseen c ≡ true → shown_character c ≡ escaped c
+unseen_shown c is = ap (λ b. if b then escaped c else encode_utf8 c) is
 
-pub other_shown : (c : ℕ) → is_control c ≡ false → shown_character c ≡ encode_utf8 c
+pub other_shown : (c : ℕ) → is_unseen c ≡ false → shown_character c ≡ encode_utf8 c
 other_shown c is = ap (λ b. if b then escaped c else encode_utf8 c) is

@@ -1,12 +1,12 @@
 -- The names of parts are shown in one line each.
-use Rattle.std.proofs.Common.{◌≡◌, ◌≤◌, ℕ, ◌+◌, ◌/◌, ◌%◌, ◌==◌, Bool, true, false, not, List, [], ◌∷◌, refl, if◌then◌else◌, codes, take, nat_lt, arith}
+use Rattle.std.proofs.Common.{◌≡◌, ◌≤◌, ℕ, ◌+◌, ◌/◌, ◌%◌, ◌==◌, ◌||◌, Bool, true, false, not, List, [], ◌∷◌, refl, if◌then◌else◌, codes, take, nat_lt, arith}
 use Rattle.std.specs.Char.{encode_utf8, is_control}
 use Rattle.std.specs.List.{flat_map}
 use Rattle.std.specs.Str.{chars, is_utf8}
 use Rattle.std.proofs.lemmas.Bool.Decides.{nat_tests}
 use Rattle.rohcfn_input.specs.declared.bundle.BadPart.{BadPart}
 use Rattle.rohcfn_input.specs.declared.bundle.BadPart.TheVariants.{Front, Named}
-use Rattle.rohcfn_input.specs.Bundle.{BlamesPart, escaped, is_long, shown_character, shown_name, shown_text}
+use Rattle.rohcfn_input.specs.Bundle.{BlamesPart, escaped, is_hidden, is_long, is_unseen, shown_character, shown_name, shown_text}
 use Rattle.rohcfn_input.specs.OneLine.{IsLine, is_line}
 use Rattle.rohcfn_input.proofs.OneLineLemmas.{above, digits_in, joined}
 
@@ -40,11 +40,15 @@ encoded_line c h = by_length (nat_lt c 128) (nat_lt c 2048) (nat_lt c 65536)
     by_length false false false = rw (octet_high 240 (c / 262144) (omega arith), octet_high 128 (c / 4096 % 64) (omega arith), octet_high 128 (c / 64 % 64) (omega arith), octet_high 128 (c % 64) (omega arith)) refl
 
 character_line : (c : ℕ) → IsLine (shown_character c)
-character_line c = by_test (is_control c) refl
+character_line c = by_test (is_unseen c) refl
   where
-    by_test : (b : Bool) → is_control c ≡ b → IsLine (if b then escaped c else encode_utf8 c)
+    no_control : (a b : Bool) → (a || b) ≡ false → a ≡ false
+    no_control false b e = refl
+    no_control true b e = absurd (cc)
+
+    by_test : (b : Bool) → is_unseen c ≡ b → IsLine (if b then escaped c else encode_utf8 c)
     by_test true e = escaped_line c
-    by_test false e = record { no_feed = encoded_line c e }
+    by_test false e = record { no_feed = encoded_line c (no_control (is_control c) (is_hidden c) e) }
 
 characters_line : (cs : List ℕ) → IsLine (flat_map shown_character cs)
 characters_line [] = record { no_feed = refl }

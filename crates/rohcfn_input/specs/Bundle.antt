@@ -1,5 +1,5 @@
 -- What a bundle's parts are.
-use Rattle.std.specs.Prelude.{◌≡◌, ◌≢◌, ◌-◌, ◌==◌, ◌||◌, ℕ, Bool, true, false, List, [], ◌∷◌, ◌++◌, Option, None, Some, if◌then◌else◌, length, take, drop, codes, nat_eq, nat_lt, slice_index, option_map}
+use Rattle.std.specs.Prelude.{◌≡◌, ◌≢◌, ◌-◌, ◌==◌, ◌&&◌, ◌||◌, ℕ, Bool, true, false, List, [], ◌∷◌, ◌++◌, Option, None, Some, if◌then◌else◌, length, take, drop, codes, nat_eq, nat_le, nat_lt, slice_index, option_map}
 use Rattle.std.specs.Char.{encode_utf8, is_control}
 use Rattle.std.specs.Fmt.{digits}
 use Rattle.std.specs.List.{AllByRecursion, flat_map, starts_with, ends_with}
@@ -138,9 +138,21 @@ HasSpelled parts = (parts_of (flat_map spelled parts) ≡ parts) × (front_of (f
 abbrev pub escaped : ℕ → List ℕ
 escaped c = 92 ∷ codes "u{" ++ digits 16 false c ++ codes "}"
 
--- a character in a line: itself, but a control character is escaped
+-- a number from the first to the last
+abbrev pub is_within : ℕ → ℕ → ℕ → Bool
+is_within first last c = nat_le first c && nat_le c last
+
+-- characters that hide themselves or order what stands beside them: U+00AD, U+061C, U+200B to U+200F, U+2028 to U+202E, U+2060 to U+206F, U+FEFF
+abbrev pub is_hidden : ℕ → Bool
+is_hidden c = nat_eq c 173 || (nat_eq c 1564 || (is_within 8203 8207 c || (is_within 8232 8238 c || (is_within 8288 8303 c || nat_eq c 65279))))
+
+-- a character that isn't seen as itself
+abbrev pub is_unseen : ℕ → Bool
+is_unseen c = is_control c || is_hidden c
+
+-- a character in a line: itself, but one that isn't seen as itself is escaped
 abbrev pub shown_character : ℕ → List ℕ
-shown_character c = if is_control c then escaped c else encode_utf8 c
+shown_character c = if is_unseen c then escaped c else encode_utf8 c
 
 -- more characters than are shown
 abbrev pub is_long : List ℕ → Bool

@@ -2,7 +2,7 @@
 ghost use Rattle.std.specs.Prelude.{◌≡◌, ◌≢◌, ◌↔◌, ◌+◌, ◌<◌, ◌≤◌, List, [], ◌∷◌, ◌++◌, None, true, length, take, drop, string_bytes, IfOk, IfErr, IfSome, IfNone, OnOk, slice_index};
 ghost use Rattle.std.specs.List.{AllByRecursion, flat_map};
 ghost use Rattle.std.specs.Str.{chars};
-ghost use Rattle.rohcfn_input.specs.Bundle.{BlamesPart, HasSpelled, HoldsParts, IsBundle, IsSpellable, Part, escaped, full_lines, is_heading, is_known, name_in, named, parts_in, parts_of, shown_character, shown_name, shown_text, text_before, text_named, without_end};
+ghost use Rattle.rohcfn_input.specs.Bundle.{BlamesPart, HasSpelled, HoldsParts, IsBundle, IsSpellable, Part, escaped, full_lines, is_heading, is_hidden, is_known, is_unseen, is_within, name_in, named, parts_in, parts_of, shown_character, shown_name, shown_text, text_before, text_named, without_end};
 ghost use Rattle.rohcfn_input.specs.Bundle as spec;
 
 use std::alloc::{AllocError, Global};
@@ -138,11 +138,37 @@ fn is_long(text: &str) -> bool
 pub fn push_shown(shown: &mut String, character: char) -> Result<(), AllocError>
     ensures { OnOk result (string_bytes shown.new ≡ string_bytes shown.old ++ shown_character character) }
 {
-    if character.is_control() {
+    if is_unseen(character) {
         push_escaped(shown, u32::from(character))
     } else {
         shown.push(character)
     }
+}
+
+/// Whether a character isn't seen as itself: a control character, or one that hides itself or orders what stands beside it.
+fn is_unseen(character: char) -> bool
+    ensures { result ≡ is_unseen character }
+{
+    character.is_control() || is_hidden(u32::from(character))
+}
+
+/// Whether the number is that of such a character: the soft hyphen, the Arabic letter mark, a zero width space or joiner, a mark, embedding or isolate of a
+/// direction, a line or paragraph separator, a word joiner or another format character of that block, or the byte order mark.
+fn is_hidden(number: u32) -> bool
+    ensures { result ≡ is_hidden number }
+{
+    number == 0xad
+        || number == 0x61c
+        || is_within(0x200b, 0x200f, number)
+        || is_within(0x2028, 0x202e, number)
+        || is_within(0x2060, 0x206f, number)
+        || number == 0xfeff
+}
+
+fn is_within(first: u32, last: u32, number: u32) -> bool
+    ensures { result ≡ is_within first last number }
+{
+    first <= number && number <= last
 }
 
 // Adds a character by its number, in lower-case hexadecimal digits.
