@@ -45,7 +45,7 @@ use Rattle.rohcfn_tool.specs.Printed.AnsweredIn.{answered as answered_in_answere
 use Rattle.rohcfn_tool.specs.Printed.AnsweredFor.{bad_context as answered_for_bad_context, from_context as answered_for_from_context}
 use Rattle.rohcfn_tool.specs.Printed.AnsweredBy.{by_profile as answered_by_by_profile, unaccepted as answered_by_unaccepted}
 use Rattle.rohcfn_tool.specs.Printed.AnsweredRun.{both as answered_run_both, no_input as answered_run_no_input}
-use Rattle.rohcfn_tool.specs.Printed.Answered.{check_explained as answers_check_explained, checked as answers_checked, drawn as answers_drawn, lined as answers_lined, linted as answers_linted, no_profile as answers_no_profile, prove_explained as answers_prove_explained, proved as answers_proved, ran as answers_ran, shown as answers_shown, told as answers_told, explained as answers_explained, stated as answers_stated, lost_told as answers_lost_told, robust_packed as answers_robust_packed, robust_stated as answers_robust_stated, robust_told as answers_robust_told}
+use Rattle.rohcfn_tool.specs.Printed.Answered.{check_explained as answers_check_explained, checked as answers_checked, drawn as answers_drawn, lined as answers_lined, linted as answers_linted, no_profile as answers_no_profile, prove_explained as answers_prove_explained, proved as answers_proved, ran as answers_ran, shown as answers_shown, told as answers_told, explained as answers_explained, stated as answers_stated, lost_told as answers_lost_told, robust_packed as answers_robust_packed, robust_explained as answers_robust_explained, robust_stated as answers_robust_stated, robust_told as answers_robust_told}
 use Rattle.rohcfn_tool.specs.declared.stats.Survey.{Survey}
 use Rattle.rohcfn_tool.specs.declared.stats.Survey.TheVariants as survey
 use Rattle.rohcfn_tool.specs.Loss.{LossBy}
@@ -148,15 +148,15 @@ loss_by_ends : (most : ℕ) (a : Accepting) (who : Sender) (items : List Item) (
 loss_by_ends most a who items _ _ (loss_by_told fs es j sent journal) = tt
 loss_by_ends most a who items _ _ (loss_by_refused text h) = tt
 
-sent_by_ends : (shows : Bool) (a : Accepting) {who : Sender} {n : ℕ} {items : List Item} {s : Status} {output : List ℕ} → SentBy shows a who n items s output → MayPrint s
-sent_by_ends shows a (sent_by_all is) = tt
-sent_by_ends shows a (sent_by_one p after text rest sent is more) = sent_by_ends shows a more
-sent_by_ends shows a (sent_by_refused text h) = tt
+sent_by_ends : (shape : Shape) (shows : Bool) (a : Accepting) {who : Sender} {n : ℕ} {items : List Item} {s : Status} {output : List ℕ} → SentBy shape shows a who n items s output → MayPrint s
+sent_by_ends shape shows a (sent_by_all is) = tt
+sent_by_ends shape shows a (sent_by_one p after text rest sent is more) = sent_by_ends shape shows a more
+sent_by_ends shape shows a (sent_by_refused text h) = may_stop shape
 
 survey_ends : (what : Survey) (a : Accepting) (ctx : Entries) (items : List Item) (s : Status) (output : List ℕ) → SurveyBy what a ctx items s output → MayPrint s
 survey_ends survey.Stats a ctx items s output h = stats_by_ends a (Plain ctx) items s output h
 survey_ends (survey.Loss most) a ctx items s output h = loss_by_ends most a (Plain ctx) items s output h
-survey_ends (survey.RobustPack shows lost) a ctx items s output h = sent_by_ends shows a h
+survey_ends (survey.RobustPack shape shows lost) a ctx items s output h = sent_by_ends shape shows a h
 survey_ends (survey.RobustStats lost) a ctx items s output h = stats_by_ends a (surviving ctx lost) items s output h
 survey_ends (survey.RobustLoss most lost) a ctx items s output h = loss_by_ends most a (surviving ctx lost) items s output h
 
@@ -223,7 +223,8 @@ answer_ends order parts s output (answers_explained profile direction is asks h)
 answer_ends order parts s output (answers_lined profile end is asks h) = lined_ends end order profile.now parts s output h
 answer_ends order parts s output (answers_stated profile is asks h) = stated_ends survey.Stats order profile.now parts s output h
 answer_ends order parts s output (answers_lost_told profile most is asks h) = stated_ends (survey.Loss most) order profile.now parts s output h
-answer_ends order parts s output (answers_robust_packed profile lost is asks h) = stated_ends (survey.RobustPack order.shows_context lost) order profile.now parts s output h
+answer_ends order parts s output (answers_robust_packed profile lost is asks h) = stated_ends (survey.RobustPack Line order.shows_context lost) order profile.now parts s output h
+answer_ends order parts s output (answers_robust_explained profile lost is asks h) = stated_ends (survey.RobustPack (Why profile) order.shows_context lost) order profile.now parts s output h
 answer_ends order parts s output (answers_robust_stated profile lost is asks h) = stated_ends (survey.RobustStats lost) order profile.now parts s output h
 answer_ends order parts s output (answers_robust_told profile most lost is asks h) = stated_ends (survey.RobustLoss most lost) order profile.now parts s output h
 

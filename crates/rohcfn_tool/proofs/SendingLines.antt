@@ -1,18 +1,16 @@
 -- The lines for items that a sender packs, one after the other.
 use Rattle.std.proofs.Common.{◌≡◌, ◌∙◌, ap, sym, subst, ℕ, ◌+◌, ◌<◌, ◌≤◌, Bool, true, false, List, [], ◌∷◌, ◌++◌, length, drop, get_or, append_assoc}
-use Rattle.std.specs.Prelude.{Result, Ok, Err, IfOk, string_bytes}
+use Rattle.std.specs.Prelude.{Result, Ok, Err, IfOk, OnOk, string_bytes}
 use Rattle.std.specs.declared.alloc.AllocError.{AllocError}
 use Rattle.std.proofs.lemmas.List.{drop_all, drop_more}
 use Rattle.fn_accepted.specs.Accepted.{Accepting}
 use Rattle.fn_context.specs.Entries.{Entries}
 use Rattle.fn_filling.specs.declared.filling.Item.{Item}
-use Rattle.fn_robust.specs.declared.sender.RobustFault.{RobustFault}
-use Rattle.rohcfn_input.specs.OneLine.{IsLine}
 use Rattle.rohcfn_input.specs.declared.status.Answer.{Answer}
 use Rattle.rohcfn_input.specs.declared.status.Status.{Status}
 use Rattle.rohcfn_input.specs.declared.status.Status.TheVariants as status
 use Rattle.rohcfn_tool.specs.Printed.{HasLine, IsFinished, IsSendStep, SendsItems, SentBy, all_sent, one_refused, one_sent, stop_of}
-use Rattle.rohcfn_tool.specs.Senders.{Blames, IsSenderFault, RefusesSent, own_of}
+use Rattle.rohcfn_tool.specs.Senders.{own_of}
 use Rattle.rohcfn_tool.specs.declared.packets.Shape.{Shape}
 use Rattle.rohcfn_tool.specs.declared.sender.Sender.{Sender}
 
@@ -23,9 +21,15 @@ SentSoFar shape shows a start items i s out = (st : Status) (rest : List ℕ) �
 joined : (out text rest : List ℕ) → out ++ (text ++ 10 ∷ rest) ≡ (out ++ text ++ 10 ∷ []) ++ rest
 joined out text rest = simp append_assoc
 
--- the line of a refused item
-pub refused_line : (a : Accepting) (s : Sender) (before after : List ℕ) (n : ℕ) (it : Item) (e : RobustFault) (line text : List ℕ) → Blames e a s it → IsSenderFault e n line → IsLine line → text ≡ line → after ≡ before ++ text ++ 10 ∷ [] → HasLine (RefusesSent a s n it) before after
-refused_line a s before after n it e line text blames is single same grown = (line, (e, blames, is, single), grown ∙ ap (λ l. before ++ l ++ 10 ∷ []) same)
+-- what is said of a line is said of it in other words
+pub line_as : (P Q : List ℕ → Type 0) (r : Result (Unit {0}) AllocError) (before after : List ℕ) → ((text : List ℕ) → P text → Q text) → OnOk r (HasLine P before after) → OnOk r (HasLine Q before after)
+line_as P Q (Ok u) before after says is = (is.0, says is.0 is.1, is.2)
+line_as P Q (Err e) before after says is = tt
+
+-- a line that was added
+pub line_added : (P : List ℕ → Type 0) (r : Result (Unit {0}) AllocError) (before after text line : List ℕ) → OnOk r (after ≡ before ++ text ++ 10 ∷ []) → text ≡ line → P line → OnOk r (HasLine P before after)
+line_added P (Ok u) before after text line grown same is = (line, is, grown ∙ ap (λ l. before ++ l ++ 10 ∷ []) same)
+line_added P (Err e) before after text line grown same is = tt
 
 module _ (shape : Shape) (shows : Bool) (a : Accepting) (start : Sender) (items : List Item) where
   pub sending_start : (out : List ℕ) → out ≡ [] → SentSoFar shape shows a start items 0 start out

@@ -1,6 +1,7 @@
 use Rattle.std.specs.Prelude.{string_bytes}
+use Rattle.rohcfn_tool.specs.Senders.{RefusesSent}
 use Rattle.rohcfn_tool.proofs.SenderLemmas.{of_item}
-use Rattle.rohcfn_tool.proofs.SendingLines.{refused_line}
+use Rattle.rohcfn_tool.proofs.SendingLines.{line_added}
 use Rattle.rohcfn_tool.proofs.sending.refuse_sent.Goals as goal
 
 pub sender_fault-requires : goal.sender_fault-requires
@@ -8,4 +9,5 @@ sender_fault-requires c = of_item c.args.accepted.now c.args.sender.now c.args.i
 
 pub returns : goal.returns
 returns c =
-    refused_line c.args.accepted.now c.args.sender.now _ _ c.args.number c.args.item.now c.args.fault (string_bytes c.in_ok-line.line) _ c.requires c.in_ok-line.ensures.says c.in_ok-line.ensures.line c.as_str.ensures.value c.push_line.ensures
+    line_added (RefusesSent c.args.accepted.now c.args.sender.now c.args.number c.args.item.now) c.push_line.result _ _ c.as_str.result.now (string_bytes c.in_ok-line.line) c.push_line.ensures c.as_str.ensures.value
+    (c.args.fault, (c.requires, c.in_ok-line.ensures.says, c.in_ok-line.ensures.line))

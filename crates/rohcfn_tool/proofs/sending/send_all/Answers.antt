@@ -5,19 +5,19 @@ use Rattle.rohcfn_tool.proofs.SendingLines.{sending_end, sending_on, sending_sta
 use Rattle.rohcfn_tool.proofs.sending.send_all.Goals as goal
 
 pub loop-i-init : goal.loop-i-init
-loop-i-init c = sending_start c.args.shape.entry c.args.shows c.args.accepted.now c.args.start c.args.items.now _ c.new-output.ensures.bytes
+loop-i-init c = sending_start c.args.shape c.args.shows c.args.accepted.now c.args.start c.args.items.now _ c.new-output.ensures.bytes
 
 pub returns-then-refused : goal.returns-then-refused
 returns-then-refused c =
     let d : Item = record { header = []; asked = [] } in
     let x = get_or_read c.args.items.now c.loop-i.i c.index-items-i.result c.loop-i-test.true c.index-items-i.is d in
-    sending_stop c.args.shape.entry c.args.shows c.args.accepted.now c.args.start c.args.items.now c.loop-i.i d _ _ _ _ _ _ c.loop-i-test.true x c.loop-i.invariant c.in_ok-refused.ensures c.if-refused.true
+    sending_stop c.args.shape c.args.shows c.args.accepted.now c.args.start c.args.items.now c.loop-i.i d _ _ _ _ _ _ c.loop-i-test.true x c.loop-i.invariant c.in_ok-refused.ensures c.if-refused.true
 
 pub loop-i-preserved : goal.loop-i-preserved
 loop-i-preserved c =
     let d : Item = record { header = []; asked = [] } in
     let x = get_or_read c.args.items.now c.loop-i.i c.index-items-i.result c.loop-i-test.true c.index-items-i.is d in
-    sending_on c.args.shape.entry c.args.shows c.args.accepted.now c.args.start c.args.items.now c.loop-i.i d _ _ _ _ _ _ c.loop-i-test.true x c.loop-i.invariant c.in_ok-refused.ensures c.if-refused.false
+    sending_on c.args.shape c.args.shows c.args.accepted.now c.args.start c.args.items.now c.loop-i.i d _ _ _ _ _ _ c.loop-i-test.true x c.loop-i.invariant c.in_ok-refused.ensures c.if-refused.false
 
 pub returns : goal.returns
-returns c = sending_end c.args.shape.entry c.args.shows c.args.accepted.now c.args.start c.args.items.now _ _ _ _ c.finish.result c.loop-i-test.false c.loop-i.invariant c.context.ensures c.finish.ensures
+returns c = sending_end c.args.shape c.args.shows c.args.accepted.now c.args.start c.args.items.now _ _ _ _ c.finish.result c.loop-i-test.false c.loop-i.invariant c.context.ensures c.finish.ensures

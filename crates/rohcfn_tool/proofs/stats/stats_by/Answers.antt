@@ -5,9 +5,9 @@ use Rattle.rohcfn_tool.proofs.stats.stats_by.Goals as goal
 
 pub returns-in-Accepted : goal.returns-in-Accepted
 returns-in-Accepted c =
-    passed_on (StatsFor c.args.what.entry c.in-Accepted.accepted c.args.parts.now.context c.args.input.now) (StatsWith c.args.what.entry c.args.order.now c.args.profile.now c.args.parts.now c.args.input.now) c.stats_for.result
+    passed_on (StatsFor c.args.what c.in-Accepted.accepted c.args.parts.now.context c.args.input.now) (StatsWith c.args.what c.args.order.now c.args.profile.now c.args.parts.now c.args.input.now) c.stats_for.result
     (λ s out h. stats_accepted c.in-Accepted.accepted (accepted_here _ _ _ _ _ _ c.of.ensures c.in_ok-accepted.ensures c.in-Accepted.is) h) c.stats_for.ensures
 
 pub returns-in-Refused : goal.returns-in-Refused
 returns-in-Refused c =
-    refusal_is (StatsWith c.args.what.entry c.args.order.now c.args.profile.now c.args.parts.now c.args.input.now) _ _ c.refusal.result (stats_refused _ (refused_here _ _ _ _ _ _ c.of.ensures c.in_ok-accepted.ensures c.in-Refused.is)) c.as_str.ensures.value c.refusal.ensures
+    refusal_is (StatsWith c.args.what c.args.order.now c.args.profile.now c.args.parts.now c.args.input.now) _ _ c.refusal.result (stats_refused _ (refused_here _ _ _ _ _ _ c.of.ensures c.in_ok-accepted.ensures c.in-Refused.is)) c.as_str.ensures.value c.refusal.ensures
