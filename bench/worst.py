@@ -1,4 +1,4 @@
-"""Processor time and memory of the worst texts that are known for `prove`, `check` and `show`, on the built program or on another that is given as an argument.
+"""Processor time and memory of the worst texts that are known, on the built program or on another that is given as an argument.
 
 Each text is within the limits. It is run once and has to end with status 0, within its bounds of time and memory. With a folder as the second argument what is
 printed is kept there, so that two programs can be compared."""
@@ -117,8 +117,32 @@ def paths(program):
     return whole("pack --context --top t", profile) + b"=== context\n" + context.encode() + b"=== items\n8:01\n"
 
 
+def sites(program):
+    """64 methods at one path, each of which waits for an entry that the next one leaves."""
+    fields = range(120)
+    out = ""
+    for it in range(64):
+        last = it == 63
+        header = " ".join("x%d [8];" % at for at in fields) + " own%d [8];" % it + ("" if last else " own%d [8];" % (it + 1))
+        default = " ".join("x%d =:= %s;" % (at, "irregular(8)" if last else "static") for at in fields) + ("" if last else " own%d =:= static;" % (it + 1))
+        listed = " ".join("x%d;" % at for at in fields) + " own%d =:= irregular(8);" % it + ("" if last else " own%d;" % (it + 1))
+        names = "".join("  COMPRESSED f%d { %s }\n" % (at, listed) for at in range(8))
+        out += "m%d {\n  UNCOMPRESSED { %s }\n  DEFAULT { %s }\n%s}\n" % (it, header, default, names)
+    calls = "".join("  COMPRESSED f%d { c =:= m%d; }\n" % (it, it) for it in range(64))
+    return whole("lint --top t", "%st {\n  UNCOMPRESSED { }\n%s}\n" % (out, calls))
+
+
+def names(program):
+    """7 methods of 64 formats with 120 names of their own, where the last two formats have the same ones."""
+    out = ""
+    for it in range(7):
+        lists = [" ".join("n%dx%d=:='1'[1];" % (min(at, 62), name) for name in range(120)) for at in range(64)]
+        out += "m%d {\n  UNCOMPRESSED { }\n%s}\n" % (it, "".join("  COMPRESSED f%d { %s }\n" % pair for pair in enumerate(lists)))
+    return whole("lint --top t", out + "t {\n  UNCOMPRESSED { }\n  COMPRESSED { %s }\n}\n" % " ".join("c%d =:= m%d;" % (it, it) for it in range(7)))
+
+
 # seconds and MiB at most: some three times what was measured, or a second
-BOUNDS = {waiting: (1, 36), operands: (1, 45), steps: (1, 45), encodings: (2, 350), brackets: (3, 730), conditions: (30, 60), paths: (1, 60)}
+BOUNDS = {waiting: (1, 36), operands: (1, 45), steps: (1, 45), encodings: (2, 350), brackets: (3, 730), conditions: (30, 60), paths: (1, 60), sites: (1, 100), names: (1, 100)}
 
 
 def main(words):

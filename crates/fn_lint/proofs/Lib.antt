@@ -13,6 +13,8 @@ pub mod Listed
 mod PathsLeading
 mod SitesGrowing
 mod SpelledNear
+mod SpelledOwners
+mod EntriesListed
 mod NeedsGrowing
 mod NeedsAdding
 mod NeedsComplete

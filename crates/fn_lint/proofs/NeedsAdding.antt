@@ -37,7 +37,7 @@ set_here [] i x y e = absurd (let none : None ≡ Some x = e in cc)
 set_here (z ∷ xs) zero x y e = refl
 set_here (z ∷ xs) (suc i) x y e = set_here xs i x y e
 
-set_other : {A : Type 0} (xs : List A) (i j : ℕ) (y : A) → (i ≡ j → ⊥) → slice_get (slice_set xs i y) j ≡ slice_get xs j
+pub set_other : {A : Type 0} (xs : List A) (i j : ℕ) (y : A) → (i ≡ j → ⊥) → slice_get (slice_set xs i y) j ≡ slice_get xs j
 set_other [] i j y apart = refl
 set_other (z ∷ xs) zero zero y apart = absurd (apart refl)
 set_other (z ∷ xs) zero (suc j) y apart = refl
@@ -255,7 +255,7 @@ reached_is_new place flags new usable within off is e =
 
 -- ---- at the start
 
-none_usable : (n j : ℕ) → is_usable (replicate n (record { usable = false; reached = false })) j ≡ false
+pub none_usable : (n j : ℕ) → is_usable (replicate n (record { usable = false; reached = false })) j ≡ false
 none_usable zero j = refl
 none_usable (suc n) zero = refl
 none_usable (suc n) (suc j) = none_usable n j

@@ -8,6 +8,7 @@ pub mod Laws
 pub mod Listing
 pub mod Paths
 pub mod Needs
+pub mod Entries
 pub mod NeedsSteps
 pub mod NeedsTold
 pub mod Sites

@@ -9,6 +9,7 @@ use Rattle.fn_normal.specs.declared.profile.Method.{Method}
 use Rattle.fn_normal.specs.declared.profile.Part.{Part}
 use Rattle.fn_normal.specs.declared.profile.Part.TheVariants as part
 use Rattle.fn_lint.specs.declared.spelled.Misspelled.{Misspelled}
+use Rattle.fn_lint.specs.declared.spelled.Owner.{Owner}
 
 -- ---- one letter apart
 
@@ -75,6 +76,26 @@ has_field name f = list_any (λ (d : Field). bytes_eq d.declared.name name) f.fi
 -- no format but that of the number n has one
 abbrev pub is_alone : List Format → ℕ → List ℕ → Bool
 is_alone formats n name = list_all (λ (f : ℕ × Format). nat_eq f.0 n || not (has_field name f.1)) (enumerate_from 0 formats)
+
+-- ---- which formats have a name
+
+-- the field's name is another one, or its format has the number n
+abbrev pub lets_alone : ℕ → ℕ → List ℕ → Field → Bool
+lets_alone i n name d = nat_eq i n || not (bytes_eq d.declared.name name)
+
+-- no format but that of the number n has a field of the name of which that is known
+abbrev pub alone_by : Option Owner → ℕ → Bool
+alone_by (Some o) n = nat_eq o.first n && not o.is_shared
+alone_by None n = true
+
+-- what is known where the format n has one, too
+abbrev pub owner_with : Option Owner → ℕ → Owner
+owner_with (Some o) n = record { first = o.first; is_shared = o.is_shared || not (nat_eq o.first n) }
+owner_with None n = record { first = n; is_shared = false }
+
+-- that is found of each name
+abbrev pub AreOwners : List Format → (List ℕ → Option Owner) → Type 0
+AreOwners formats find = (name : List ℕ) (n : ℕ) → alone_by (find name) n ≡ is_alone formats n name
 
 -- ---- what is told
 

@@ -1,18 +1,22 @@
 //! What is known of sites while it grows: which can be used, and which are reached.
 
-ghost use Rattle.std.specs.Prelude.{◌≡◌, ◌++◌, ◌<◌, ℕ, List, true, false, ◌||◌, length, map, not, replicate, slice_get, string_bytes, Some, IfOk, OnOk, IfSome, IfNone};
+ghost use Rattle.std.specs.Prelude.{◌≡◌, ◌++◌, ◌<◌, ℕ, List, true, false, ◌||◌, ◌&&◌, length, map, not, replicate, slice_get, string_bytes, Some, IfOk, OnOk, IfSome, IfNone};
 ghost use Rattle.std.specs.Bool.{Decides};
 ghost use Rattle.std.specs.List.{list_any};
 ghost use Rattle.std.specs.Str.{bytes_eq};
+ghost use Rattle.fn_lint.specs.Entries as entries;
 ghost use Rattle.fn_lint.specs.Needs as spec;
 ghost use Rattle.fn_lint.specs.NeedsSteps as steps;
 ghost use Rattle.fn_lint.specs.Sites as sites;
 
+use crate::entries::{Source, entry_path, given_paths, list_formats};
 use crate::paths::{called_by, keeps};
-use crate::sites::{Site, find_site, inner_path};
+use crate::sites::{Site, find_site, inner_path, keeps_at};
+use crate::waiting::spread;
 use fn_normal::{Encoding, Field, Format, Library, Method};
 use sqlite_items::Items;
 use std::alloc::{AllocError, Global};
+use std::collections::{BTreeMap, BTreeSet};
 
 /// What is known of a site.
 #[derive(Clone, Copy)]
@@ -23,10 +27,20 @@ pub struct Flags {
     pub reached: bool,
 }
 
-const NEITHER: Flags = Flags {
+pub(crate) const NEITHER: Flags = Flags {
     usable: false,
     reached: false,
 };
+
+/// What is known of all sites, and the entries that may be in the context by that.
+#[derive(Drop)]
+pub struct Known {
+    pub flags: Items<Flags>,
+    /// The paths of the context at the start.
+    pub given: BTreeSet<String>,
+    /// A field that leaves an entry, by the path of the entry.
+    pub left: BTreeMap<String, Source>,
+}
 
 /// What stays as it is: the methods of a profile and its top, which of their formats have an obstacle, the paths of the context at the start, and all sites.
 #[derive(Clone, Copy)]
@@ -44,40 +58,80 @@ pub struct Ground<'a> {
 fn may_be(
     alloc: Global,
     ground: &Ground<'_>,
-    flags: &[Flags],
+    known: &Known,
     path: &str,
     name: &str,
 ) -> Result<bool, AllocError>
-    ensures { IfOk result (λ is. Decides is (steps.MayBe ground.now flags.now path.now name.now)) }
+    requires { entries.IsListed ground.now known.now }
+    ensures { IfOk result (λ is. Decides is (steps.MayBe ground.now known.now.flags path.now name.now)) }
 {
     let entry = entry_path(alloc, path, name)?;
-    if is_given(ground.given, entry.as_str()) {
-        return Ok(true);
-    }
-    Ok(is_left(ground, flags, path, name))
+    Ok(may_be_entry(ground, known, path, name, entry.as_str()))
 }
 
-/// The path of an entry of that name.
-pub(crate) fn entry_path(alloc: Global, path: &str, name: &str) -> Result<String, AllocError>
-    ensures { IfOk result (λ text. string_bytes text ≡ path.now ++ name.now) }
+fn may_be_entry(ground: &Ground<'_>, known: &Known, path: &str, name: &str, entry: &str) -> bool
+    requires listed { entries.IsListed ground.now known.now }
+    requires entry { entry.now ≡ path.now ++ name.now }
+    ensures { Decides result (steps.MayBe ground.now known.now.flags path.now name.now) }
 {
-    let mut entry = String::from_str(alloc, path)?;
-    entry.push_str(name)?;
-    Ok(entry)
-}
-
-fn is_given(given: &[&str], entry: &str) -> bool
-    ensures { result ≡ list_any (bytes_eq entry.now) (steps.texts given.now) }
-{
-    for path in given {
-        if entry == *path {
-            return true;
-        }
+    if known.given.contains(entry) {
+        return true;
     }
-    false
+    is_left(ground, known, path, name, entry)
 }
 
-fn is_left(ground: &Ground<'_>, flags: &[Flags], path: &str, name: &str) -> bool
+/// Whether a site leaves the entry, by the field that is listed for it.
+fn is_left(ground: &Ground<'_>, known: &Known, path: &str, name: &str, entry: &str) -> bool
+    requires listed { entries.IsListed ground.now known.now }
+    requires entry { entry.now ≡ path.now ++ name.now }
+    ensures { Decides result (steps.IsLeft ground.now known.now.flags path.now name.now) }
+{
+    let Some(source) = known.left.get(entry) else {
+        return false;
+    };
+    let flags = known.flags.as_slice();
+    if is_source(ground, flags, path, name, *source) {
+        return true;
+    }
+    is_left_somewhere(ground, flags, path, name)
+}
+
+/// Whether the field leaves the entry.
+fn is_source(ground: &Ground<'_>, flags: &[Flags], path: &str, name: &str, source: Source) -> bool
+    ensures { result ≡ true → steps.IsLeft ground.now flags.now path.now name.now }
+{
+    match ground.sites.get(source.place) {
+        Some(site) => leaves_by(ground, flags, path, name, source, site),
+        None => false,
+    }
+}
+
+fn leaves_by(
+    ground: &Ground<'_>,
+    flags: &[Flags],
+    path: &str,
+    name: &str,
+    source: Source,
+    site: &Site,
+) -> bool
+    ensures { result ≡ true → steps.leaves ground.now.methods.now flags.now path.now name.now source.place site.now ≡ true }
+{
+    let (method, format, field) = (site.method, source.format, source.field);
+    if !keeps_at(ground.methods, method, format, field, name.as_bytes()) {
+        return false;
+    }
+    is_used_below(flags, path, source.place, site)
+}
+
+/// Whether a site stands below the path, can be used and is reached.
+fn is_used_below(flags: &[Flags], path: &str, place: usize, site: &Site) -> bool
+    ensures { result ≡ (steps.is_usable flags.now place && (steps.is_reached flags.now place && bytes_eq (string_bytes site.now.path) path.now)) }
+{
+    is_usable(flags, place) && is_reached(flags, place) && site.path.as_str() == path
+}
+
+/// The same by a look at each site. The field that is listed for an entry leaves it where names have no dots, so this isn't called.
+fn is_left_somewhere(ground: &Ground<'_>, flags: &[Flags], path: &str, name: &str) -> bool
     ensures { Decides result (steps.IsLeft ground.now flags.now path.now name.now) }
 {
     for (place, site) in ground.sites.iter().enumerate() {
@@ -149,7 +203,7 @@ fn is_usable_at(ground: &Ground<'_>, flags: &[Flags], method: usize, path: &str)
 }
 
 /// Whether a field is encoded by what needs a reference, and INITIAL gives it none.
-fn needs_reference(field: &Field) -> bool
+pub(crate) fn needs_reference(field: &Field) -> bool
     ensures { result ≡ spec.needs_reference field.now }
 {
     takes_reference(field.encoding.get()) && field.initial.is_none()
@@ -165,22 +219,23 @@ pub(crate) fn takes_reference(encoding: &Encoding) -> bool
     }
 }
 
-fn is_served(
+pub(crate) fn is_served(
     alloc: Global,
     ground: &Ground<'_>,
-    flags: &[Flags],
+    known: &Known,
     path: &str,
     field: &Field,
 ) -> Result<bool, AllocError>
-    requires { sites.AreSites ground.now.methods.now ground.now.top ground.now.sites.now }
-    ensures { IfOk result (λ is. Decides is (steps.Served ground.now flags.now path.now field.now)) }
+    requires sites { sites.AreSites ground.now.methods.now ground.now.top ground.now.sites.now }
+    requires listed { entries.IsListed ground.now known.now }
+    ensures { IfOk result (λ is. Decides is (steps.Served ground.now known.now.flags path.now field.now)) }
 {
     let name = field.declared.name.as_str();
     if needs_reference(field) {
-        return may_be(alloc, ground, flags, path, name);
+        return may_be(alloc, ground, known, path, name);
     }
     match called_by(field.encoding.get()) {
-        Some(method) => is_usable_inside(alloc, ground, flags, method, path, name),
+        Some(method) => is_usable_inside(alloc, ground, known.flags.as_slice(), method, path, name),
         None => Ok(true),
     }
 }
@@ -189,16 +244,17 @@ fn is_served(
 pub(crate) fn first_unserved(
     alloc: Global,
     ground: &Ground<'_>,
-    flags: &[Flags],
+    known: &Known,
     path: &str,
     fields: &[Field],
 ) -> Result<Option<usize>, AllocError>
-    requires { sites.AreSites ground.now.methods.now ground.now.top ground.now.sites.now }
-    ensures found { IfOk result (λ o. IfSome o (steps.Unserved ground.now flags.now path.now fields.now)) }
-    ensures none { IfOk result (λ o. IfNone o (steps.AllServed ground.now flags.now path.now fields.now)) }
+    requires sites { sites.AreSites ground.now.methods.now ground.now.top ground.now.sites.now }
+    requires listed { entries.IsListed ground.now known.now }
+    ensures found { IfOk result (λ o. IfSome o (steps.Unserved ground.now known.now.flags path.now fields.now)) }
+    ensures none { IfOk result (λ o. IfNone o (steps.AllServed ground.now known.now.flags path.now fields.now)) }
 {
     for (place, field) in fields.iter().enumerate() {
-        if !is_served(alloc, ground, flags, path, field)? {
+        if !is_served(alloc, ground, known, path, field)? {
             return Ok(Some(place));
         }
     }
@@ -209,19 +265,20 @@ pub(crate) fn first_unserved(
 fn is_used(
     alloc: Global,
     ground: &Ground<'_>,
-    flags: &[Flags],
+    known: &Known,
     site: &Site,
     number: usize,
     format: &Format,
 ) -> Result<bool, AllocError>
-    requires { sites.AreSites ground.now.methods.now ground.now.top ground.now.sites.now }
-    ensures { IfOk result (λ is. Decides is (steps.Used ground.now flags.now (string_bytes site.now.path) site.now.method number format.now)) }
+    requires sites { sites.AreSites ground.now.methods.now ground.now.top ground.now.sites.now }
+    requires listed { entries.IsListed ground.now known.now }
+    ensures { IfOk result (λ is. Decides is (steps.Used ground.now known.now.flags (string_bytes site.now.path) site.now.method number format.now)) }
 {
     if is_dead(ground.dead, site.method, number) {
         return Ok(false);
     }
     let fields = format.fields.as_slice();
-    let lacking = first_unserved(alloc, ground, flags, site.path.as_str(), fields)?;
+    let lacking = first_unserved(alloc, ground, known, site.path.as_str(), fields)?;
     Ok(lacking.is_none())
 }
 
@@ -241,26 +298,42 @@ pub(crate) fn is_dead(dead: &[Items<bool>], method: usize, format: usize) -> boo
 // ---- growth
 
 /// What is known of all sites: those that can be used and those that are reached.
-pub(crate) fn grow(alloc: Global, ground: &Ground<'_>) -> Result<Items<Flags>, AllocError>
+pub(crate) fn grow(alloc: Global, ground: &Ground<'_>) -> Result<Known, AllocError>
     requires { sites.AreSites ground.now.methods.now ground.now.top ground.now.sites.now }
-    ensures { IfOk result (steps.IsGrown ground.now) }
+    ensures grown { IfOk result (λ known. steps.IsGrown ground.now known.flags) }
+    ensures listed { IfOk result (entries.IsListed ground.now) }
 {
-    let mut flags = first_flags(alloc, ground)?;
+    let mut known = first_known(alloc, ground)?;
+    spread(alloc, ground, &mut known)?;
     let mut changes = true;
     while changes {
-        changes = add_round(alloc, ground, &mut flags)?;
+        changes = add_round(alloc, ground, &mut known)?;
     }
-    Ok(flags)
+    Ok(known)
 }
 
 /// The top is reached, and nothing else is known.
-fn first_flags(alloc: Global, ground: &Ground<'_>) -> Result<Items<Flags>, AllocError>
+fn first_known(alloc: Global, ground: &Ground<'_>) -> Result<Known, AllocError>
     requires { sites.AreSites ground.now.methods.now ground.now.top ground.now.sites.now }
-    ensures { IfOk result (steps.IsBegun ground.now) }
+    ensures begun { IfOk result (λ known. steps.IsBegun ground.now known.flags) }
+    ensures listed { IfOk result (entries.IsListed ground.now) }
 {
-    let mut flags = no_flags(alloc, ground.sites.len())?;
-    reach_top(ground, &mut flags);
-    Ok(flags)
+    let mut known = nothing_known(alloc, ground)?;
+    reach_top(alloc, ground, &mut known)?;
+    Ok(known)
+}
+
+fn nothing_known(alloc: Global, ground: &Ground<'_>) -> Result<Known, AllocError>
+    ensures none { IfOk result (λ known. known.flags ≡ replicate (length ground.now.sites.now) (record { usable = false; reached = false })) }
+    ensures listed { IfOk result (entries.IsListed ground.now) }
+{
+    let given = given_paths(alloc, ground.given)?;
+    let flags = no_flags(alloc, ground.sites.len())?;
+    Ok(Known {
+        flags,
+        given,
+        left: BTreeMap::new(alloc),
+    })
 }
 
 fn no_flags(alloc: Global, count: usize) -> Result<Items<Flags>, AllocError>
@@ -269,15 +342,18 @@ fn no_flags(alloc: Global, count: usize) -> Result<Items<Flags>, AllocError>
     Ok(Items::from_vec(vec![in alloc; NEITHER; count]?))
 }
 
-fn reach_top(ground: &Ground<'_>, flags: &mut Items<Flags>)
+fn reach_top(alloc: Global, ground: &Ground<'_>, known: &mut Known) -> Result<(), AllocError>
     requires sites { sites.AreSites ground.now.methods.now ground.now.top ground.now.sites.now }
-    requires none { flags.old ≡ replicate (length ground.now.sites.now) (record { usable = false; reached = false }) }
-    ensures { steps.IsBegun ground.now flags.new }
+    requires none { known.old.flags ≡ replicate (length ground.now.sites.now) (record { usable = false; reached = false }) }
+    requires listed { entries.IsListed ground.now known.old }
+    ensures begun { OnOk result (steps.IsBegun ground.now known.new.flags) }
+    ensures listed { OnOk result (entries.IsListed ground.now known.new) }
 {
     let Some(place) = find_site(ground.sites, ground.top, "") else {
-        return;
+        return Ok(());
     };
-    let _ = set_reached(flags, place);
+    note_reached(alloc, ground, place, known)?;
+    Ok(())
 }
 
 /// Whether one or both are so.
@@ -288,18 +364,16 @@ fn either(one: bool, other: bool) -> bool
 }
 
 /// Adds what each site adds. Whether anything was added.
-fn add_round(
-    alloc: Global,
-    ground: &Ground<'_>,
-    flags: &mut Items<Flags>,
-) -> Result<bool, AllocError>
-    requires { sites.AreSites ground.now.methods.now ground.now.top ground.now.sites.now }
-    ensures grows { IfOk result (λ changes. steps.Grows ground.now flags.old flags.new changes) }
-    ensures done { IfOk result (λ changes. changes ≡ false → (j : ℕ) → steps.AreDone ground.now flags.new j) }
+fn add_round(alloc: Global, ground: &Ground<'_>, known: &mut Known) -> Result<bool, AllocError>
+    requires sites { sites.AreSites ground.now.methods.now ground.now.top ground.now.sites.now }
+    requires listed { entries.IsListed ground.now known.old }
+    ensures grows { IfOk result (λ changes. steps.Grows ground.now known.old.flags known.new.flags changes) }
+    ensures done { IfOk result (λ changes. changes ≡ false → (j : ℕ) → steps.AreDone ground.now known.new.flags j) }
+    ensures listed { OnOk result (entries.IsListed ground.now known.new) }
 {
     let mut changes = false;
     for (place, site) in ground.sites.iter().enumerate() {
-        let more = add_site(alloc, ground, place, site, flags)?;
+        let more = add_site(alloc, ground, place, site, known)?;
         changes = either(more, changes);
     }
     Ok(changes)
@@ -311,18 +385,20 @@ fn add_site(
     ground: &Ground<'_>,
     place: usize,
     site: &Site,
-    flags: &mut Items<Flags>,
+    known: &mut Known,
 ) -> Result<bool, AllocError>
     requires sites { sites.AreSites ground.now.methods.now ground.now.top ground.now.sites.now }
+    requires listed { entries.IsListed ground.now known.old }
     requires site { slice_get ground.now.sites.now place ≡ Some site.now }
-    ensures grows { IfOk result (λ changes. steps.Grows ground.now flags.old flags.new changes) }
-    ensures done { IfOk result (λ changes. changes ≡ false → steps.AreDone ground.now flags.new place) }
+    ensures grows { IfOk result (λ changes. steps.Grows ground.now known.old.flags known.new.flags changes) }
+    ensures done { IfOk result (λ changes. changes ≡ false → steps.AreDone ground.now known.new.flags place) }
+    ensures listed { OnOk result (entries.IsListed ground.now known.new) }
 {
     let Some(method) = ground.methods.get(site.method) else {
         return Ok(false);
     };
     let formats = method.formats.as_slice();
-    let changes = add_formats(alloc, ground, place, site, formats, flags)?;
+    let changes = add_formats(alloc, ground, place, site, formats, known)?;
     Ok(changes)
 }
 
@@ -333,42 +409,46 @@ fn add_formats(
     place: usize,
     site: &Site,
     formats: &[Format],
-    flags: &mut Items<Flags>,
+    known: &mut Known,
 ) -> Result<bool, AllocError>
     requires sites { sites.AreSites ground.now.methods.now ground.now.top ground.now.sites.now }
+    requires listed { entries.IsListed ground.now known.old }
     requires site { slice_get ground.now.sites.now place ≡ Some site.now }
     requires formats { steps.AreFormatsOf ground.now site.now.method formats.now }
-    ensures grows { IfOk result (λ changes. steps.Grows ground.now flags.old flags.new changes) }
-    ensures done { IfOk result (λ changes. changes ≡ false → steps.FormatsDone ground.now flags.new place site.now formats.now) }
+    ensures grows { IfOk result (λ changes. steps.Grows ground.now known.old.flags known.new.flags changes) }
+    ensures done { IfOk result (λ changes. changes ≡ false → steps.FormatsDone ground.now known.new.flags place site.now formats.now) }
+    ensures listed { OnOk result (entries.IsListed ground.now known.new) }
 {
     let mut changes = false;
     for (number, format) in formats.iter().enumerate() {
-        let more = add_format(alloc, ground, place, site, number, format, flags)?;
+        let more = add_format(alloc, ground, place, site, number, format, known)?;
         changes = either(more, changes);
     }
     Ok(changes)
 }
 
 /// Where a format of the site can be used, the site can; and where that is reached, so are those that the format calls. Whether that adds anything.
-fn add_format(
+pub(crate) fn add_format(
     alloc: Global,
     ground: &Ground<'_>,
     place: usize,
     site: &Site,
     number: usize,
     format: &Format,
-    flags: &mut Items<Flags>,
+    known: &mut Known,
 ) -> Result<bool, AllocError>
     requires sites { sites.AreSites ground.now.methods.now ground.now.top ground.now.sites.now }
+    requires listed { entries.IsListed ground.now known.old }
     requires site { slice_get ground.now.sites.now place ≡ Some site.now }
     requires format { sites.format_in ground.now.methods.now site.now.method number ≡ Some format.now }
-    ensures grows { IfOk result (λ changes. steps.Grows ground.now flags.old flags.new changes) }
-    ensures done { IfOk result (λ changes. changes ≡ false → steps.IsDone ground.now flags.new place site.now.method (string_bytes site.now.path) number format.now) }
+    ensures grows { IfOk result (λ changes. steps.Grows ground.now known.old.flags known.new.flags changes) }
+    ensures done { IfOk result (λ changes. changes ≡ false → steps.IsDone ground.now known.new.flags place site.now.method (string_bytes site.now.path) number format.now) }
+    ensures listed { OnOk result (entries.IsListed ground.now known.new) }
 {
-    if !is_used(alloc, ground, flags.as_slice(), site, number, format)? {
+    if !is_used(alloc, ground, known, site, number, format)? {
         return Ok(false);
     }
-    add_used(alloc, ground, place, site, number, format, flags)
+    add_used(alloc, ground, place, site, number, format, known)
 }
 
 /// The same of a format that can be used.
@@ -379,21 +459,23 @@ fn add_used(
     site: &Site,
     number: usize,
     format: &Format,
-    flags: &mut Items<Flags>,
+    known: &mut Known,
 ) -> Result<bool, AllocError>
     requires sites { sites.AreSites ground.now.methods.now ground.now.top ground.now.sites.now }
+    requires listed { entries.IsListed ground.now known.old }
     requires site { slice_get ground.now.sites.now place ≡ Some site.now }
     requires format { sites.format_in ground.now.methods.now site.now.method number ≡ Some format.now }
-    requires used { steps.Used ground.now flags.old (string_bytes site.now.path) site.now.method number format.now }
-    ensures grows { IfOk result (λ changes. steps.Grows ground.now flags.old flags.new changes) }
-    ensures done { IfOk result (λ changes. changes ≡ false → steps.IsDone ground.now flags.new place site.now.method (string_bytes site.now.path) number format.now) }
+    requires used { steps.Used ground.now known.old.flags (string_bytes site.now.path) site.now.method number format.now }
+    ensures grows { IfOk result (λ changes. steps.Grows ground.now known.old.flags known.new.flags changes) }
+    ensures done { IfOk result (λ changes. changes ≡ false → steps.IsDone ground.now known.new.flags place site.now.method (string_bytes site.now.path) number format.now) }
+    ensures listed { OnOk result (entries.IsListed ground.now known.new) }
 {
-    let first = set_usable(flags, place);
-    if !is_reached(flags.as_slice(), place) {
+    let first = note_usable(alloc, ground, place, known)?;
+    if !is_reached(known.flags.as_slice(), place) {
         return Ok(first);
     }
     let path = site.path.as_str();
-    let more = add_calls(alloc, ground, path, format.fields.as_slice(), flags)?;
+    let more = add_calls(alloc, ground, path, format.fields.as_slice(), known)?;
     Ok(either(more, first))
 }
 
@@ -403,14 +485,16 @@ fn add_calls(
     ground: &Ground<'_>,
     path: &str,
     fields: &[Field],
-    flags: &mut Items<Flags>,
+    known: &mut Known,
 ) -> Result<bool, AllocError>
-    requires { sites.AreSites ground.now.methods.now ground.now.top ground.now.sites.now }
-    ensures { IfOk result (λ changes. steps.AddsCalls ground.now path.now fields.now flags.old flags.new changes) }
+    requires sites { sites.AreSites ground.now.methods.now ground.now.top ground.now.sites.now }
+    requires listed { entries.IsListed ground.now known.old }
+    ensures adds { IfOk result (λ changes. steps.AddsCalls ground.now path.now fields.now known.old.flags known.new.flags changes) }
+    ensures listed { OnOk result (entries.IsListed ground.now known.new) }
 {
     let mut changes = false;
     for field in fields {
-        let more = add_call(alloc, ground, path, field, flags)?;
+        let more = add_call(alloc, ground, path, field, known)?;
         changes = either(more, changes);
     }
     Ok(changes)
@@ -421,10 +505,12 @@ fn add_call(
     ground: &Ground<'_>,
     path: &str,
     field: &Field,
-    flags: &mut Items<Flags>,
+    known: &mut Known,
 ) -> Result<bool, AllocError>
-    requires { sites.AreSites ground.now.methods.now ground.now.top ground.now.sites.now }
-    ensures { IfOk result (λ changes. steps.AddsCall ground.now path.now field.now flags.old flags.new changes) }
+    requires sites { sites.AreSites ground.now.methods.now ground.now.top ground.now.sites.now }
+    requires listed { entries.IsListed ground.now known.old }
+    ensures adds { IfOk result (λ changes. steps.AddsCall ground.now path.now field.now known.old.flags known.new.flags changes) }
+    ensures listed { OnOk result (entries.IsListed ground.now known.new) }
 {
     let Some(method) = called_by(field.encoding.get()) else {
         return Ok(false);
@@ -433,7 +519,75 @@ fn add_call(
     let Some(place) = find_site(ground.sites, method, inner.as_str()) else {
         return Ok(false);
     };
-    Ok(set_reached(flags, place))
+    let changes = note_reached(alloc, ground, place, known)?;
+    Ok(changes)
+}
+
+/// Notes that a site can be used, and lists what it leaves. Whether that is new.
+fn note_usable(
+    alloc: Global,
+    ground: &Ground<'_>,
+    place: usize,
+    known: &mut Known,
+) -> Result<bool, AllocError>
+    requires { entries.IsListed ground.now known.old }
+    ensures sets { IfOk result (steps.SetsUsable place known.old.flags known.new.flags) }
+    ensures listed { OnOk result (entries.IsListed ground.now known.new) }
+{
+    if !set_usable(&mut known.flags, place) {
+        return Ok(false);
+    }
+    list_site(alloc, ground, place, known)?;
+    Ok(true)
+}
+
+/// Notes that a site is reached, and lists what it leaves. Whether that is new.
+fn note_reached(
+    alloc: Global,
+    ground: &Ground<'_>,
+    place: usize,
+    known: &mut Known,
+) -> Result<bool, AllocError>
+    requires { entries.IsListed ground.now known.old }
+    ensures sets { IfOk result (steps.SetsReached place known.old.flags known.new.flags) }
+    ensures listed { OnOk result (entries.IsListed ground.now known.new) }
+{
+    if !set_reached(&mut known.flags, place) {
+        return Ok(false);
+    }
+    list_site(alloc, ground, place, known)?;
+    Ok(true)
+}
+
+/// Lists what a site leaves, where it can be used and is reached.
+fn list_site(
+    alloc: Global,
+    ground: &Ground<'_>,
+    place: usize,
+    known: &mut Known,
+) -> Result<(), AllocError>
+    requires { entries.IsListedBut ground.now place known.old }
+    ensures flags { OnOk result (known.new.flags ≡ known.old.flags) }
+    ensures listed { OnOk result (entries.IsListed ground.now known.new) }
+{
+    let Some(site) = ground.sites.get(place) else {
+        return Ok(());
+    };
+    if !is_in_use(known.flags.as_slice(), place) {
+        return Ok(());
+    }
+    let Some(method) = ground.methods.get(site.method) else {
+        return Ok(());
+    };
+    let formats = method.formats.as_slice();
+    list_formats(alloc, site.path.as_str(), place, formats, &mut known.left)
+}
+
+/// Whether a site can be used and is reached.
+fn is_in_use(flags: &[Flags], place: usize) -> bool
+    ensures { result ≡ (steps.is_usable flags.now place && steps.is_reached flags.now place) }
+{
+    is_usable(flags, place) && is_reached(flags, place)
 }
 
 /// Notes that a site can be used. Whether that is new.

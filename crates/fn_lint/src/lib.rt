@@ -15,6 +15,7 @@ pub use unlike::{UnlikeCall, unlike_calls};
 pub use unnoticed::{Unnoticed, unnoticed_formats};
 
 pub mod demands;
+pub mod entries;
 pub mod formats;
 pub mod growth;
 pub mod laws;
@@ -30,3 +31,4 @@ pub mod undefined;
 mod unfit;
 pub mod unlike;
 pub mod unnoticed;
+mod waiting;

@@ -11,16 +11,18 @@ ghost use Rattle.std.specs.Prelude.{◌≡◌, ◌+◌, ◌++◌, ◌<◌, ℕ, 
 ghost use Rattle.std.specs.Bool.{Decides};
 ghost use Rattle.std.specs.Option.{option_copied};
 ghost use Rattle.fn_normal.specs.declared.profile.Format.{Format};
+ghost use Rattle.fn_lint.specs.Entries as entries;
 ghost use Rattle.fn_lint.specs.Needs as spec;
 ghost use Rattle.fn_lint.specs.NeedsSteps as steps;
 ghost use Rattle.fn_lint.specs.NeedsTold as told;
 ghost use Rattle.fn_lint.specs.Sites as sites;
 
-use crate::growth::{Flags, Ground, entry_path, first_unserved, grow, is_dead, is_reached};
+use crate::entries::entry_path;
+use crate::growth::{Ground, Known, first_unserved, grow, is_dead, is_reached};
 use crate::marking::Judged;
 use crate::obstacle::obstacle_of;
 use crate::paths::called_by;
-use crate::sites::{SITE_LIMIT, Site, all_sites, inner_path};
+use crate::sites::{SITE_LIMIT, Site, all_sites, field_at, format_at, inner_path};
 use fn_normal::{Field, Format, Method};
 use fn_profile::Profile;
 use sqlite_items::Items;
@@ -129,19 +131,20 @@ fn needing_on(alloc: Global, ground: &Ground<'_>) -> Result<Items<Needing>, Allo
     requires { sites.AreSites ground.now.methods.now ground.now.top ground.now.sites.now }
     ensures { IfOk result (told.NeedingFrom ground.now 0 0) }
 {
-    let flags = grow(alloc, ground)?;
-    listed(alloc, ground, flags.as_slice())
+    let known = grow(alloc, ground)?;
+    listed(alloc, ground, &known)
 }
 
 /// Those by what is known of the sites.
-fn listed(alloc: Global, ground: &Ground<'_>, flags: &[Flags]) -> Result<Items<Needing>, AllocError>
+fn listed(alloc: Global, ground: &Ground<'_>, known: &Known) -> Result<Items<Needing>, AllocError>
     requires sites { sites.AreSites ground.now.methods.now ground.now.top ground.now.sites.now }
-    requires grown { steps.IsGrown ground.now flags.now }
+    requires grown { steps.IsGrown ground.now known.now.flags }
+    requires listed { entries.IsListed ground.now known.now }
     ensures { IfOk result (told.NeedingFrom ground.now 0 0) }
 {
     let mut found = Items::new(alloc);
     for (index, method) in ground.methods.iter().enumerate() {
-        add_method(alloc, ground, flags, index, method, &mut found)?;
+        add_method(alloc, ground, known, index, method, &mut found)?;
     }
     Ok(found)
 }
@@ -150,18 +153,19 @@ fn listed(alloc: Global, ground: &Ground<'_>, flags: &[Flags]) -> Result<Items<N
 fn add_method(
     alloc: Global,
     ground: &Ground<'_>,
-    flags: &[Flags],
+    known: &Known,
     index: usize,
     method: &Method,
     found: &mut Items<Needing>,
 ) -> Result<(), AllocError>
     requires sites { sites.AreSites ground.now.methods.now ground.now.top ground.now.sites.now }
-    requires grown { steps.IsGrown ground.now flags.now }
+    requires grown { steps.IsGrown ground.now known.now.flags }
     requires method { slice_get ground.now.methods.now index ≡ Some method.now }
+    requires listed { entries.IsListed ground.now known.now }
     ensures { OnOk result (told.SoFar ground.now index 0 found.old → told.SoFar ground.now (index + 1) 0 found.new) }
 {
     for number in 0..method.formats.len() {
-        add_format(alloc, ground, flags, index, number, found)?;
+        add_format(alloc, ground, known, index, number, found)?;
     }
     Ok(())
 }
@@ -170,16 +174,17 @@ fn add_method(
 fn add_format(
     alloc: Global,
     ground: &Ground<'_>,
-    flags: &[Flags],
+    known: &Known,
     method: usize,
     number: usize,
     found: &mut Items<Needing>,
 ) -> Result<(), AllocError>
     requires sites { sites.AreSites ground.now.methods.now ground.now.top ground.now.sites.now }
-    requires grown { steps.IsGrown ground.now flags.now }
+    requires grown { steps.IsGrown ground.now known.now.flags }
+    requires listed { entries.IsListed ground.now known.now }
     ensures { OnOk result (told.IsNoted ground.now method number found.old found.new) }
 {
-    let Some(path) = never_used(alloc, ground, flags, method, number)? else {
+    let Some(path) = never_used(alloc, ground, known, method, number)? else {
         return Ok(());
     };
     found.push(Needing {
@@ -194,12 +199,13 @@ fn add_format(
 fn never_used(
     alloc: Global,
     ground: &Ground<'_>,
-    flags: &[Flags],
+    known: &Known,
     method: usize,
     number: usize,
 ) -> Result<Option<String>, AllocError>
     requires sites { sites.AreSites ground.now.methods.now ground.now.top ground.now.sites.now }
-    requires grown { steps.IsGrown ground.now flags.now }
+    requires grown { steps.IsGrown ground.now known.now.flags }
+    requires listed { entries.IsListed ground.now known.now }
     ensures found { IfOk result (λ o. IfSome o (λ path. told.NeverUsed ground.now method number (string_bytes path))) }
     ensures none { IfOk result (λ o. IfNone o ((path : List ℕ) → told.NeverUsed ground.now method number path → ⊥)) }
 {
@@ -209,29 +215,23 @@ fn never_used(
     if is_dead(ground.dead, method, number) {
         return Ok(None);
     }
-    let Some(place) = first_reached(ground, flags, method) else {
+    let Some(place) = first_reached(ground, known, method) else {
         return Ok(None);
     };
-    if is_served_somewhere(alloc, ground, flags, method, format)? {
+    if is_served_somewhere(alloc, ground, known, method, format)? {
         return Ok(None);
     }
-    let path = lacking_at(alloc, ground, flags, place, method, number, format)?;
+    let path = lacking_at(alloc, ground, known, place, method, number, format)?;
     Ok(Some(path))
 }
 
-fn format_at(methods: &[Method], method: usize, number: usize) -> Option<&Format>
-    ensures { option_copied result ≡ sites.format_in methods.now method number }
-{
-    methods.get(method)?.formats.get(number)
-}
-
 /// The place of the first site that is the method and is reached.
-fn first_reached(ground: &Ground<'_>, flags: &[Flags], method: usize) -> Option<usize>
-    ensures found { IfSome result (told.IsReachedAt ground.now flags.now method) }
-    ensures none { IfNone result ((j : ℕ) → told.IsReachedAt ground.now flags.now method j → ⊥) }
+fn first_reached(ground: &Ground<'_>, known: &Known, method: usize) -> Option<usize>
+    ensures found { IfSome result (told.IsReachedAt ground.now known.now.flags method) }
+    ensures none { IfNone result ((j : ℕ) → told.IsReachedAt ground.now known.now.flags method j → ⊥) }
 {
     for (place, site) in ground.sites.iter().enumerate() {
-        if is_reached_as(flags, method, place, site) {
+        if is_reached_as(known, method, place, site) {
             return Some(place);
         }
     }
@@ -239,25 +239,26 @@ fn first_reached(ground: &Ground<'_>, flags: &[Flags], method: usize) -> Option<
 }
 
 /// Whether a site is the method and is reached.
-fn is_reached_as(flags: &[Flags], method: usize, place: usize, site: &Site) -> bool
-    ensures { result ≡ told.is_reached_as flags.now method place site.now }
+fn is_reached_as(known: &Known, method: usize, place: usize, site: &Site) -> bool
+    ensures { result ≡ told.is_reached_as known.now.flags method place site.now }
 {
-    site.method == method && is_reached(flags, place)
+    site.method == method && is_reached(known.flags.as_slice(), place)
 }
 
 /// Whether at some site at which its method is reached the format has all that it needs.
 fn is_served_somewhere(
     alloc: Global,
     ground: &Ground<'_>,
-    flags: &[Flags],
+    known: &Known,
     method: usize,
     format: &Format,
 ) -> Result<bool, AllocError>
-    requires { sites.AreSites ground.now.methods.now ground.now.top ground.now.sites.now }
-    ensures { IfOk result (λ is. Decides is (told.IsServedSomewhere ground.now flags.now method format.now)) }
+    requires sites { sites.AreSites ground.now.methods.now ground.now.top ground.now.sites.now }
+    requires listed { entries.IsListed ground.now known.now }
+    ensures { IfOk result (λ is. Decides is (told.IsServedSomewhere ground.now known.now.flags method format.now)) }
 {
     for (place, site) in ground.sites.iter().enumerate() {
-        if is_served_at(alloc, ground, flags, method, format, place, site)? {
+        if is_served_at(alloc, ground, known, method, format, place, site)? {
             return Ok(true);
         }
     }
@@ -267,7 +268,7 @@ fn is_served_somewhere(
 fn is_served_at(
     alloc: Global,
     ground: &Ground<'_>,
-    flags: &[Flags],
+    known: &Known,
     method: usize,
     format: &Format,
     place: usize,
@@ -275,13 +276,14 @@ fn is_served_at(
 ) -> Result<bool, AllocError>
     requires sites { sites.AreSites ground.now.methods.now ground.now.top ground.now.sites.now }
     requires site { slice_get ground.now.sites.now place ≡ Some site.now }
-    ensures { IfOk result (λ is. Decides is (told.IsServedAt ground.now flags.now method format.now place)) }
+    requires listed { entries.IsListed ground.now known.now }
+    ensures { IfOk result (λ is. Decides is (told.IsServedAt ground.now known.now.flags method format.now place)) }
 {
-    if !is_reached_as(flags, method, place, site) {
+    if !is_reached_as(known, method, place, site) {
         return Ok(false);
     }
     let path = site.path.as_str();
-    let lacking = first_unserved(alloc, ground, flags, path, format.fields.as_slice())?;
+    let lacking = first_unserved(alloc, ground, known, path, format.fields.as_slice())?;
     Ok(lacking.is_none())
 }
 
@@ -289,28 +291,29 @@ fn is_served_at(
 fn lacking_at(
     alloc: Global,
     ground: &Ground<'_>,
-    flags: &[Flags],
+    known: &Known,
     place: usize,
     method: usize,
     number: usize,
     format: &Format,
 ) -> Result<String, AllocError>
     requires sites { sites.AreSites ground.now.methods.now ground.now.top ground.now.sites.now }
-    requires grown { steps.IsGrown ground.now flags.now }
+    requires grown { steps.IsGrown ground.now known.now.flags }
     requires format { sites.format_in ground.now.methods.now method number ≡ Some format.now }
-    requires place { told.IsReachedAt ground.now flags.now method place }
-    requires lacks { told.IsServedSomewhere ground.now flags.now method format.now → ⊥ }
+    requires place { told.IsReachedAt ground.now known.now.flags method place }
+    requires lacks { told.IsServedSomewhere ground.now known.now.flags method format.now → ⊥ }
+    requires listed { entries.IsListed ground.now known.now }
     ensures { IfOk result (λ text. told.LacksAt ground.now method number place (string_bytes text)) }
 {
     let Some(site) = ground.sites.get(place) else {
         unreachable!();
     };
     let path = site.path.as_str();
-    let Some(field) = first_unserved(alloc, ground, flags, path, format.fields.as_slice())? else {
+    let Some(field) = first_unserved(alloc, ground, known, path, format.fields.as_slice())? else {
         unreachable!();
     };
     lacking_path(
-        SITE_LIMIT, alloc, ground, flags, path, method, number, field,
+        SITE_LIMIT, alloc, ground, known, path, method, number, field,
     )
 }
 
@@ -319,16 +322,17 @@ fn lacking_path(
     depth: usize,
     alloc: Global,
     ground: &Ground<'_>,
-    flags: &[Flags],
+    known: &Known,
     path: &str,
     method: usize,
     number: usize,
     place: usize,
 ) -> Result<String, AllocError>
     requires sites { sites.AreSites ground.now.methods.now ground.now.top ground.now.sites.now }
-    requires grown { steps.IsGrown ground.now flags.now }
+    requires grown { steps.IsGrown ground.now known.now.flags }
     requires site { sites.Holds ground.now.sites.now method path.now }
-    requires lacks { told.FieldLacks ground.now flags.now path.now method number place }
+    requires lacks { told.FieldLacks ground.now known.now.flags path.now method number place }
+    requires listed { entries.IsListed ground.now known.now }
     ensures { IfOk result (λ text. told.LacksBelow ground.now path.now method number (string_bytes text)) }
 {
     let Some(field) = field_at(ground.methods, method, number, place) else {
@@ -343,26 +347,20 @@ fn lacking_path(
         return Ok(own);
     };
     let inner = inner_path(alloc, path, name)?;
-    let Some(lack) = first_lack(alloc, ground, flags, called, inner.as_str())? else {
+    let Some(lack) = first_lack(alloc, ground, known, called, inner.as_str())? else {
         return Ok(own);
     };
     let told = lacking_path(
         depth - 1,
         alloc,
         ground,
-        flags,
+        known,
         inner.as_str(),
         called,
         lack.format,
         lack.field,
     )?;
     Ok(told)
-}
-
-fn field_at(methods: &[Method], method: usize, number: usize, place: usize) -> Option<&Field>
-    ensures { option_copied result ≡ option_and_then (λ (f : Format). slice_get f.fields place) (sites.format_in methods.now method number) }
-{
-    format_at(methods, method, number)?.fields.get(place)
 }
 
 /// A field that lacks something: its format and itself, by their indices.
@@ -376,18 +374,19 @@ struct Lack {
 fn first_lack(
     alloc: Global,
     ground: &Ground<'_>,
-    flags: &[Flags],
+    known: &Known,
     method: usize,
     path: &str,
 ) -> Result<Option<Lack>, AllocError>
-    requires { sites.AreSites ground.now.methods.now ground.now.top ground.now.sites.now }
-    ensures { IfOk result (λ o. IfSome o (λ lack. told.FieldLacks ground.now flags.now path.now method lack.format lack.field)) }
+    requires sites { sites.AreSites ground.now.methods.now ground.now.top ground.now.sites.now }
+    requires listed { entries.IsListed ground.now known.now }
+    ensures { IfOk result (λ o. IfSome o (λ lack. told.FieldLacks ground.now known.now.flags path.now method lack.format lack.field)) }
 {
     let Some(found) = ground.methods.get(method) else {
         return Ok(None);
     };
     for number in 0..found.formats.len() {
-        if let Some(field) = lack_of(alloc, ground, flags, method, number, path)? {
+        if let Some(field) = lack_of(alloc, ground, known, method, number, path)? {
             return Ok(Some(Lack {
                 format: number,
                 field,
@@ -401,16 +400,17 @@ fn first_lack(
 fn lack_of(
     alloc: Global,
     ground: &Ground<'_>,
-    flags: &[Flags],
+    known: &Known,
     method: usize,
     number: usize,
     path: &str,
 ) -> Result<Option<usize>, AllocError>
-    requires { sites.AreSites ground.now.methods.now ground.now.top ground.now.sites.now }
-    ensures { IfOk result (λ o. IfSome o (told.FieldLacks ground.now flags.now path.now method number)) }
+    requires sites { sites.AreSites ground.now.methods.now ground.now.top ground.now.sites.now }
+    requires listed { entries.IsListed ground.now known.now }
+    ensures { IfOk result (λ o. IfSome o (told.FieldLacks ground.now known.now.flags path.now method number)) }
 {
     let Some(format) = format_at(ground.methods, method, number) else {
         return Ok(None);
     };
-    first_unserved(alloc, ground, flags, path, format.fields.as_slice())
+    first_unserved(alloc, ground, known, path, format.fields.as_slice())
 }

@@ -239,14 +239,21 @@ fn any_field_keeps(fields: &[Field], name: &[u8]) -> bool
     ensures { result ≡ list_any (spec.keeps_by name.now) fields.now }
 {
     for field in fields {
-        if is_kept(field) && field.declared.name.as_str().as_bytes() == name {
+        if keeps_by(field, name) {
             return true;
         }
     }
     false
 }
 
-fn is_kept(field: &Field) -> bool
+/// Whether it is a header or control field of that name.
+pub(crate) fn keeps_by(field: &Field, name: &[u8]) -> bool
+    ensures { result ≡ spec.keeps_by name.now field.now }
+{
+    is_kept(field) && field.declared.name.as_str().as_bytes() == name
+}
+
+pub(crate) fn is_kept(field: &Field) -> bool
     ensures { result ≡ not (spec.is_local field.now.declared.part) }
 {
     match field.declared.part {

@@ -1,11 +1,13 @@
 //! Methods at the paths at which they are called.
 
-ghost use Rattle.std.specs.Prelude.{◌≡◌, ◌<◌, List, length, Some, option_map, slice_get, string_bytes, IfOk, IfSome, IfNone, OnOk};
+ghost use Rattle.std.specs.Prelude.{◌≡◌, ◌<◌, List, true, length, option_and_then, Some, option_map, slice_get, string_bytes, IfOk, IfSome, IfNone, OnOk};
 ghost use Rattle.std.specs.Option.{option_copied};
+ghost use Rattle.fn_normal.specs.declared.profile.Format.{Format};
+ghost use Rattle.fn_lint.specs.Paths.{keeps};
 ghost use Rattle.fn_lint.specs.Sites as spec;
 ghost use Rattle.fn_lint.specs.SitesSteps as steps;
 
-use crate::paths::called_by;
+use crate::paths::{called_by, keeps_by};
 use fn_normal::{Field, Format, Method};
 use sqlite_items::Items;
 use std::alloc::{AllocError, Global};
@@ -169,4 +171,41 @@ fn is_site(site: &Site, method: usize, path: &str) -> bool
     ensures { result ≡ spec.is_site method path.now site.now }
 {
     site.method == method && site.path.as_str() == path
+}
+
+// ---- parts of methods
+
+/// The format of a number, in the method of a number.
+pub(crate) fn format_at(methods: &[Method], method: usize, number: usize) -> Option<&Format>
+    ensures { option_copied result ≡ spec.format_in methods.now method number }
+{
+    methods.get(method)?.formats.get(number)
+}
+
+/// A field of it.
+pub(crate) fn field_at(
+    methods: &[Method],
+    method: usize,
+    number: usize,
+    place: usize,
+) -> Option<&Field>
+    ensures { option_copied result ≡ option_and_then (λ (f : Format). slice_get f.fields place) (spec.format_in methods.now method number) }
+{
+    format_at(methods, method, number)?.fields.get(place)
+}
+
+/// Whether that field is a header or control field of that name.
+pub(crate) fn keeps_at(
+    methods: &[Method],
+    method: usize,
+    format: usize,
+    field: usize,
+    name: &[u8],
+) -> bool
+    ensures { result ≡ true → keeps methods.now method name.now ≡ true }
+{
+    match field_at(methods, method, format, field) {
+        Some(field) => keeps_by(field, name),
+        None => false,
+    }
 }

@@ -4,12 +4,17 @@
 //! field of its method that has at least three letters too: one letter is another one, is missing, or is one too many. Digits don't count as letters here, so
 //! `crc3` and `crc7` are two names.
 
-ghost use Rattle.std.specs.Prelude.{◌≡◌, ◌++◌, false, IfOk, OnOk};
+ghost use Rattle.std.specs.Prelude.{◌≡◌, ◌++◌, ◌||◌, ◌&&◌, ℕ, List, false, nat_eq, not, IfOk, OnOk};
+ghost use Rattle.std.specs.BTreeMap.{get_by_text};
+ghost use Rattle.std.specs.List.{list_all};
+ghost use Rattle.std.specs.Option.{option_copied};
+ghost use Rattle.std.specs.Str.{bytes_eq};
 ghost use Rattle.fn_lint.specs.Spelled as spec;
 
 use fn_normal::{Field, Format, Method, Part};
 use sqlite_items::Items;
 use std::alloc::{AllocError, Global};
+use std::collections::BTreeMap;
 
 /// A name that may be misspelled: the method, the format, the field that is listed and the header field that may be meant, by their indices.
 #[derive(Clone, Copy)]
@@ -18,6 +23,20 @@ pub struct Misspelled {
     pub format: usize,
     pub field: usize,
     pub meant: usize,
+}
+
+/// The first format of a method that has a field of a name, by its number, and whether another has one, too.
+#[derive(Clone, Copy)]
+pub struct Owner {
+    pub first: usize,
+    pub is_shared: bool,
+}
+
+/// The formats of a method, and which of them have a field of each name.
+#[derive(Drop)]
+pub struct Owners<'a> {
+    pub formats: &'a [Format],
+    pub table: BTreeMap<String, Owner>,
 }
 
 /// No shorter name is looked at.
@@ -29,21 +48,22 @@ pub fn misspelled_names(alloc: Global, methods: &[Method]) -> Result<Items<Missp
 {
     let mut found = Items::new(alloc);
     for (index, method) in methods.iter().enumerate() {
-        add_of_method(&mut found, index, method)?;
+        add_of_method(alloc, &mut found, index, method)?;
     }
     Ok(found)
 }
 
 fn add_of_method(
+    alloc: Global,
     found: &mut Items<Misspelled>,
     index: usize,
     method: &Method,
 ) -> Result<(), AllocError>
     ensures { OnOk result (found.new ≡ found.old ++ spec.misspelled_method index method.now) }
 {
-    let formats = method.formats.as_slice();
-    for (number, format) in formats.iter().enumerate() {
-        add_of_format(found, index, formats, number, format)?;
+    let owners = owners_in(alloc, method.formats.as_slice())?;
+    for (number, format) in owners.formats.iter().enumerate() {
+        add_of_format(found, index, &owners, number, format)?;
     }
     Ok(())
 }
@@ -51,14 +71,15 @@ fn add_of_method(
 fn add_of_format(
     found: &mut Items<Misspelled>,
     method: usize,
-    formats: &[Format],
+    owners: &Owners<'_>,
     number: usize,
     format: &Format,
 ) -> Result<(), AllocError>
-    ensures { OnOk result (found.new ≡ found.old ++ spec.misspelled_format method formats.now number format.now) }
+    requires { spec.AreOwners owners.now.formats.now (get_by_text owners.now.table) }
+    ensures { OnOk result (found.new ≡ found.old ++ spec.misspelled_format method owners.now.formats.now number format.now) }
 {
     for (place, field) in format.fields.as_slice().iter().enumerate() {
-        add_of_field(found, method, formats, number, format, place, field)?;
+        add_of_field(found, method, owners, number, format, place, field)?;
     }
     Ok(())
 }
@@ -67,19 +88,20 @@ fn add_of_format(
 fn add_of_field(
     found: &mut Items<Misspelled>,
     method: usize,
-    formats: &[Format],
+    owners: &Owners<'_>,
     number: usize,
     format: &Format,
     place: usize,
     field: &Field,
 ) -> Result<(), AllocError>
-    ensures { OnOk result (found.new ≡ found.old ++ spec.misspelled_field method formats.now number format.now place field.now) }
+    requires { spec.AreOwners owners.now.formats.now (get_by_text owners.now.table) }
+    ensures { OnOk result (found.new ≡ found.old ++ spec.misspelled_field method owners.now.formats.now number format.now place field.now) }
 {
-    let name = field.declared.name.as_str().as_bytes();
-    if !is_local(field.declared.part) || !is_alone(formats, number, name) {
+    let name = field.declared.name.as_str();
+    if !is_local(field.declared.part) || !is_alone(owners, number, name) {
         return Ok(());
     }
-    match meant_in(format.fields.as_slice(), name) {
+    match meant_in(format.fields.as_slice(), name.as_bytes()) {
         Some(meant) => found.push(Misspelled {
             method,
             format: number,
@@ -108,27 +130,90 @@ fn is_header(part: Part) -> bool
     }
 }
 
+// ---- which formats have a name
+
 /// Whether no format but that of the number has a field of the name.
-fn is_alone(formats: &[Format], number: usize, name: &[u8]) -> bool
-    ensures { result ≡ spec.is_alone formats.now number name.now }
+fn is_alone(owners: &Owners<'_>, number: usize, name: &str) -> bool
+    requires { spec.AreOwners owners.now.formats.now (get_by_text owners.now.table) }
+    ensures { result ≡ spec.is_alone owners.now.formats.now number name.now }
 {
-    for (index, format) in formats.iter().enumerate() {
-        if index != number && has_field(name, format) {
-            return false;
-        }
+    match owners.table.get(name) {
+        Some(owner) => owner.first == number && !owner.is_shared,
+        None => true,
     }
-    true
 }
 
-fn has_field(name: &[u8], format: &Format) -> bool
-    ensures { result ≡ spec.has_field name.now format.now }
+/// The names that the formats of a method have.
+fn owners_in<'a>(alloc: Global, formats: &'a [Format]) -> Result<Owners<'a>, AllocError>
+    ensures formats { IfOk result (λ owners. owners.formats.now ≡ formats.now) }
+    ensures found { IfOk result (λ owners. spec.AreOwners owners.formats.now (get_by_text owners.table)) }
 {
-    for field in format.fields.as_slice() {
-        if field.declared.name.as_str().as_bytes() == name {
-            return true;
-        }
+    let table = owner_table(alloc, formats)?;
+    Ok(Owners { formats, table })
+}
+
+fn owner_table(alloc: Global, formats: &[Format]) -> Result<BTreeMap<String, Owner>, AllocError>
+    ensures { IfOk result (λ table. spec.AreOwners formats.now (get_by_text table)) }
+{
+    let mut table = BTreeMap::new(alloc);
+    for (number, format) in formats.iter().enumerate() {
+        note_format(alloc, number, format, &mut table)?;
     }
-    false
+    Ok(table)
+}
+
+/// Notes the names of a format.
+fn note_format(
+    alloc: Global,
+    number: usize,
+    format: &Format,
+    table: &mut BTreeMap<String, Owner>,
+) -> Result<(), AllocError>
+    ensures { OnOk result ((name : List ℕ) (n : ℕ) → spec.alone_by (get_by_text table.new name) n ≡ (spec.alone_by (get_by_text table.old name) n && (nat_eq number n || not (spec.has_field name format.now)))) }
+{
+    note_fields(alloc, number, format.fields.as_slice(), table)
+}
+
+fn note_fields(
+    alloc: Global,
+    number: usize,
+    fields: &[Field],
+    table: &mut BTreeMap<String, Owner>,
+) -> Result<(), AllocError>
+    ensures { OnOk result ((name : List ℕ) (n : ℕ) → spec.alone_by (get_by_text table.new name) n ≡ (spec.alone_by (get_by_text table.old name) n && list_all (spec.lets_alone number n name) fields.now)) }
+{
+    for field in fields {
+        note_name(alloc, number, field.declared.name.as_str(), table)?;
+    }
+    Ok(())
+}
+
+fn note_name(
+    alloc: Global,
+    number: usize,
+    own: &str,
+    table: &mut BTreeMap<String, Owner>,
+) -> Result<(), AllocError>
+    ensures { OnOk result ((name : List ℕ) (n : ℕ) → spec.alone_by (get_by_text table.new name) n ≡ (spec.alone_by (get_by_text table.old name) n && (nat_eq number n || not (bytes_eq own.now name)))) }
+{
+    let owner = owner_with(table.get(own), number);
+    table.insert(String::from_str(alloc, own)?, owner)?;
+    Ok(())
+}
+
+fn owner_with(before: Option<&Owner>, number: usize) -> Owner
+    ensures { result ≡ spec.owner_with (option_copied before.entry) number }
+{
+    match before {
+        Some(owner) => Owner {
+            first: owner.first,
+            is_shared: owner.is_shared || owner.first != number,
+        },
+        None => Owner {
+            first: number,
+            is_shared: false,
+        },
+    }
 }
 
 /// The first header field that may be meant by the name.

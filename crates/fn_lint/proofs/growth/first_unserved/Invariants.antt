@@ -3,4 +3,4 @@ use Rattle.fn_lint.specs.NeedsSteps as steps
 use Rattle.fn_lint.proofs.growth.first_unserved.Given as goal
 
 abbrev pub invariant-loop-place : goal.invariant-loop-place
-invariant-loop-place l = steps.AllServed l.ground l.flags l.path (take l.place l.fields)
+invariant-loop-place l = steps.AllServed l.ground l.known.flags l.path (take l.place l.fields)

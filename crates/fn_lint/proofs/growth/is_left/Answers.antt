@@ -1,17 +1,13 @@
-use Rattle.std.proofs.Common.{refl, sym, ◌∙◌}
-use Rattle.std.proofs.lemmas.Option.{slice_get_read}
-use Rattle.fn_lint.proofs.NeedsGrowing.{left_found, left_next, left_none}
+use Rattle.std.proofs.Common.{refl, sym}
+use Rattle.fn_lint.proofs.EntriesListed.{left_unlisted}
 use Rattle.fn_lint.proofs.growth.is_left.Goals as goal
 
-pub returns-then-leaves : goal.returns-then-leaves
-returns-then-leaves c =
-    left_found c.args.ground.now c.args.flags.now c.args.path.now c.args.name.now c.loop-place.place c.site-item.result
-    (slice_get_read c.args.ground.now.sites.now _ c.loop-place.place c.site-item.result refl c.loop-place-test.true c.site-item.is) (sym c.leaves.ensures ∙ c.if-leaves.true)
+pub returns-in_default : goal.returns-in_default
+returns-in_default c =
+    left_unlisted c.args.ground.now c.args.known.now c.args.path.now c.args.name.now c.args.entry.now c.requires.listed c.requires.entry (sym (rw c.in_default.is at c.get.ensures.value))
 
-pub loop-place-preserved : goal.loop-place-preserved
-loop-place-preserved c =
-    left_next c.args.ground.now c.args.flags.now c.args.path.now c.args.name.now c.loop-place.place c.site-item.result
-    (slice_get_read c.args.ground.now.sites.now _ c.loop-place.place c.site-item.result refl c.loop-place-test.true c.site-item.is) (sym c.leaves.ensures ∙ c.if-leaves.false) c.loop-place.invariant
+pub returns-then-is_source : goal.returns-then-is_source
+returns-then-is_source c = (λ e. rw c.as_slice-flags.ensures at (c.is_source.ensures c.if-is_source.true), λ left. refl)
 
 pub returns : goal.returns
-returns c = left_none c.args.ground.now c.args.flags.now c.args.path.now c.args.name.now c.loop-place.place c.loop-place-test.false c.loop-place.invariant
+returns c = rw c.as_slice-flags.ensures at c.is_left_somewhere.ensures

@@ -1,5 +1,5 @@
 use Rattle.fn_lint.proofs.NeedsAdding.{top_reached}
 use Rattle.fn_lint.proofs.growth.reach_top.Goals as goal
 
-pub returns : goal.returns
-returns c = top_reached c.args.ground.now c.args.flags.now _ c.in-Some.place _ c.requires.sites c.requires.none c.in-Some.ensures.found c.set_reached.ensures
+pub returns-clause-begun : goal.returns-clause-begun
+returns-clause-begun c = top_reached c.args.ground.now c.args.known.now.flags _ c.in-Some.place _ c.requires.sites c.requires.none c.in-Some.ensures.found c.in_ok-note_reached.ensures.sets
