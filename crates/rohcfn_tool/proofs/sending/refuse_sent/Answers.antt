@@ -10,4 +10,4 @@ sender_fault-requires c = of_item c.args.accepted.now c.args.sender.now c.args.i
 pub returns : goal.returns
 returns c =
     line_added (RefusesSent c.args.accepted.now c.args.sender.now c.args.number c.args.item.now) c.push_line.result _ _ c.as_str.result.now (string_bytes c.in_ok-line.line) c.push_line.ensures c.as_str.ensures.value
-    (c.args.fault, (c.requires, c.in_ok-line.ensures.says, c.in_ok-line.ensures.line))
+    (c.args.fault, c.requires, c.in_ok-line.ensures.says, c.in_ok-line.ensures.line)
