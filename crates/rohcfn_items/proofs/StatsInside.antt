@@ -17,10 +17,10 @@ use Rattle.fn_stats.specs.Depth.{deepest}
 use Rattle.fn_stats.specs.Sums as sums
 use Rattle.fn_stats.proofs.DepthInside.{deepest_inside, none_deep}
 use Rattle.rohcfn_items.specs.Fields.{callee, encoding_at}
-use Rattle.rohcfn_items.specs.Stats.{Inside, called_rows, field_rows, format_rows, formats_rows, heads, inner_name, inner_rows, listed_rows, rows, rows_inside, tally_row}
+use Rattle.rohcfn_items.specs.Stats.{Inside, called_rows, field_rows, format_rows, formats_rows, head_line, heads, inner_name, inner_rows, listed_rows, rows, rows_inside, stats_text, tally_row}
 use Rattle.rohcfn_items.specs.StatsSteps.{Add, AddField, AddFields, AddFormat, AddFormats, AddInner, AddInnerFormat, AddInside, AddListed, AreRows, IsOfFormat, IsOfPlace}
 use Rattle.rohcfn_names.specs.Names.{field_name, format_name, formats_of, method_name}
-use Rattle.rohcfn_names.specs.Table.{Row}
+use Rattle.rohcfn_names.specs.Table.{Row, table}
 use Rattle.rohcfn_names.proofs.TableLists.{Goes, goes_end, goes_on}
 
 -- ---- parts of sums
@@ -214,3 +214,12 @@ module _ (methods : List Method) (top : ℕ) where
 
   pub rows_made : (s : Sums) (old new : List Row) → old ≡ heads ∷ [] → AddFormats methods top s old new → AreRows methods top s new
   rows_made s old new first adds fs are = adds fs (deepest fs) are (omega arith) ∙ ap (λ xs. xs ++ formats_rows (rows_inside (deepest fs) methods) methods top (formats_of methods top) fs) first
+
+  pub format_none_pushed : (n : ℕ) (listing : List ℕ) (s : Sums) (o : Option FormatSums) (name : List ℕ) (row : Row) (none : Tally) (old new : List Row) (done : Result (Unit {0}) AllocError) → o ≡ slice_get (out-Sums s).formats.items n → o ≡ None → name ≡ format_name methods top n
+      → none ≡ sums.no_row.all → row ≡ tally_row name none → OnOk done (new ≡ old ++ row ∷ []) → OnOk done (AddFormat methods top n listing s old new)
+  format_none_pushed n listing s o name row none old new (Err e) at is named zeros own grown = tt
+  format_none_pushed n listing s o name row none old new (Ok x) at is named zeros own grown = format_none n listing s o name row none old new at is named zeros own grown
+
+  pub text_made : (s : Sums) (fs : List Filling) (text whole : List ℕ) (made shown : List Row) → text ≡ head_line (out-Sums s).all → AreRows methods top s made → shown ≡ made → whole ≡ text ++ table shown → sums.AreSums fs s → whole ≡ stats_text methods top fs
+  text_made s fs text whole made shown first is same all are =
+      all ∙ (λ i. (first ∙ ap head_line (are []).all_is) i ++ table ((same ∙ is fs are) i))

@@ -239,9 +239,7 @@ fn add_inside(
 {
     for (number, format) in formats_of(methods, method).iter().enumerate() {
         let listing = format.listing.get().as_slice();
-        add_inner(
-            sums, alloc, rows, methods, method, number, listing, indent,
-        )?;
+        add_inner(sums, alloc, rows, methods, method, number, listing, indent)?;
     }
     Ok(())
 }
@@ -261,9 +259,7 @@ fn add_inner(
     ensures { OnOk result (steps.AddInner methods.now method number listing.now indent.now sums.now rows.old rows.new) }
 {
     match sums.formats.get(number) {
-        Some(sums) => add_inner_format(
-            sums, alloc, rows, methods, method, number, listing, indent,
-        ),
+        Some(sums) => add_inner_format(sums, alloc, rows, methods, method, number, listing, indent),
         None => Ok(()),
     }
 }
@@ -307,12 +303,7 @@ fn add_inner_format(
 }
 
 /// The name of a format of a called method, after some blanks.
-fn inner_name(
-    alloc: Global,
-    indent: &str,
-    method: &str,
-    format: &str,
-) -> Result<Cell, AllocError>
+fn inner_name(alloc: Global, indent: &str, method: &str, format: &str) -> Result<Cell, AllocError>
     ensures { IfOk result (λ cell. cell ≡ spec.inner_name indent.now method.now format.now) }
 {
     let text = format!(in alloc; "{indent}{method}.{format}")?;
