@@ -17,20 +17,43 @@ def mean(bits, items):
     return "%d.%d" % divmod((20 * bits + items) // (2 * items), 10) if items else "-"
 
 
+def row(name, bits, items):
+    return name, str(items), str(bits), mean(bits, items)
+
+
+def field_rows(known, method, form, levels, depth):
+    """The rows of the fields that a format lists, where they have bits, by the fields of each filling with it; below each those of what is inside it."""
+    rows = []
+    for name in known[method, form]:
+        shown = [next(it for it in fields_of if it[0] == name) for fields_of in levels]
+        bits = sum(len(lower) for _, _, _, lower, _, _ in shown)
+        if bits:
+            rows += [row(" " * depth + name, bits, len(shown)), *inside_rows(known, shown, depth + 2)]
+    return rows
+
+
+def inside_rows(known, shown, depth):
+    """The rows of the formats of the method that a field calls, by what `fields` shows of the field, packet by packet: those that some packet has, in the order of the text."""
+    rows = []
+    for method, form in known:
+        mine = [it for it in shown if it[4] == method + "." + form]
+        if mine:
+            levels = [fields.level(inside, len(inside[0]) - len(inside[0].lstrip()) if inside else 0) for *_, inside in mine]
+            rows += [row(" " * depth + method + "." + form, sum(len(it[3]) for it in mine), len(mine)), *field_rows(known, method, form, levels, depth + 2)]
+    return rows
+
+
 def counted(profile, top, trees):
     """The head line and the rows that the trees of `fields` give. A field has the bits of the second side that is printed of it; the fields come in the order of the profile's text."""
     rows, every, known = [("format", "items", "bits", "mean")], 0, fields.Listings(profile).known
     for method, form in known:
         if method != top:
             continue
-        found = [({name: len(lower) for name, _, _, lower, _, _ in fields.level(body, 2)}, int(head.group(4))) for head, body in trees if head.group(3) == form]
+        found = [(fields.level(body, 2), int(head.group(4))) for head, body in trees if head.group(3) == form]
         whole, every = sum(bits for _, bits in found), every + sum(bits for _, bits in found)
-        rows.append((form, str(len(found)), str(whole), mean(whole, len(found))))
-        for name in known[method, form]:
-            bits = sum(sides[name] for sides, _ in found)
-            rows += [("  " + name, str(len(found)), str(bits), mean(bits, len(found)))] if bits else []
+        rows += [row(form, whole, len(found)), *field_rows(known, method, form, [it for it, _ in found], 2)]
     widths = [max(map(len, column)) for column in zip(*rows)]
-    lines = ["  " + "  ".join(cell.ljust(width) for cell, width in zip(row, widths)).rstrip() for row in rows]
+    lines = ["  " + "  ".join(cell.ljust(width) for cell, width in zip(cells, widths)).rstrip() for cells in rows]
     return ["items %d bits %d mean %s" % (len(trees), every, mean(every, len(trees))), *lines]
 
 

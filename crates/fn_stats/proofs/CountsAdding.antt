@@ -1,5 +1,5 @@
 -- The packed bits of a filling, side by side.
-use Rattle.std.proofs.Common.{◌≡◌, ◌∙◌, sym, ap, ℕ, ◌+◌, ◌<◌, List, [], ◌∷◌, ◌++◌, length, map, drop, get_or, length-append, arith}
+use Rattle.std.proofs.Common.{◌≡◌, ◌∙◌, sym, ap, ℕ, ◌+◌, ◌<◌, List, [], ◌∷◌, length, map, drop, get_or, length-append, arith}
 use Rattle.std.specs.Prelude.{Option, Some, None, fold, slice_get, option_map, unwrap_or}
 use Rattle.std.specs.List.{sum}
 use Rattle.std.proofs.lemmas.List.{drop_more}

@@ -1,9 +1,8 @@
--- What is counted of the packets of some fillings: how many have each format, and how many bits stand in them, in all and field by field.
-use Rattle.std.specs.Prelude.{ℕ, Bool, List, [], length, map, get_or, nat_eq, if◌then◌else◌, slice_get, option_map, unwrap_or}
-use Rattle.std.specs.List.{sum_by}
+-- What is counted of the packets of some fillings: how many there are, and how many bits stand in them, in all, format by format and field by field.
+use Rattle.std.specs.Prelude.{ℕ, ◌+◌, Bool, List, [], length, map, filter, get_or, nat_eq, slice_get, Option, option_map, option_and_then, unwrap_or}
+use Rattle.std.specs.List.{filter_map, sum_by}
 use Rattle.fn_filling.specs.declared.filling.Filling.{Filling, out-Filling}
-use Rattle.fn_filling.specs.Fillings.{level, listing_of, packed}
-use Rattle.fn_stats.specs.declared.counts.Count.{Count}
+use Rattle.fn_filling.specs.Fillings.{inner_at, level, listing_of, packed}
 use Rattle.fn_stats.specs.declared.counts.Tally.{Tally}
 
 -- the compressed side of the field i, which is what it gives to the packed bits where it is listed
@@ -17,42 +16,38 @@ side_length f i = length (side f i)
 abbrev pub field_lengths : Filling → List ℕ
 field_lengths f = map (side_length f) (listing_of f)
 
--- what is counted of a filling
-abbrev pub counted : Filling → Count
-counted f = record { format = (out-Filling f).format; bits = length (packed f); fields = field_lengths f }
+-- how many the listed field at a place of the listing has; 0 past the listing
+abbrev pub bits_at : ℕ → Filling → ℕ
+bits_at p f = get_or (field_lengths f) p 0
 
--- ---- what one filling adds: nothing, where it has another format
+-- the filling inside the listed field at a place, if it has one
+abbrev pub inner_in : ℕ → Filling → Option Filling
+inner_in p f = option_and_then (inner_at f) (slice_get (listing_of f) p)
 
-abbrev pub items_in : ℕ → Count → ℕ
-items_in n c = if nat_eq c.format n then 1 else 0
+-- ---- of some fillings
 
-abbrev pub bits_in : ℕ → Count → ℕ
-bits_in n c = if nat_eq c.format n then c.bits else 0
+-- those that have the format n
+abbrev pub of_format : ℕ → List Filling → List Filling
+of_format n fs = filter (λ f. nat_eq (out-Filling f).format n) fs
 
--- of the listed field at a place of the listing
-abbrev pub length_at : ℕ → List ℕ → ℕ
-length_at place lengths = get_or lengths place 0
+-- those inside the listed field at a place, where the format is n
+abbrev pub insides : ℕ → ℕ → List Filling → List Filling
+insides n p fs = filter_map (inner_in p) (of_format n fs)
 
-abbrev pub field_bits_in : ℕ → ℕ → Count → ℕ
-field_bits_in n place c = if nat_eq c.format n then length_at place c.fields else 0
+-- how many fillings there are, and their packed bits
+abbrev pub tally : List Filling → Tally
+tally fs = record { items = length fs; bits = sum_by (λ f. length (packed f)) fs }
 
--- ---- the sums over fillings
+-- the same of those with the format n; and of these with the bits of one listed field
+abbrev pub tally_format : ℕ → List Filling → Tally
+tally_format n fs = tally (of_format n fs)
 
-abbrev pub items_of : ℕ → List Count → ℕ
-items_of n cs = sum_by (items_in n) cs
+abbrev pub bits_of_field : ℕ → ℕ → List Filling → ℕ
+bits_of_field n p fs = sum_by (bits_at p) (of_format n fs)
 
-abbrev pub bits_of : ℕ → List Count → ℕ
-bits_of n cs = sum_by (bits_in n) cs
+abbrev pub tally_field : ℕ → ℕ → List Filling → Tally
+tally_field n p fs = record { items = length (of_format n fs); bits = bits_of_field n p fs }
 
-abbrev pub field_bits_of : ℕ → ℕ → List Count → ℕ
-field_bits_of n place cs = sum_by (field_bits_in n place) cs
-
--- all fillings; those of a format; and those of a format with the bits of one listed field
-abbrev pub tally_all : List Count → Tally
-tally_all cs = record { items = length cs; bits = sum_by (λ (c : Count). c.bits) cs }
-
-abbrev pub tally_format : ℕ → List Count → Tally
-tally_format n cs = record { items = items_of n cs; bits = bits_of n cs }
-
-abbrev pub tally_field : ℕ → ℕ → List Count → Tally
-tally_field n place cs = record { items = items_of n cs; bits = field_bits_of n place cs }
+-- a tally with one filling more
+abbrev pub one_more : Filling → Tally → Tally
+one_more f t = record { items = t.items + 1; bits = t.bits + length (packed f) }

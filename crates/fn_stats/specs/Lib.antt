@@ -1,2 +1,5 @@
+pub mod Adding
 pub mod Counts
+pub mod Depth
 pub mod Laws
+pub mod Sums

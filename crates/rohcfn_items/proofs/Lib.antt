@@ -1,3 +1,4 @@
 pub mod BitTextsSpelled
 pub mod FieldsListed
 pub mod LossNumbers
+pub mod StatsInside

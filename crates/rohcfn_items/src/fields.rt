@@ -77,7 +77,7 @@ fn add_rows(
 }
 
 /// Two blanks more.
-fn further_in(alloc: Global, indent: &str) -> Result<String, AllocError>
+pub(crate) fn further_in(alloc: Global, indent: &str) -> Result<String, AllocError>
     ensures { IfOk result (λ text. string_bytes text ≡ indent.now ++ codes "  ") }
 {
     format!(in alloc; "{indent}  ")
@@ -97,7 +97,7 @@ pub(crate) fn encoding_at(
 }
 
 /// The method that a field calls.
-fn callee(encoding: Option<&Encoding>) -> Option<usize>
+pub(crate) fn callee(encoding: Option<&Encoding>) -> Option<usize>
     ensures { result ≡ spec.callee (option_copied encoding.entry) }
 {
     match encoding {
@@ -125,7 +125,7 @@ fn field_row(
     Ok(row)
 }
 
-fn name_cell(alloc: Global, indent: &str, name: &str) -> Result<Cell, AllocError>
+pub(crate) fn name_cell(alloc: Global, indent: &str, name: &str) -> Result<Cell, AllocError>
     ensures { IfOk result (λ cell. cell ≡ indent.now ++ name.now) }
 {
     let text = format!(in alloc; "{indent}{name}")?;

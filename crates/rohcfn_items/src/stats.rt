@@ -1,28 +1,32 @@
 //! What `stats` prints of what was packed.
 
-ghost use Rattle.std.specs.Prelude.{◌≡◌, ◌<◌, ◌∷◌, ◌++◌, [], IfOk, OnOk, codes, decimal, string_bytes};
+ghost use Rattle.std.specs.Prelude.{◌≡◌, ◌<◌, ◌∷◌, ◌++◌, [], List, IfOk, OnOk, codes, decimal, string_bytes};
+ghost use Rattle.fn_filling.specs.declared.filling.Filling.{Filling};
+ghost use Rattle.fn_stats.specs.Sums.{AreSums};
 ghost use Rattle.rohcfn_items.specs.Stats as spec;
+ghost use Rattle.rohcfn_items.specs.StatsSteps as steps;
 
-use fn_normal::{Format, Method};
-use fn_stats::{Count, Tally, tally_all, tally_field, tally_format};
+use crate::fields::{callee, encoding_at, further_in, name_cell};
+use fn_normal::Method;
+use fn_stats::{FormatSums, PlaceSums, Sums, Tally};
 use itoa::Buffer;
-use rohcfn_names::names::{field_name, format_name, formats_of};
+use rohcfn_names::names::{field_name, format_name, formats_of, method_name};
 use rohcfn_names::table::{Cell, push_table};
 use sqlite_items::Items;
 use std::alloc::{AllocError, Global};
 
-/// The lines of what is counted of packed items: a head line for all of them; and in columns a line for each format of the top, and for each of its listed fields that
-/// has packed bits. No line feed stands after the last line. The error is want of memory.
+/// The lines of what is counted of packed items: a head line for all of them; and in columns a line for each format of the top, for each of its listed fields that
+/// has packed bits, and below a field for each format of the method that it calls, and so on. No line feed stands after the last line. The error is want of memory.
 pub fn stats_text(
     alloc: Global,
     methods: &[Method],
     top: usize,
-    counts: &[Count],
+    sums: &Sums,
 ) -> Result<String, AllocError>
-    ensures { IfOk result (λ text. string_bytes text ≡ spec.stats_text methods.now top counts.now) }
+    ensures { IfOk result (λ text. (fs : List Filling) → AreSums fs sums.now → string_bytes text ≡ spec.stats_text methods.now top fs) }
 {
-    let mut text = head_line(alloc, tally_all(counts)?)?;
-    let rows = rows(alloc, methods, top, counts)?;
+    let mut text = head_line(alloc, sums.all)?;
+    let rows = rows(alloc, methods, top, sums)?;
     push_table(alloc, &mut text, rows.as_slice())?;
     Ok(text)
 }
@@ -84,14 +88,13 @@ fn rows(
     alloc: Global,
     methods: &[Method],
     top: usize,
-    counts: &[Count],
+    sums: &Sums,
 ) -> Result<Items<Items<Cell>>, AllocError>
-    ensures { IfOk result (λ rows. rows ≡ spec.rows methods.now top counts.now) }
+    ensures { IfOk result (steps.AreRows methods.now top sums.now) }
 {
     let mut rows = Items::new(alloc);
     rows.push(heads(alloc)?)?;
-    let formats = formats_of(methods, top);
-    add_formats(alloc, &mut rows, methods, top, formats, counts)?;
+    add_formats(alloc, &mut rows, methods, top, sums)?;
     Ok(rows)
 }
 
@@ -112,85 +115,202 @@ fn add_formats(
     rows: &mut Items<Items<Cell>>,
     methods: &[Method],
     top: usize,
-    formats: &[Format],
-    counts: &[Count],
+    sums: &Sums,
 ) -> Result<(), AllocError>
-    ensures { OnOk result (rows.new ≡ rows.old ++ spec.formats_rows methods.now top formats.now counts.now) }
+    ensures { OnOk result (steps.AddFormats methods.now top sums.now rows.old rows.new) }
 {
-    for (number, format) in formats.iter().enumerate() {
-        add_format(alloc, rows, methods, top, number, format, counts)?;
+    for (number, format) in formats_of(methods, top).iter().enumerate() {
+        let listing = format.listing.get();
+        add_format(alloc, rows, methods, top, number, listing.as_slice(), sums)?;
     }
     Ok(())
 }
 
-/// Adds the row of a format, by its number, and those of its listed fields.
+/// Adds the row of a format of the top, by its number, and those of its listed fields.
 fn add_format(
     alloc: Global,
     rows: &mut Items<Items<Cell>>,
     methods: &[Method],
     top: usize,
     number: usize,
-    format: &Format,
-    counts: &[Count],
+    listing: &[usize],
+    sums: &Sums,
 ) -> Result<(), AllocError>
-    ensures { OnOk result (rows.new ≡ rows.old ++ spec.format_rows methods.now top number format.now.listing counts.now) }
+    ensures { OnOk result (steps.AddFormat methods.now top number listing.now sums.now rows.old rows.new) }
 {
     let name = Cell::of(alloc, format_name(methods, top, number))?;
-    rows.push(tally_row(alloc, name, tally_format(counts, number)?)?)?;
-    let listing = format.listing.get();
-    add_fields(
-        alloc,
-        rows,
-        methods,
-        top,
-        number,
-        listing.as_slice(),
-        counts,
-    )
+    match sums.formats.get(number) {
+        Some(sums) => {
+            rows.push(tally_row(alloc, name, sums.all)?)?;
+            add_fields(sums, alloc, rows, methods, top, number, listing, "  ")
+        }
+        None => rows.push(tally_row(alloc, name, Tally::none())?),
+    }
 }
 
-/// Adds the rows of the listed fields of a format.
+// ---- fields, and what is inside
+
+/// Adds the rows of the listed fields of a format of a method. Their names stand after some blanks.
+#[cycle(inside)]
 fn add_fields(
+    sums: &FormatSums,
     alloc: Global,
     rows: &mut Items<Items<Cell>>,
     methods: &[Method],
-    top: usize,
+    method: usize,
     format: usize,
     listing: &[usize],
-    counts: &[Count],
+    indent: &str,
 ) -> Result<(), AllocError>
-    ensures { OnOk result (rows.new ≡ rows.old ++ spec.listed_rows methods.now top format listing.now counts.now) }
+    ensures { OnOk result (steps.AddFields methods.now method format listing.now indent.now sums.now rows.old rows.new) }
 {
     for (place, field) in listing.iter().enumerate() {
-        let name = field_name(methods, top, format, *field);
-        add_field(alloc, rows, name, tally_field(counts, format, place)?)?;
+        add_listed(
+            sums, alloc, rows, methods, method, format, place, *field, indent,
+        )?;
     }
     Ok(())
 }
 
-/// Adds the row of a field of that name, where it has packed bits.
-fn add_field(
+/// Adds the rows of the listed field at a place.
+#[cycle(inside)]
+fn add_listed(
+    sums: &FormatSums,
     alloc: Global,
     rows: &mut Items<Items<Cell>>,
-    name: &str,
-    tally: Tally,
+    methods: &[Method],
+    method: usize,
+    format: usize,
+    place: usize,
+    field: usize,
+    indent: &str,
 ) -> Result<(), AllocError>
-    ensures { OnOk result (rows.new ≡ rows.old ++ spec.field_rows name.now tally) }
+    ensures { OnOk result (steps.AddListed methods.now method format place field indent.now sums.now rows.old rows.new) }
 {
-    if tally.bits == 0 {
-        return Ok(());
+    let items = sums.all.items;
+    match sums.places.get(place) {
+        Some(sums) => {
+            let name = field_name(methods, method, format, field);
+            let called = callee(encoding_at(methods, method, format, field));
+            add_field(sums, alloc, rows, methods, items, name, called, indent)
+        }
+        None => Ok(()),
     }
-    let name = further_in(alloc, name)?;
-    rows.push(tally_row(alloc, name, tally)?)
 }
 
-/// The name of a field, after two blanks.
-fn further_in(alloc: Global, name: &str) -> Result<Cell, AllocError>
-    ensures { IfOk result (λ cell. cell ≡ codes "  " ++ name.now) }
+/// Adds the row of a field of that name, where it has packed bits, and those of the method that it calls.
+#[cycle(inside)]
+fn add_field(
+    sums: &PlaceSums,
+    alloc: Global,
+    rows: &mut Items<Items<Cell>>,
+    methods: &[Method],
+    items: usize,
+    name: &str,
+    called: Option<usize>,
+    indent: &str,
+) -> Result<(), AllocError>
+    ensures { OnOk result (steps.AddField methods.now items name.now called indent.now sums.now rows.old rows.new) }
 {
-    let text = format!(in alloc; "  {name}")?;
+    let bits = sums.bits;
+    if bits == 0 {
+        return Ok(());
+    }
+    let name = name_cell(alloc, indent, name)?;
+    rows.push(tally_row(alloc, name, Tally { items, bits })?)?;
+    let Some(method) = called else {
+        return Ok(());
+    };
+    let further = further_in(alloc, indent)?;
+    add_inside(&sums.inside, alloc, rows, methods, method, further.as_str())
+}
+
+/// Adds the rows of the formats of a called method. Their names stand after some blanks.
+#[cycle(inside)]
+fn add_inside(
+    sums: &Sums,
+    alloc: Global,
+    rows: &mut Items<Items<Cell>>,
+    methods: &[Method],
+    method: usize,
+    indent: &str,
+) -> Result<(), AllocError>
+    ensures { OnOk result (steps.AddInside methods.now method indent.now sums.now rows.old rows.new) }
+{
+    for (number, format) in formats_of(methods, method).iter().enumerate() {
+        let listing = format.listing.get().as_slice();
+        add_inner(sums, alloc, rows, methods, method, number, listing, indent)?;
+    }
+    Ok(())
+}
+
+/// Adds the rows of a format of a called method, by its number, where a filling has it.
+#[cycle(inside)]
+fn add_inner(
+    sums: &Sums,
+    alloc: Global,
+    rows: &mut Items<Items<Cell>>,
+    methods: &[Method],
+    method: usize,
+    number: usize,
+    listing: &[usize],
+    indent: &str,
+) -> Result<(), AllocError>
+    ensures { OnOk result (steps.AddInner methods.now method number listing.now indent.now sums.now rows.old rows.new) }
+{
+    match sums.formats.get(number) {
+        Some(sums) => add_inner_format(sums, alloc, rows, methods, method, number, listing, indent),
+        None => Ok(()),
+    }
+}
+
+/// Adds the row of a format of a called method, where a filling has it, and those of its listed fields.
+#[cycle(inside)]
+fn add_inner_format(
+    sums: &FormatSums,
+    alloc: Global,
+    rows: &mut Items<Items<Cell>>,
+    methods: &[Method],
+    method: usize,
+    number: usize,
+    listing: &[usize],
+    indent: &str,
+) -> Result<(), AllocError>
+    ensures { OnOk result (steps.AddInnerFormat methods.now method number listing.now indent.now sums.now rows.old rows.new) }
+{
+    let all = sums.all;
+    if all.items == 0 {
+        return Ok(());
+    }
+    let name = inner_name(
+        alloc,
+        indent,
+        method_name(methods, method),
+        format_name(methods, method, number),
+    )?;
+    rows.push(tally_row(alloc, name, all)?)?;
+    let further = further_in(alloc, indent)?;
+    add_fields(
+        sums,
+        alloc,
+        rows,
+        methods,
+        method,
+        number,
+        listing,
+        further.as_str(),
+    )
+}
+
+/// The name of a format of a called method, after some blanks.
+fn inner_name(alloc: Global, indent: &str, method: &str, format: &str) -> Result<Cell, AllocError>
+    ensures { IfOk result (λ cell. cell ≡ spec.inner_name indent.now method.now format.now) }
+{
+    let text = format!(in alloc; "{indent}{method}.{format}")?;
     Ok(Cell::new(text))
 }
+
+// ---- cells
 
 /// A row: a name, how many items there are, their bits and the mean.
 fn tally_row(alloc: Global, name: Cell, tally: Tally) -> Result<Items<Cell>, AllocError>

@@ -8,8 +8,8 @@ use Rattle.fn_filling.specs.declared.filling.Filling.{Filling}
 use Rattle.fn_filling.specs.declared.filling.Item.{Item}
 use Rattle.fn_loss.specs.declared.judging.Journal.{Journal}
 use Rattle.fn_loss.specs.Judging.{AddsAll, AreHeard, Entry, IsJournal}
-use Rattle.fn_stats.specs.declared.counts.Count.{Count}
-use Rattle.fn_stats.specs.Counts.{counted, tally_all}
+use Rattle.fn_stats.specs.declared.counts.Tally.{Tally}
+use Rattle.fn_stats.specs.Counts.{one_more, tally}
 use Rattle.rohcfn_input.specs.OneLine.{IsLine}
 use Rattle.rohcfn_input.specs.Refusals as refusals
 use Rattle.rohcfn_input.specs.declared.status.Answer.{Answer}
@@ -51,7 +51,7 @@ pub data IsLossFault (a : Accepting) : Sender → ℕ → List Item → List ℕ
 -- What `loss` prints for items that a sender packs: what is counted and told of all packets, or the line of the first item that is refused.
 pub data LossBy (most : ℕ) (a : Accepting) (s : Sender) (items : List Item) : Status → List ℕ → Type 0 where
   losses_told : (fs : List Filling) (es : List Entry) (j : Journal) → Loses a most s (own_of s ∷ []) 1 items fs es → IsJournal a es j
-      → LossBy most a s items status.Done (loss_text a.profile.methods a.profile.top most (tally_all (map counted fs)) j.readings j.cases ++ 10 ∷ [])
+      → LossBy most a s items status.Done (loss_text a.profile.methods a.profile.top most (tally fs) j.readings j.cases ++ 10 ∷ [])
   item_refused : (text : List ℕ) → IsLossFault a s 1 items text → LossBy most a s items status.Refused (text ++ 10 ∷ [])
 
 -- ---- the steps
@@ -64,18 +64,18 @@ abbrev pub IsRefusedLoss : RobustFault → ℕ → Answer → Type 0
 IsRefusedLoss e n answer = (text : List ℕ) × IsSenderFault e n text × IsLine text × refusals.IsRefusal text answer
 
 -- what came of an item that was packed
-pub record IsLost (a : Accepting) (most : ℕ) (from to : Sender) (old new : List Entries) (before after : List Count) (was is : Journal) (n : ℕ) (it : Item) : Type 0 where
+pub record IsLost (a : Accepting) (most : ℕ) (from to : Sender) (old new : List Entries) (before after : Tally) (was is : Journal) (n : ℕ) (it : Item) : Type 0 where
   pub packed : Packed
   pub sent : Sends a from it packed to
   pub adds : AddsAll a old n it packed was is
-  pub counts_are : after ≡ before ++ counted packed.filling ∷ []
+  pub tally_is : after ≡ one_more packed.filling before
   pub new_is : new ≡ held_after most n old (own_of to)
 
 -- or of one that was refused
-abbrev pub IsLossStep : Accepting → ℕ → Sender → Sender → List Entries → List Entries → List Count → List Count → Journal → Journal → ℕ → Item → Option RobustFault → Type 0
+abbrev pub IsLossStep : Accepting → ℕ → Sender → Sender → List Entries → List Entries → Tally → Tally → Journal → Journal → ℕ → Item → Option RobustFault → Type 0
 IsLossStep a most from to old new before after was is n it None = IsLost a most from to old new before after was is n it
 IsLossStep a most from to old new before after was is n it (Some e) = Blames e a from it
 
-pub record IsPrintedLoss (a : Accepting) (most : ℕ) (cs : List Count) (j : Journal) (answer : Answer) : Type 0 where
+pub record IsPrintedLoss (a : Accepting) (most : ℕ) (all : Tally) (j : Journal) (answer : Answer) : Type 0 where
   pub status_is : answer.status ≡ status.Done
-  pub output_is : string_bytes answer.output ≡ loss_text a.profile.methods a.profile.top most (tally_all cs) j.readings j.cases ++ 10 ∷ []
+  pub output_is : string_bytes answer.output ≡ loss_text a.profile.methods a.profile.top most all j.readings j.cases ++ 10 ∷ []

@@ -9,8 +9,9 @@ use Rattle.fn_filling.specs.declared.filling.Filling.{Filling, out-Filling}
 use Rattle.fn_filling.specs.declared.filling.Item.{Item}
 use Rattle.fn_filling.specs.Fillings.{packed, item}
 use Rattle.fn_filling.specs.Entries.{next}
-use Rattle.fn_stats.specs.declared.counts.Count.{Count}
-use Rattle.fn_stats.specs.Counts.{counted}
+use Rattle.fn_stats.specs.declared.summing.Sums.{Sums}
+use Rattle.fn_stats.specs.Adding.{Adds}
+use Rattle.fn_stats.specs.Sums.{AreSums}
 use Rattle.fn_candidates.specs.Best.{Best}
 use Rattle.fn_reader.specs.declared.fault.Blamed.{Blamed}
 use Rattle.fn_accepted.specs.Accepted.{Accepting}
@@ -289,7 +290,7 @@ pub data Packs (a : Accepting) : Sender → ℕ → List Item → List Filling �
 -- What `stats` prints for items: what is counted of the fillings of those that are packed, and the lines of the refused.
 pub data StatsBy (a : Accepting) (s : Sender) (items : List Item) : Status → List ℕ → Type 0 where
   counted_by : (fs : List Filling) (refused : List ℕ) → Packs a s 1 items fs refused
-      → StatsBy a s items status.Done (stats_text a.profile.methods a.profile.top (map counted fs) ++ refused ++ 10 ∷ [])
+      → StatsBy a s items status.Done (stats_text a.profile.methods a.profile.top fs ++ refused ++ 10 ∷ [])
 
 -- the line of an item that can't be packed for all that a receiver may hold, and then a line for each format
 pub record LacksReach (profile : List ℕ) (a : Accepting) (s : Sender) (n : ℕ) (it : Item) (text : List ℕ) : Type 0 where
@@ -429,18 +430,18 @@ SendsItems shape shows a s items = Holds (SentBy shape shows a s 1 items)
 abbrev pub Surveys : Survey → Accepting → Entries → List Item → Answer → Type 0
 Surveys what a ctx items = Holds (SurveyBy what a ctx items)
 
--- what is counted, and below it the lines of the refused
-pub record IsPrintedStats (a : Accepting) (cs : List Count) (refused : List ℕ) (answer : Answer) : Type 0 where
+-- what is counted of the fillings that the sums are over, and below it the lines of the refused
+pub record IsPrintedStats (a : Accepting) (sums : Sums) (refused : List ℕ) (answer : Answer) : Type 0 where
   pub status_is : answer.status ≡ status.Done
-  pub output_is : string_bytes answer.output ≡ stats_text a.profile.methods a.profile.top cs ++ refused ++ 10 ∷ []
+  pub output_is : (fs : List Filling) → AreSums fs sums → string_bytes answer.output ≡ stats_text a.profile.methods a.profile.top fs ++ refused ++ 10 ∷ []
 
 -- the line of a refused item below those before it, which is one line
 abbrev pub IsRefusedBelow : RobustFault → ℕ → List ℕ → List ℕ → Type 0
 IsRefusedBelow e n before after = (text : List ℕ) × IsSenderFault e n text × IsLine text × (after ≡ before ++ 10 ∷ text)
 
--- One item more: it is packed, and counted, and the sender goes on; or it is refused, and its line comes below the others.
-pub data CountsItem (a : Accepting) (old new : Sender) (before after : List Count) (above below : List ℕ) (n : ℕ) (it : Item) : Type 0 where
-  counts_packed : (p : Packed) → Sends a old it p new → after ≡ before ++ counted p.filling ∷ [] → below ≡ above
+-- One item more: it is packed, and added to the sums, and the sender goes on; or it is refused, and its line comes below the others.
+pub data CountsItem (a : Accepting) (old new : Sender) (before after : Sums) (above below : List ℕ) (n : ℕ) (it : Item) : Type 0 where
+  counts_packed : (p : Packed) → Sends a old it p new → Adds p.filling before after → below ≡ above
       → CountsItem a old new before after above below n it
   counts_refused : (text : List ℕ) → RefusesSent a old n it text → new ≡ old → after ≡ before → below ≡ above ++ 10 ∷ text → CountsItem a old new before after above below n it
 

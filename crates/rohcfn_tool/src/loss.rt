@@ -11,7 +11,7 @@ use fn_context::Context;
 use fn_filling::Item;
 use fn_loss::{Journal, judge};
 use fn_robust::RobustFault;
-use fn_stats::{Count, count_of, tally_all};
+use fn_stats::Tally;
 use rohcfn_input::refusals::refusal;
 use rohcfn_input::status::{Answer, Status};
 use rohcfn_items::loss::loss_text;
@@ -31,7 +31,7 @@ pub(crate) fn lose_all(
     let mut sender = start;
     let mut held = Items::new(alloc);
     held.push(sender.context().copy(alloc)?)?;
-    let mut counts = Items::new(alloc);
+    let mut tally = Tally::none();
     let mut journal = Journal::new(alloc);
     for (i, item) in items.iter().enumerate() {
         let refused = lose_one(
@@ -40,7 +40,7 @@ pub(crate) fn lose_all(
             most,
             &mut sender,
             &mut held,
-            &mut counts,
+            &mut tally,
             &mut journal,
             i + 1,
             item,
@@ -49,7 +49,7 @@ pub(crate) fn lose_all(
             return refuse(alloc, i + 1, fault);
         }
     }
-    print_losses(alloc, accepted, most, counts.as_slice(), &journal)
+    print_losses(alloc, accepted, most, tally, &journal)
 }
 
 /// The line of a refused item.
@@ -69,12 +69,12 @@ fn lose_one(
     most: u8,
     sender: &mut Sender,
     held: &mut Items<Context>,
-    counts: &mut Items<Count>,
+    tally: &mut Tally,
     journal: &mut Journal,
     number: usize,
     item: &Item,
 ) -> Result<Option<RobustFault>, AllocError>
-    ensures { IfOk result (spec.IsLossStep accepted.now most sender.old sender.new held.old held.new counts.old counts.new journal.old journal.new number item.now) }
+    ensures { IfOk result (spec.IsLossStep accepted.now most sender.old sender.new held.old held.new tally.old tally.new journal.old journal.new number item.now) }
 {
     match sender.send(alloc, accepted, item) {
         Ok(sent) => {
@@ -87,7 +87,7 @@ fn lose_one(
                 &sent,
                 journal,
             )?;
-            counts.push(count_of(alloc, &sent.filling)?)?;
+            *tally = tally.with(&sent.filling)?;
             hold(alloc, most, held, number, sender.context())?;
             Ok(None)
         }
@@ -122,13 +122,12 @@ fn print_losses(
     alloc: Global,
     accepted: &Accepted,
     most: u8,
-    counts: &[Count],
+    tally: Tally,
     journal: &Journal,
 ) -> Result<Answer, AllocError>
-    ensures { IfOk result (spec.IsPrintedLoss accepted.now most counts.now journal.now) }
+    ensures { IfOk result (spec.IsPrintedLoss accepted.now most tally journal.now) }
 {
     let profile = accepted.profile();
-    let tally = tally_all(counts)?;
     let mut output = loss_text(
         alloc,
         profile.methods(),

@@ -13,7 +13,7 @@ use fn_accepted::Accepted;
 use fn_context::Context;
 use fn_filling::Item;
 use fn_robust::RobustFault;
-use fn_stats::{Count, count_of};
+use fn_stats::Sums;
 use rohcfn_input::bundle::Parts;
 use rohcfn_input::inputs::{BadLine, read_context, read_items};
 use rohcfn_input::refusals::{context_line, refusal};
@@ -22,7 +22,6 @@ use rohcfn_input::status::{Answer, Status};
 use rohcfn_items::stats::stats_text;
 use rohcfn_report::profile_and_certificate::{Judged, Origin, accept};
 use rohcfn_words::words::{Direction, Order};
-use sqlite_items::Items;
 use std::alloc::{AllocError, Global};
 
 /// What is told of items that are packed.
@@ -152,41 +151,37 @@ fn count_all(
     ensures { IfOk result (spec.CountsItems accepted.now start items.now) }
 {
     let mut sender = start;
-    let mut counts = Items::new(alloc);
+    let mut sums = Sums::new(alloc);
     let mut refused = String::new(alloc);
     for (i, item) in items.iter().enumerate() {
         count_one(
             alloc,
             accepted,
             &mut sender,
-            &mut counts,
+            &mut sums,
             &mut refused,
             i + 1,
             item,
         )?;
     }
-    print_counts(alloc, accepted, counts.as_slice(), refused.as_str())
+    print_counts(alloc, accepted, &sums, refused.as_str())
 }
 
-/// Packs an item, whose number counts from 1. What is counted of its packet is added to the counts, and the sender goes on to the next; or its line is added to
+/// Packs an item, whose number counts from 1. What is counted of its packet is added to the sums, and the sender goes on to the next; or its line is added to
 /// those of the refused.
 fn count_one(
     alloc: Global,
     accepted: &Accepted,
     sender: &mut Sender,
-    counts: &mut Items<Count>,
+    sums: &mut Sums,
     refused: &mut String,
     number: usize,
     item: &Item,
 ) -> Result<(), AllocError>
-    ensures { OnOk result (spec.CountsItem accepted.now sender.old sender.new counts.old counts.new (string_bytes refused.old) (string_bytes refused.new) number item.now) }
+    ensures { OnOk result (spec.CountsItem accepted.now sender.old sender.new sums.old sums.new (string_bytes refused.old) (string_bytes refused.new) number item.now) }
 {
     match sender.send(alloc, accepted, item) {
-        Ok(sent) => {
-            let count = count_of(alloc, &sent.filling)?;
-            counts.push(count)?;
-            Ok(())
-        }
+        Ok(sent) => sums.add(alloc, &sent.filling),
         Err(fault) => add_refused(alloc, refused, number, fault),
     }
 }
@@ -212,13 +207,13 @@ fn add_refused(
 fn print_counts(
     alloc: Global,
     accepted: &Accepted,
-    counts: &[Count],
+    sums: &Sums,
     refused: &str,
 ) -> Result<Answer, AllocError>
-    ensures { IfOk result (spec.IsPrintedStats accepted.now counts.now refused.now) }
+    ensures { IfOk result (spec.IsPrintedStats accepted.now sums.now refused.now) }
 {
     let profile = accepted.profile();
-    let mut output = stats_text(alloc, profile.methods(), profile.top(), counts)?;
+    let mut output = stats_text(alloc, profile.methods(), profile.top(), sums)?;
     push_line(&mut output, refused)?;
     Ok(Answer {
         status: Status::Done,

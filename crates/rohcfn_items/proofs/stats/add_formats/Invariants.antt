@@ -1,7 +1,5 @@
-use Rattle.std.proofs.Common.{◌++◌}
-use Rattle.rohcfn_items.specs.Stats.{format_rows, formats_rows}
-use Rattle.rohcfn_names.proofs.TableLists.{Goes}
+use Rattle.rohcfn_items.proofs.StatsInside.{FormatsSoFar}
 use Rattle.rohcfn_items.proofs.stats.add_formats.Given as goal
 
 abbrev pub invariant-loop-number : goal.invariant-loop-number
-invariant-loop-number l = Goes (λ f. format_rows l.methods l.top f.0 f.1.listing l.counts) l.formats l.number l.rows (l.fn.rows ++ formats_rows l.methods l.top l.formats l.counts)
+invariant-loop-number l = FormatsSoFar l.methods l.top l.sums l.format-items l.number l.fn.rows l.rows

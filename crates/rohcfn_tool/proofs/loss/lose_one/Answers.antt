@@ -1,4 +1,4 @@
-use Rattle.std.proofs.Common.{◌∙◌, ap, subst, ◌∷◌, [], ◌++◌}
+use Rattle.std.proofs.Common.{◌∙◌, ap, subst}
 use Rattle.fn_loss.specs.Judging.{AddsAll}
 use Rattle.rohcfn_tool.specs.Loss.{held_after}
 use Rattle.rohcfn_tool.proofs.SenderLemmas.{sent_anywhere}
@@ -12,6 +12,6 @@ returns-in_ok-hold-in-Ok c = record {
   packed = c.in-Ok.sent;
   sent = c.in-Ok.ensures.sent;
   adds = subst (λ hs. AddsAll c.args.accepted.now hs c.args.number c.args.item.now c.in-Ok.sent c.args.journal.now c.judge.new.journal) c.as_slice.ensures c.in_ok-judge-in-Ok.ensures;
-  counts_are = c.in_ok-push-in-Ok.ensures.ok ∙ ap (λ x. c.args.counts.now ++ x ∷ []) c.in_ok-count_of-in-Ok.ensures;
+  tally_is = c.in_ok-tally-in-Ok.ensures;
   new_is = c.in_ok-hold-in-Ok.ensures ∙ ap (held_after c.args.most c.args.number c.args.held.now) c.context.ensures;
 }

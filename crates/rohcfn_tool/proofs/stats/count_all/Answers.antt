@@ -5,7 +5,7 @@ use Rattle.rohcfn_tool.proofs.PrintedTallying.{counted_end, counted_on, counted_
 use Rattle.rohcfn_tool.proofs.stats.count_all.Goals as goal
 
 pub loop-i-init : goal.loop-i-init
-loop-i-init c = counted_start c.args.accepted.now c.args.start c.args.items.now _ _ c.new-counts.ensures c.new-refused.ensures.bytes
+loop-i-init c = counted_start c.args.accepted.now c.args.start c.args.items.now _ _ c.new-sums.ensures.sums c.new-refused.ensures.bytes
 
 pub loop-i-preserved : goal.loop-i-preserved
 loop-i-preserved c =
@@ -14,4 +14,4 @@ loop-i-preserved c =
     counted_on c.args.accepted.now c.args.start c.args.items.now c.loop-i.i d _ _ _ _ _ _ _ c.loop-i-test.true x c.loop-i.invariant c.in_ok-count_one.ensures
 
 pub returns : goal.returns
-returns c = counted_end c.args.accepted.now c.args.start c.args.items.now _ _ _ _ _ _ c.print_counts.result c.loop-i-test.false c.loop-i.invariant c.as_slice.ensures c.as_str.ensures.value c.print_counts.ensures
+returns c = counted_end c.args.accepted.now c.args.start c.args.items.now _ _ _ _ _ c.print_counts.result c.loop-i-test.false c.loop-i.invariant c.as_str.ensures.value c.print_counts.ensures

@@ -2,9 +2,8 @@ use Rattle.rohcfn_tool.proofs.SenderLemmas.{of_item}
 use Rattle.rohcfn_tool.proofs.PrintedTallying.{one_counted, one_refused}
 use Rattle.rohcfn_tool.proofs.stats.count_one.Goals as goal
 
-pub returns-in_ok-push-in-Ok : goal.returns-in_ok-push-in-Ok
-returns-in_ok-push-in-Ok c =
-    one_counted c.args.accepted.now c.args.sender.now _ _ _ _ c.args.number c.args.item.now c.in-Ok.sent _ c.in-Ok.ensures.sent c.in_ok-count-in-Ok.ensures c.in_ok-push-in-Ok.ensures.ok
+pub returns-in-Ok : goal.returns-in-Ok
+returns-in-Ok c = one_counted c.args.accepted.now c.args.sender.now _ _ _ _ c.args.number c.args.item.now c.in-Ok.sent c.add.result c.in-Ok.ensures.sent c.add.ensures
 
 pub returns-in-Err : goal.returns-in-Err
 returns-in-Err c = one_refused c.args.accepted.now c.args.sender.now _ _ _ _ c.args.number c.args.item.now c.in-Err.fault c.add_refused.result c.in-Err.ensures.stays c.in-Err.ensures.fault c.add_refused.ensures
