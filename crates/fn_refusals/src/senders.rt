@@ -26,9 +26,11 @@ pub(crate) fn robust_packs(
     let after = packed(alloc, accepted, &mut other, &next)?;
     let mut sender = begun(alloc, accepted, sample)?;
     let outcome = pack_item(alloc, accepted, &mut sender, &item, &due)?;
-    match packed(alloc, accepted, &mut sender, &next) {
-        Ok(found) if found == after => Ok(outcome),
-        _ => Ok(Outcome::Wrong),
+    let last = packed(alloc, accepted, &mut sender, &next)?;
+    if last == after {
+        Ok(outcome)
+    } else {
+        Ok(Outcome::Wrong)
     }
 }
 

@@ -7,7 +7,7 @@ use Rattle.rohcfn_tool.proofs.loss.lose_all.Goals as goal
 
 pub loop-i-init : goal.loop-i-init
 loop-i-init c =
-    begin c.args.accepted.now c.args.most c.args.start c.args.items.now _ _ _ (c.in_ok-push.ensures.ok ∙ ap (λ hs. hs ++ c.in_ok-copy.field-0 ∷ []) c.new-held.ensures ∙ ap (λ x. x ∷ []) (c.in_ok-copy.ensures ∙ c.context.ensures)) c.none.ensures (c.new-journal.ensures c.args.accepted.now)
+    begin c.args.accepted.now c.args.most c.args.start c.args.items.now _ _ _ (c.in_ok-push.ensures.ok ∙ ap (λ hs. hs ++ c.in_ok-copy.field-0 ∷ []) c.new-held.ensures ∙ ap (λ x. x ∷ []) (c.in_ok-copy.ensures ∙ c.context.ensures)) c.none-tally.ensures (c.new-journal.ensures c.args.accepted.now)
 
 pub refuse-requires : goal.refuse-requires
 refuse-requires c = of_item c.args.accepted.now _ _ c.in-Some.fault (rw c.in-Some.is at c.in_ok-refused.ensures)
