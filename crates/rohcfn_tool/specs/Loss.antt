@@ -1,5 +1,5 @@
 -- What is answered to `loss` (docs/FORMATS.md).
-use Rattle.std.specs.Prelude.{◌≡◌, ℕ, ◌+◌, nat_eq, nat_lt, List, [], ◌∷◌, ◌++◌, drop, length, map, Option, Some, None, string_bytes, if◌then◌else◌}
+use Rattle.std.specs.Prelude.{◌≡◌, ℕ, ◌+◌, nat_eq, nat_lt, List, [], ◌∷◌, ◌++◌, drop, length, Option, Some, None, string_bytes, if◌then◌else◌}
 use Rattle.fn_accepted.specs.Accepted.{Accepting}
 use Rattle.fn_context.specs.Entries.{Entries}
 use Rattle.fn_engine.specs.declared.search.Packed.{Packed}
