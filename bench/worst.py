@@ -141,8 +141,15 @@ def names(program):
     return whole("lint --top t", out + "t {\n  UNCOMPRESSED { }\n  COMPRESSED { %s }\n}\n" % " ".join("c%d =:= m%d;" % (it, it) for it in range(7)))
 
 
+def counts(program):
+    """100,000 items of no bits, by 64 formats that list 120 fields."""
+    empty = " ".join("f%d =:= irregular(0) [0];" % it for it in range(120))
+    profile = "t {\n  UNCOMPRESSED { %s }\n%s}\n" % (" ".join("f%d [0];" % it for it in range(120)), formats(64, empty))
+    return whole("stats --top t", profile) + b"=== items\n" + b"0:\n" * 100_000
+
+
 # seconds and MiB at most: some three times what was measured, or a second
-BOUNDS = {waiting: (1, 36), operands: (1, 45), steps: (1, 45), encodings: (2, 350), brackets: (3, 730), conditions: (30, 60), paths: (1, 60), sites: (1, 100), names: (1, 100)}
+BOUNDS = {waiting: (1, 36), operands: (1, 45), steps: (1, 45), encodings: (2, 350), brackets: (3, 730), conditions: (30, 60), paths: (1, 60), sites: (1, 100), names: (1, 100), counts: (6, 60)}
 
 
 def main(words):
