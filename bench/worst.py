@@ -148,8 +148,52 @@ def counts(program):
     return whole("stats --top t", profile) + b"=== items\n" + b"0:\n" * 100_000
 
 
+def encoded(value):
+    """`prove` of 64 formats with 126 encodings of DEFAULT of this value."""
+    default = " ".join("h%d =:= uncompressed_value(1, %s);" % (it, value) for it in range(126))
+    header = " ".join("h%d;" % it for it in range(126))
+    return whole("prove --top t", "t {\n  UNCOMPRESSED { %s }\n  DEFAULT { %s }\n%s}\n" % (header, default, formats(64, "")))
+
+
+def wholes(program):
+    """Values of 250 operands on THIS: each waits for the lengths of all fields, which become known one by one."""
+    return encoded(repeated("THIS.ULENGTH", 249))
+
+
+def others(program):
+    """Values of 250 operands that name the fields one after the other: each waits for one after the other."""
+    return encoded("+".join("h%d.ULENGTH" % (it % 126) for it in range(250)))
+
+
+def refused(count, last, comment=""):
+    """`why` of an item that is refused in the last of so many methods, of which each has two formats that call the next one."""
+    call = "%s {\n  UNCOMPRESSED { x; }\n  DEFAULT { x =:= m%d; }\n  COMPRESSED a { mark =:= '0' [1]; x; }\n  COMPRESSED b { mark =:= '1' [1]; x; }\n}\n"
+    text = comment + "".join(call % ("m%d" % it if it else "t", it + 1) for it in range(count - 1))
+    return whole("why --items --top t", "%sm%d {\n%s}\n" % (text, count - 1, last)) + b"=== items\n8:07\n"
+
+
+CONSTANTS = "  UNCOMPRESSED { v [8]; }\n  COMPRESSED a { mark =:= '0' [1]; v =:= uncompressed_value(8, 1); }\n  COMPRESSED b { mark =:= '1' [1]; v =:= uncompressed_value(8, 2); }\n"
+
+
+def levels(program):
+    """16 methods: the formats of the last one are reached in 65,536 ways."""
+    return refused(16, CONSTANTS)
+
+
+def commented(program):
+    """12 methods behind a comment of 1 MB: 8,190 lines, each with its line and column in the text."""
+    return refused(12, CONSTANTS, "// %s\n" % ("x" * 1_000_000))
+
+
+def leaves(program):
+    """8 methods, the last of which has 60 conditions of 199 operators, of which the last is false."""
+    tests = ["ENFORCE(v.UVALUE + %s %s);" % (repeated("1", 198), "> 2" if it < 59 else "== 300") for it in range(60)]
+    marks = "".join("  COMPRESSED %s { mark =:= '%d' [1]; v =:= irregular(8); }\n" % (name, it) for it, name in enumerate("ab"))
+    return refused(8, "  UNCOMPRESSED { v [8]; %s }\n%s" % (" ".join(tests), marks))
+
+
 # seconds and MiB at most: some three times what was measured, or a second
-BOUNDS = {waiting: (1, 36), operands: (1, 45), steps: (1, 45), encodings: (2, 350), brackets: (3, 730), conditions: (30, 60), paths: (1, 60), sites: (1, 100), names: (1, 100), counts: (6, 60)}
+BOUNDS = {waiting: (1, 36), operands: (1, 45), steps: (1, 45), encodings: (2, 350), brackets: (3, 730), conditions: (30, 60), paths: (1, 60), sites: (1, 100), names: (1, 100), counts: (6, 60), wholes: (1, 40), others: (1, 40), levels: (1, 20), commented: (1, 20), leaves: (2, 20)}
 
 
 def main(words):

@@ -18,7 +18,8 @@ _rohcfn_has_profile() {
   for ((at = 2; at < COMP_CWORD; at++)); do
     case ${COMP_WORDS[at]} in
       = | : | [\<\>]*) at=$((at + 1)) ;;
-      --top | --robust | --lost | --item | --items | --packet | --packets | --from-context | --certificate | --events | --octets | --pcap | --flow)
+      --top | --robust | --not | --at-most | --lost | --item | --items | --packet | --packets | --from-context | --certificate | --events | \
+        --octets | --pcap | --cut | --flow)
         at=$((at + 1))
         if [[ ${COMP_WORDS[at]} == = ]]; then at=$((at + 1)); fi
         ;;
@@ -33,7 +34,7 @@ _rohcfn() {
     COMP_WORDS=("${COMP_WORDS[0]}" "${COMP_WORDS[@]:2}") COMP_CWORD=$((COMP_CWORD - 1))
   fi
   local word=${COMP_WORDS[COMP_CWORD]} before=${COMP_WORDS[COMP_CWORD - 1]} options=''
-  local commands='pack unpack fields why stats loss show lint draw check prove line help'
+  local commands='pack unpack fields why stats loss advise show lint draw check prove line help'
   COMPREPLY=()
   if [[ $before == = ]]; then before=${COMP_WORDS[COMP_CWORD - 2]}; fi
   case $word in
@@ -50,21 +51,49 @@ _rohcfn() {
       _rohcfn_files "$word"
       return
       ;;
-    : | --top | --robust | --lost | --item | --packet | --flow) return ;;
+    : | --top | --robust | --not | --at-most | --lost | --item | --packet | --cut | --flow) return ;;
   esac
   case ${COMP_WORDS[1]} in
-    pack) options='--top --v2 --context --robust --help --item --items --from-context --certificate --pcap --flow --diagnose' ;;
-    unpack) options='--top --v2 --context --help --packet --packets --from-context --certificate --diagnose' ;;
-    fields) options='--top --v2 --context --help --items --item --packet --packets --from-context --certificate --pcap --flow --diagnose' ;;
-    why) options='--top --v2 --context --robust --help --items --item --packet --packets --from-context --certificate --pcap --flow --diagnose' ;;
-    stats) options='--top --v2 --robust --help --item --items --from-context --certificate --pcap --flow --diagnose' ;;
-    loss) options='--top --v2 --robust --help --lost --item --items --from-context --certificate --pcap --flow --diagnose' ;;
-    show) options='--top --help --diagnose' ;;
-    lint) options='--top --help --from-context --diagnose' ;;
-    draw) options='--top --help --diagnose' ;;
-    check) options='--top --v2 --help --explain --certificate --diagnose' ;;
-    prove) options='--top --v2 --help --explain --diagnose' ;;
-    line) options='--top --v2 --help --receive --wide --certificate --events --octets --pcap --diagnose' ;;
+    pack)
+      options='--top --v2 --context --robust --help --item --items --bare --from-context --certificate --pcap --cut --flow --diagnose'
+      ;;
+    unpack)
+      options='--top --v2 --context --help --packet --packets --from-context --certificate --diagnose'
+      ;;
+    fields)
+      options='--top --v2 --context --help --items --item --bare --packet --packets --from-context --certificate --pcap --cut --flow --diagnose'
+      ;;
+    why)
+      options='--top --v2 --context --robust --help --items --not --item --bare --packet --packets --from-context --certificate --pcap --cut --flow
+--diagnose'
+      ;;
+    stats)
+      options='--top --v2 --robust --help --by-item --all --at-most --item --items --bare --from-context --certificate --pcap --cut --flow --diagnose'
+      ;;
+    loss)
+      options='--top --v2 --robust --help --lost --item --items --bare --from-context --certificate --pcap --cut --flow --diagnose'
+      ;;
+    advise)
+      options='--top --v2 --help --lost --item --items --bare --from-context --certificate --pcap --cut --flow --diagnose'
+      ;;
+    show)
+      options='--top --help --diagnose'
+      ;;
+    lint)
+      options='--top --help --strict --from-context --diagnose'
+      ;;
+    draw)
+      options='--top --help --diagnose'
+      ;;
+    check)
+      options='--top --v2 --help --explain --certificate --diagnose'
+      ;;
+    prove)
+      options='--top --v2 --help --explain --diagnose'
+      ;;
+    line)
+      options='--top --v2 --help --receive --wide --certificate --events --octets --pcap --cut --diagnose'
+      ;;
     help)
       if ((COMP_CWORD == 2)); then options=$commands; fi
       ;;

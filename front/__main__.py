@@ -6,10 +6,9 @@ import signal
 import sys
 
 from . import parts, terminal
-from .bundles import call_of, call_on_bundle
+from .bundles import FILTER, call_of, call_on_bundle
 from .orders import Usage, order_of
-
-FILTER = os.path.join(os.path.dirname(os.path.dirname(os.path.realpath(__file__))), "bin", "rohcfn")
+from .pieces import Pieces
 
 
 def is_shown(order):
@@ -32,6 +31,12 @@ def file_of(octets):
 def answer(order):
     """Runs the program; its status. Where nothing is to be shown besides, the program takes the place of this one."""
     words, bundle, profile = call_on_bundle(order) if order.takes_bundle() else call_of(order)
+    if isinstance(words, Pieces):
+        status = words.answer(bundle)
+        if is_shown(order):
+            from . import diagnosis
+            diagnosis.show_of(FILTER, words.printed, *profile)
+        return status
     with file_of(bundle) as file:
         call = [FILTER, *words]
         if not is_shown(order):

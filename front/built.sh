@@ -32,10 +32,11 @@ note_built() {
   printf '%s\n%s\n' "$sum" "$(commit)" >"$note" || true
 }
 
-# Whether the program was built of the sources that stand here. Where none of them is newer than the note, or the program where there is no note, that takes a
-# hundredth of a second; else they are summed.
+# Whether the program, or another one that is named, was built of the sources that stand here. Where none of them is newer than the note, or the program where
+# there is no note, that takes a hundredth of a second; else they are summed.
 is_current() {
-  local since=$note
+  local program=${1:-$program} note=${1:-$program}.built since
+  since=$note
   if ! [ -e "$root/crates.txt" ]; then return 0; fi
   if ! [ -e "$note" ]; then since=$program; fi
   if [ -e "$note" ] && ! [[ $(head -n 1 "$note") =~ ^[0-9a-f]{64}$ ]]; then return 1; fi

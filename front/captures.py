@@ -1,34 +1,40 @@
-"""Reads captures of the classic pcap format, and cuts the headers of IPv4, IPv6, UDP, RTP and ESP out of their packets, one packet after the other.
+"""Reads captures of the formats pcap and pcapng, and cuts the headers of IPv4, IPv6, TCP, UDP, ICMP, RTP and ESP out of their packets, one packet after the other.
 
-It doesn't know the format pcapng, other links than LINKS, options of IPv4, extension headers of IPv6, fragments, TCP, and of RTP contributing sources and the
-extension."""
+It doesn't know other links than LINKS, options of IPv4, extension headers of IPv6, fragments, and of RTP contributing sources and the extension. Options of TCP
+are counted, and belong to no header here."""
 import collections
 import itertools
 import struct
 
 FORMS = {b"\xd4\xc3\xb2\xa1": "<", b"\xa1\xb2\xc3\xd4": ">", b"\x4d\x3c\xb2\xa1": "<", b"\xa1\xb2\x3c\x4d": ">"}
-OTHER_FORMAT = b"\x0a\x0d\x0d\x0a"
+SECTION, INTERFACE, OLD_PACKET, SIMPLE_PACKET, ENHANCED_PACKET = b"\x0a\x0d\x0d\x0a", 1, 2, 3, 6  # blocks of pcapng
+ORDERS = {b"\x4d\x3c\x2b\x1a": "<", b"\x1a\x2b\x3c\x4d": ">"}
 FILE_OCTETS, RECORD_OCTETS = 24, 16
 CHUNK = 1 << 20  # octets that are read at a time
 LOOKED_AT = 512  # octets of a packet: link, tags and headers
+INTERFACES = 65_536  # of a section of pcapng
 ETHERNET, RAW = (1,), (12, 14, 101, 228, 229)
 LOOPBACK, COOKED, COOKED_2 = (0, 108), (113,), (276,)
 LINKS = ETHERNET + RAW + LOOPBACK + COOKED + COOKED_2
 TAGS = (b"\x81\x00", b"\x88\xa8")
 TYPES = (b"\x08\x00", b"\x86\xdd")
-UDP, ESP = 17, 50
+TCP, UDP, ESP, ICMP = 6, 17, 50, (1, 58)
+EXTENSIONS = (0, 43, 44, 60, 135)  # headers of IPv6 between it and what it carries
 CONTROL_PACKETS = range(192, 224)  # the second octet of RTCP, which is no RTP
 
 # The lengths of the fields of each layer in bits.
 LAYERS = {
     "ipv4": (4, 4, 8, 16, 16, 1, 1, 1, 13, 8, 8, 16, 32, 32),
     "ipv6": (4, 8, 20, 16, 8, 8, 64, 64, 64, 64),
+    "tcp": (16, 16, 32, 32, 4, 4, 1, 1, 1, 1, 1, 1, 1, 1, 16, 16, 16),
     "udp": (16, 16, 16, 16),
+    "icmp": (8, 8, 16, 16, 16),
     "rtp": (2, 1, 1, 4, 1, 7, 16, 32, 32),
     "esp": (32, 32),
 }
-KINDS = [("ipv4",), ("ipv4", "udp"), ("ipv4", "udp", "rtp"), ("ipv4", "esp"), ("ipv6",), ("ipv6", "udp"), ("ipv6", "udp", "rtp"), ("ipv6", "esp"),
-         ("udp",), ("udp", "rtp"), ("rtp",), ("esp",)]
+CARRIED = [(), ("udp",), ("udp", "rtp"), ("esp",), ("tcp",), ("icmp",)]
+WHOLE = [(it, *more) for it in ("ipv4", "ipv6") for more in CARRIED]  # (a packet begins with a header of IP)
+KINDS = WHOLE + [("udp",), ("udp", "rtp"), ("rtp",), ("esp",), ("tcp",), ("icmp",)]
 OCTETS = {name: sum(lengths) // 8 for name, lengths in LAYERS.items()}
 
 
@@ -38,28 +44,31 @@ def places(layers):
     return dict(zip(layers, zip([0, *ending], ending)))
 
 
-PLACES = {it: places(it) for it in KINDS[:8]}  # (a packet begins with a header of IP)
+PLACES = {it: places(it) for it in WHOLE}
 
-Packet = collections.namedtuple("Packet", "layers octets")  # the names of its layers, and the octets of their headers
+# The names of its layers, and the octets of their headers; where it has none that are known, what it has is said in words.
+Packet = collections.namedtuple("Packet", "layers octets what", defaults=[None])
+NO_IP = Packet((), b"", "neither ipv4 nor ipv6")
 
 
 class BadCapture(Exception):
     """A file that can't be read as a capture."""
 
 
-def frames(file):
-    """The link of a capture, and the first octets of each packet, as they are read."""
+def frames(file, looked_at=LOOKED_AT):
+    """The runs of packets of a capture that have one link: the link, and the first octets of each packet, as they are read."""
     head = file.read(FILE_OCTETS)
     form = FORMS.get(head[:4])
-    if head[:4] == OTHER_FORMAT:
-        raise BadCapture("this is a pcapng capture; `editcap -F pcap IN OUT` makes a classic one of it")
+    if head[:4] == SECTION and len(head) == FILE_OCTETS:
+        return ((link, (it for _, it in run)) for link, run in itertools.groupby(blocks(file, head, looked_at), lambda it: it[0]))
     if form is None or len(head) < FILE_OCTETS:
-        raise BadCapture("this is no capture of the classic pcap format")
-    return struct.unpack(form + "20xI", head)[0] & 0xFFFF, records(file, struct.Struct(form + "8xI4x").unpack_from)
+        raise BadCapture("this is no capture of the format pcap or pcapng")
+    link = struct.unpack(form + "20xI", head)[0] & 0xFFFF
+    return [(link, records(file, struct.Struct(form + "8xI4x").unpack_from, looked_at))]
 
 
-def records(file, length_at):
-    """The first octets of each packet."""
+def records(file, length_at, looked_at):
+    """The first octets of each packet of the format pcap."""
     count, rest = 0, b""
     while read := file.read(CHUNK):
         octets, place, end = rest + read, 0, len(rest) + len(read)
@@ -69,27 +78,71 @@ def records(file, length_at):
             if after > end:
                 if after - place < CHUNK:
                     break
-                octets, end = octets[:begin + LOOKED_AT] + beyond(file, after - end, count, end - begin), begin + LOOKED_AT
+                octets, end = octets[:begin + looked_at] + beyond(file, after - end, looked_at - (end - begin), count), begin + looked_at
                 after = min(after, end)
             count += 1
-            yield octets[begin:min(after, begin + LOOKED_AT)]
+            yield octets[begin:min(after, begin + looked_at)]
             place = after
         rest = octets[place:end]
     if rest:
-        raise BadCapture("the capture ends inside packet %d" % (count + 1))
+        raise ends_inside(count)
 
 
-def beyond(file, left, count, known):
-    """Reads so many octets of a long packet, and gives the first of them, where fewer than LOOKED_AT are known before."""
+def ends_inside(count):
+    return BadCapture("the capture ends inside packet %d" % (count + 1))
+
+
+def beyond(file, left, wanted, count):
+    """Reads so many octets, and gives the first of them, as many as are wanted."""
     first = b""
     while left:
         octets = file.read(min(left, CHUNK))
         if not octets:
-            raise BadCapture("the capture ends inside packet %d" % (count + 1))
-        if known + len(first) < LOOKED_AT:
-            first += octets[:LOOKED_AT]
+            raise ends_inside(count)
+        if len(first) < wanted:
+            first += octets[:wanted - len(first)]
         left -= len(octets)
     return first
+
+
+def blocks(file, head, looked_at):
+    """For each packet of the format pcapng its link and its first octets. `head` is the begin of the file, which is that of a section."""
+    count, links = 0, []
+    while head:
+        if len(head) < 12:
+            raise ends_inside(count)
+        if head[:4] == SECTION:
+            order, links = ORDERS.get(head[8:12]), []
+            if order is None:
+                raise BadCapture("a section of the capture begins with no order of octets")
+            unpack = {it: struct.Struct(order + it).unpack_from for it in ("I", "II", "IIIII", "HxxI", "H")}
+        kind, length = unpack["II"](head)
+        if length < 12 or length % 4:
+            raise BadCapture("a block of the capture has %d octets" % length)
+        body = head[8:] + beyond(file, max(0, length - len(head)), looked_at + 32, count)
+        if kind == INTERFACE and len(links) < INTERFACES:
+            links.append(unpack["HxxI"](body) if len(body) >= 8 else (0, 0))
+        elif (found := packet_of(kind, body, length - 12, unpack, links)) is not None:
+            count += 1
+            yield found[0], found[1][:looked_at]
+        head = file.read(12)
+
+
+def packet_of(kind, body, octets, unpack, links):
+    """The link and the octets of the packet in a block whose body has so many octets, or None where it has none."""
+    if kind == ENHANCED_PACKET and octets >= 20:
+        interface, begin, length = unpack["I"](body)[0], 20, unpack["IIIII"](body)[3]
+    elif kind == OLD_PACKET and octets >= 20:
+        interface, begin, length = unpack["H"](body)[0], 20, unpack["IIIII"](body)[3]
+    elif kind == SIMPLE_PACKET and octets >= 4:
+        interface, begin, length = 0, 4, unpack["I"](body)[0]
+        if links and links[0][1]:
+            length = min(length, links[0][1])
+    else:
+        return None
+    if interface >= len(links):
+        raise BadCapture("a packet of the capture names interface %d, and its section has %d" % (interface, len(links)))
+    return links[interface][0], body[begin:begin + min(length, octets - begin)]
 
 
 def number(octets, start, end):
@@ -106,7 +159,7 @@ def of_ethernet(frame):
 
 
 def carried(link):
-    """What gives that of a frame of a link."""
+    """What gives that of a frame of a link, or None where the link isn't known."""
     if link in RAW:
         return lambda frame: frame
     if link in LOOPBACK:
@@ -115,7 +168,7 @@ def carried(link):
         return lambda frame: frame[16:] if frame[14:16] in TYPES else b""
     if link in COOKED_2:
         return lambda frame: frame[20:] if frame[:2] in TYPES else b""
-    return of_ethernet
+    return of_ethernet if link in ETHERNET else None
 
 
 def is_rtp(octets, start):
@@ -124,30 +177,56 @@ def is_rtp(octets, start):
 
 
 def packet(octets):
-    """The headers of an IP packet, or None."""
+    """The headers of an IP packet, or in words what it is."""
     count = len(octets)
-    if count >= 20 and octets[0] == 0x45 and not octets[6] & 0x3F and not octets[7]:
+    if count >= 20 and octets[0] >> 4 == 4:
+        if octets[0] != 0x45:
+            return Packet((), b"", "ipv4 with options")
+        if octets[6] & 0x3F or octets[7]:
+            return Packet((), b"", "fragments of ipv4")
         name, protocol, end = "ipv4", octets[9], 20
     elif count >= 40 and octets[0] >> 4 == 6:
         name, protocol, end = "ipv6", octets[6], 40
     else:
-        return None
-    layers = (name,)
+        return NO_IP
+    layers, what = (name,), None
     if protocol == UDP and count >= end + 8:
         layers, end = (name, "udp"), end + 8
         if is_rtp(octets, end):
             layers, end = (name, "udp", "rtp"), end + 12
+    elif protocol == TCP and count >= end + 20:
+        layers, end = (name, "tcp"), end + 20
+    elif protocol in ICMP and count >= end + 8:
+        layers, end = (name, "icmp"), end + 8
     elif protocol == ESP and count >= end + 8:
         layers, end = (name, "esp"), end + 8
-    return Packet(layers, octets[:end])
+    elif name == "ipv6" and protocol in EXTENSIONS:
+        what = "ipv6 with extension headers"
+    else:
+        what = "%s and protocol %d" % (name, protocol)
+    return Packet(layers, octets[:end], what)
 
 
 def packets(file):
-    """For each packet of a capture its headers, or None where they aren't known."""
-    link, found = frames(file)
-    if link not in LINKS:
-        raise BadCapture("packets of the link type %d can't be read" % link)
-    return map(packet, map(carried(link), found))
+    """The headers of each packet of a capture."""
+    for strip, run in runs(frames(file)):
+        yield from map(packet, map(strip, run))
+
+
+def runs(found, any_link=False):
+    """What gives that which the link of a run of packets carries, and their frames. A link that isn't known carries nothing, and a capture with no other one isn't
+    read, unless that is said."""
+    known = {}
+    for link, run in found:
+        known[link] = carried(link)
+        yield known[link] or nothing, run
+    if known and not any_link and not any(known.values()):
+        raise BadCapture("packets of the link type %s can't be read" % " and ".join(map(str, sorted(known))))
+
+
+def nothing(_):
+    """What a frame carries of whose link nothing is known."""
+    return b""
 
 
 def ends(lengths):
@@ -172,30 +251,48 @@ class Cut:
     """What is cut out of packets for a kind of header: its octets, and those that tell its flow."""
 
     def __init__(self, kind):
-        self.kind, self.spans = kind, {}
+        self.kind, self.octets, self.spans = kind, bits_of(kind) // 8, {}
         for layers, found in PLACES.items():
             if all(it in found for it in kind):
                 self.spans[layers] = found[kind[0]][0], found[kind[-1]][1]
+        self.parted = any(it in PARTED for it in kind)
+
+    def words(self):
+        """What is cut, in words."""
+        return "header of " + " and ".join(self.kind)
+
+    def packets(self, file):
+        return packets(file)
 
     def header(self, found):
         """The octets of the header in a packet, or None where it lacks one of the layers."""
-        span = self.spans.get(found.layers) if found is not None else None
+        span = self.spans.get(found.layers)
         return None if span is None else found.octets[span[0]:span[1]]
 
     def flow(self, found):
-        """What the packets of one flow have in common: the protocol, the addresses, and the ports of UDP or the index of ESP where the header has those."""
-        octets, within = found.octets, "udp" if "udp" in self.kind or "rtp" in self.kind else "esp"
-        if found.layers[0] == "ipv4":
-            protocol, start, end = octets[9:10], 12, 20
-        else:
-            protocol, start, end = octets[6:7], 8, 40
-        return protocol + octets[start:end + 4 if within in self.kind or "rtp" in self.kind else end]
+        return flow_of(found, self.parted)
+
+
+PARTED = ("tcp", "udp", "rtp", "esp")  # layers whose first four octets tell a flow: the ports, or the index
+
+
+def flow_of(found, parted):
+    """What the packets of one flow have in common: the protocol, the addresses, and the ports of TCP and UDP or the index of ESP where these count."""
+    octets = found.octets
+    if found.layers[0] == "ipv4":
+        return octets[9:10] + octets[12:24 if parted else 20]
+    return octets[6:7] + octets[8:44 if parted else 40]
 
 
 def part(found, layer, start, end):
     """The number of some octets of a layer of a packet."""
     begin = PLACES[found.layers][layer][0]
     return number(found.octets, begin + start, begin + end)
+
+
+def options(found):
+    """How many octets of options stand behind the TCP header of a packet."""
+    return max(0, (part(found, "tcp", 12, 13) >> 4) * 4 - OCTETS["tcp"])
 
 
 def address(octets):
@@ -206,11 +303,13 @@ def address(octets):
 
 
 def flow_name(flow):
-    """The addresses of a flow, with the ports of UDP, the index of ESP or the protocol."""
+    """The addresses of a flow, with the ports of TCP and UDP, the index of ESP or the protocol."""
+    if not flow:
+        return "packets that are no whole ones of IP"
     protocol, octets = flow[0], 4 if len(flow) < 33 else 16
     source, destination, more = address(flow[1:1 + octets]), address(flow[1 + octets:1 + 2 * octets]), flow[1 + 2 * octets:]
     if not more:
         return "%s to %s, protocol %d" % (source, destination, protocol)
-    if protocol == UDP:
+    if protocol in (TCP, UDP):
         return "%s:%d to %s:%d" % (source, number(more, 0, 2), destination, number(more, 2, 4))
     return "%s to %s, index %08x" % (source, destination, number(more, 0, 4))

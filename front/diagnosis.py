@@ -143,6 +143,17 @@ def passed_on(call, file):
     return running.returncode if running.returncode >= 0 else 128 - running.returncode, last, None
 
 
+def show_of(program, printed, name, text, top, above):
+    """Shows a fault of the profile that was printed, where there is one."""
+    def again(copy):
+        """What the program prints for a copy of the text. (An unproved build takes its time, so it isn't asked.)"""
+        if os.environ.get("ROHCFN_SETTLED") != "built" and not os.environ.get("ROHCFN_KEPT"):
+            return b""
+        words = [program, "--", "show", "--top", top]
+        return subprocess.run(words, input=b"=== profile\n" + copy.encode(), stdout=subprocess.PIPE, stderr=subprocess.DEVNULL, check=False).stdout
+    show(printed, name, text.decode(errors="replace"), above, again)
+
+
 def shown(call, file, name, text, top, above):
     """Runs the program, prints what it prints, and shows a fault of the profile besides, whose text begins below so many lines of its file; its status."""
     status, printed, fault = passed_on(call, file)
@@ -151,12 +162,6 @@ def shown(call, file, name, text, top, above):
             terminal.writes("error: writing the output failed\n")
         return status
 
-    def again(copy):
-        """What the program prints for a copy of the text. (An unproved build takes its time, so it isn't asked.)"""
-        if os.environ.get("ROHCFN_SETTLED") != "built":
-            return b""
-        words = [call[0], "--", "show", "--top", top]
-        return subprocess.run(words, input=b"=== profile\n" + copy.encode(), stdout=subprocess.PIPE, stderr=subprocess.DEVNULL, check=False).stdout
-    show(printed, name, text.decode(errors="replace"), above, again)
+    show_of(call[0], printed, name, text, top, above)
     show_bits(printed, file, painter())
     return status

@@ -3,14 +3,16 @@
 - `msn` is RTP's sequence number, or ESP's, or else counts the headers of the flow;
 - `ip_id_behaviour` is what IPv4's identification does: 0 goes on, 1 goes on with its two octets exchanged, 2 any, 3 always zero;
 - `udp_checksum_used` is whether there is a UDP checksum;
+- `tcp_options` is how many octets of options stand behind the TCP header;
 - `ts_stride` is the greatest common divisor of the steps of RTP's timestamps, 1 where they are all one."""
-import functools
 import math
 
-from .captures import PLACES, number, part
+from .captures import options, part
 
 SEQUENTIAL, SWAPPED, RANDOM, ZERO = range(4)
 STEP = 256  # identifications that go on by less than this count
+KNOWN = ("msn", "ip_id_behaviour", "ip_id_behavior", "udp_checksum_used", "tcp_options", "ts_stride")
+OF_PACKETS = ("udp_checksum_used", "tcp_options")  # what each packet tells by itself
 WIDEST = 65_536  # bits of a text of bits
 
 
@@ -18,52 +20,94 @@ class NotInferred(Exception):
     """An asked value that isn't known here."""
 
 
-def goes_on(numbers):
-    """Whether the numbers of 16 bits go on by little."""
-    return all((after - before) % 2**16 < STEP for before, after in zip(numbers, numbers[1:]))
+class Watched:
+    """What is inferred for the asked fields of a flow: it sees each packet, in their order, and then knows the values for each."""
+
+    def __init__(self, asked, kind):
+        self.asked, self.kind = asked, kind
+        self.names = {"ip_id_behaviour" if it.name == "ip_id_behavior" else it.name for it in asked}
+        self.last, self.greatest, self.step = {}, dict.fromkeys(self.names, 0), 0
+        self.counted = [it for it in OF_PACKETS if it in self.names]
+        self.has_ids, self.has_times = "ip_id_behaviour" in self.names, "ts_stride" in self.names
+        self.numbered = next((it for it in ("rtp", "esp") if it in kind), None)  # the layer with a sequence number
+        self.has_id, self.goes_on, self.goes_on_swapped = False, True, True
+
+    def see(self, found):
+        for name in self.counted:
+            self.greatest[name] = max(self.greatest[name], self.of_packet(name, found))
+        if self.has_ids:
+            self.see_id(having(found, "ipv4", "ip_id_behaviour", 4, 6))
+        if self.has_times:
+            self.see_time(having(found, "rtp", "ts_stride", 4, 8))
+        if self.numbered is not None and "msn" in self.names:
+            having(found, self.numbered, "msn", 0, 0)
+
+    def see_id(self, number):
+        """Whether identifications go on by little, and whether they do with their two octets exchanged."""
+        swapped, before = number % 256 * 256 + number // 256, self.last.get("id")
+        if before is not None:
+            self.goes_on &= (number - before[0]) % 2**16 < STEP
+            self.goes_on_swapped &= (swapped - before[1]) % 2**16 < STEP
+        self.has_id |= number != 0
+        self.last["id"] = number, swapped
+
+    def see_time(self, time):
+        """The greatest common divisor of the steps, forward or back, of timestamps."""
+        step = (time - self.last.get("time", time)) % 2**32
+        self.step, self.last["time"] = math.gcd(self.step, min(step, 2**32 - step)), time
+
+    def behaviour(self):
+        """What the identifications do."""
+        if not self.has_id:
+            return ZERO
+        return SEQUENTIAL if self.goes_on else SWAPPED if self.goes_on_swapped else RANDOM
+
+    def of_packet(self, name, found):
+        """A value that one packet tells."""
+        if name == "udp_checksum_used":
+            return int(having(found, "udp", name, 6, 8) != 0)
+        having(found, "tcp", name, 0, 0)
+        return options(found)
+
+    def of_flow(self, name):
+        """A value that is one for the flow, or the greatest of those of its packets."""
+        if name in ("ip_id_behaviour", "ip_id_behavior"):
+            return self.behaviour()
+        return (self.step or 1) if name == "ts_stride" else self.greatest[name]
+
+    def judge(self):
+        """Refuses an asked field that isn't known, or that has too few bits for its values."""
+        for field in self.asked:
+            if field.name not in KNOWN:
+                raise NotInferred("--pcap can't infer %s: of an asked field it knows msn, ip_id_behaviour, udp_checksum_used, tcp_options and ts_stride alone" % field.name)
+            if field.name != "msn" and self.of_flow(field.name) >= 2**field.bits:
+                raise NotInferred("--pcap infers %d for %s, which has %d bits" % (self.of_flow(field.name), field.name, field.bits))
+
+    def words(self):
+        """For each asked field what gives its word in an item, from the place of a packet in the flow and the packet."""
+        return [self.word(it) for it in self.asked]
+
+    def word(self, field):
+        begin = " %s=" % field.name
+        if field.name == "msn":
+            return lambda place, found: begin + text(field.bits, self.sequence(place, found) % 2**field.bits)
+        if field.name in OF_PACKETS:
+            return lambda _, found: begin + text(field.bits, self.of_packet(field.name, found))
+        whole = begin + text(field.bits, self.of_flow(field.name))
+        return lambda *_: whole
+
+    def sequence(self, place, found):
+        """The master sequence number of a packet."""
+        if self.numbered is None:
+            return place
+        return part(found, "rtp", 2, 4) if self.numbered == "rtp" else part(found, "esp", 4, 8)
 
 
-def behaviour(numbers):
-    """What the identifications of a flow do."""
-    if not any(numbers):
-        return ZERO
-    if goes_on(numbers):
-        return SEQUENTIAL
-    return SWAPPED if goes_on([it % 256 * 256 + it // 256 for it in numbers]) else RANDOM
-
-
-def stride(times):
-    """The greatest common divisor of the steps, forward or back, of a flow's timestamps."""
-    steps = ((after - before) % 2**32 for before, after in zip(times, times[1:]))
-    return functools.reduce(math.gcd, (min(it, 2**32 - it) for it in steps), 0) or 1
-
-
-def each(flow, layer, start, end):
-    """The number of some octets of a layer in each packet of a flow."""
-    if any(layer not in PLACES[it.layers] for it in flow):
-        raise NotInferred("the packets have no %s" % layer)
-    return [part(it, layer, start, end) for it in flow]
-
-
-def sequence(kind, flow):
-    """The master sequence numbers of a flow, of which the layers of a kind are known."""
-    for layer, start, end in (("rtp", 2, 4), ("esp", 4, 8)):
-        if layer in kind:
-            return each(flow, layer, start, end)
-    return list(range(len(flow)))
-
-
-def values(name, kind, flow):
-    """The values of an asked field for the packets of a flow."""
-    if name == "msn":
-        return sequence(kind, flow)
-    if name in ("ip_id_behaviour", "ip_id_behavior"):
-        return [behaviour(each(flow, "ipv4", 4, 6))] * len(flow)
-    if name == "udp_checksum_used":
-        return [int(it != 0) for it in each(flow, "udp", 6, 8)]
-    if name == "ts_stride":
-        return [stride(each(flow, "rtp", 4, 8))] * len(flow)
-    raise NotInferred("of an asked field it knows msn, ip_id_behaviour, udp_checksum_used and ts_stride alone")
+def having(found, layer, name, start, end):
+    """The number of some octets of a layer that a packet has to have."""
+    if layer not in found.layers:
+        raise NotInferred("--pcap can't infer %s: the packets have no %s" % (name, layer))
+    return part(found, layer, start, end)
 
 
 def text(bits, value):
@@ -81,23 +125,19 @@ def octets_of(header_bits, asked):
     return sum(lengths) + 1
 
 
-def asked_values(field, kind, flow):
-    """The values of an asked field in the items of a flow."""
-    try:
-        found = values(field.name, kind, flow)
-    except NotInferred as why:
-        raise NotInferred("--pcap can't infer %s: %s" % (field.name, why)) from None
-    if field.name == "msn":
-        return [it % 2**field.bits for it in found]
-    if max(found) >= 2**field.bits:
-        raise NotInferred("--pcap infers %d for %s, which has %d bits" % (max(found), field.name, field.bits))
-    return found
-
-
-def items(cut, asked, flow):
-    """The items of a flow's packets, one after the other."""
-    columns = [asked_values(it, cut.kind, flow) for it in asked]
+def items(cut, watched, flow):
+    """The items of a flow's packets, one after the other, once all of them were seen."""
+    watched.judge()
+    words = watched.words()
     for place, found in enumerate(flow):
         octets = cut.header(found)
-        words = ["%s=%s" % (field.name, text(field.bits, column[place])) for field, column in zip(asked, columns)]
-        yield " ".join([text(8 * len(octets), number(octets, 0, len(octets))), *words])
+        yield "%d:%s%s" % (8 * len(octets), octets.hex(), "".join([it(place, found) for it in words]))
+
+
+def items_of(cut, asked, flow):
+    """The same of a flow that nobody saw."""
+    watched = Watched(asked, cut.kind)
+    watched.judge()
+    for it in flow:
+        watched.see(it)
+    return items(cut, watched, flow)

@@ -2,9 +2,11 @@
 from docs/FORMATS.md: `python3 -m front.manual`, in the checkout. tests/manual.py compares what is stored with what this makes."""
 import pathlib
 import re
+import textwrap
 
 from . import commands
 
+WIDTH = 140  # characters of a line of a script
 ROOT = pathlib.Path(__file__).resolve().parent.parent
 HEADING = re.compile(r"^=== (\w+)\n", re.MULTILINE)
 COMMAND = re.compile(r"^  (\w+)  +(.*)$", re.MULTILINE)
@@ -120,6 +122,11 @@ def aligned(rows, indent):
     """Rows of an option and what it does, in two columns."""
     width = max(len(it) for it, _ in rows)
     return "".join("%s%s  %s\n" % (indent, it.ljust(width), does) for it, does in rows)
+
+
+def patterns(words):
+    """Patterns of a case in bash, in lines that aren't long."""
+    return " \\\n        ".join(textwrap.wrap(" | ".join(words), WIDTH, break_on_hyphens=False, break_long_words=False))
 
 
 def of_command(table, command):
@@ -247,10 +254,10 @@ def page(known, formats):
 
 def bash(known, table):
     """The completion for bash."""
-    cases = ["    %s) options='%s' ;;" % (it, " ".join(option.long for option in known.of(it))) for it in known.kept]
+    cases = ["    %s)\n      options='%s'\n      ;;" % (it, textwrap.fill(" ".join(option.long for option in known.of(it)), 140, break_on_hyphens=False)) for it in known.kept]
     words = {"commands": " ".join(known.commands), "cases": "\n".join(cases), "first": " ".join(it for it in table.own if it.startswith("-"))}
     words |= {"files": " | ".join(known.valued("FILE")), "others": " | ".join(known.valued("FILE", other=True))}
-    return BASH.format(source=SOURCE, valued=" | ".join(known.valued("", other=True)), **words)
+    return BASH.format(source=SOURCE, valued=patterns(known.valued("", other=True)), **words)
 
 
 def quoted(text):

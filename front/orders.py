@@ -101,6 +101,10 @@ def judge(order):
     judge_parts(order)
     if order.has("flow") and not (order.has("pcap") and FLOW.fullmatch(order.get("flow"))):
         raise Usage("--flow goes with --pcap, and is a number from 0")
+    if order.has("cut") and not order.has("pcap"):
+        raise Usage("--cut goes with --pcap")
+    if order.has("bare") and not order.has("item") and not order.has("items"):
+        raise Usage("--bare goes with --item or --items")
     if order.has("receive") and not order.has("octets"):
         raise Usage("--receive needs --octets")
     paths = [order.profile, *map(order.get, (*ONE, "pcap")), *[it for name, it in order.lines if name == LINES[name]]]

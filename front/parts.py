@@ -87,10 +87,10 @@ def first_line(octets):
 TAKEN = {"packets": before_context, "context": after_context, "octets": first_line}
 
 
-def refuse_heading(octets, name):
-    """Refuses octets with a line that would begin another part."""
+def refuse_heading(octets, name, above=0):
+    """Refuses octets, above which so many lines stand, with a line that would begin another part."""
     if found := HEADING.search(octets):
-        raise BadInput("%s:%d: a line that begins with `=== ` can't stand in a bundle" % (shown(name), octets.count(b"\n", 0, found.start()) + 1), 2)
+        raise BadInput("%s:%d: a line that begins with `=== ` can't stand in a bundle" % (shown(name), above + octets.count(b"\n", 0, found.start()) + 1), 2)
 
 
 def part_of(name, path):

@@ -1,5 +1,5 @@
 #!/usr/bin/env bash
-# Runs each example and each step of the tutorial through the built program and compares what it prints, and then the modules of tests/ that docs/CHECKS.md lists.
+# Runs each example through the built program and compares what it prints, and then the modules of tests/ that docs/CHECKS.md lists.
 # The program is taken as it stands; where it was built of other sources that is said.
 set -u
 cd "$(dirname "$0")/.." || exit 1
@@ -13,7 +13,7 @@ fi
 is_current || echo "examples: the program that is tried was built of other sources than stand here"
 passed=0
 failed=0
-for bundle in examples/*.bundle examples/tutorial/*.bundle; do
+for bundle in examples/*.bundle examples/bundles/*.bundle; do
   expected=${bundle%.bundle}.expected
   if bin/rohcfn --as-built <"$bundle" | cmp -s - "$expected"; then
     passed=$((passed + 1))
@@ -23,29 +23,25 @@ for bundle in examples/*.bundle examples/tutorial/*.bundle; do
   fi
 done
 echo "examples: $passed passed, $failed failed"
-python3 -m tests.pages || failed=1
-python3 -m tests.left_out || failed=1
-python3 -m tests.editors || failed=1
-python3 -m tests.flows line || failed=1
-python3 -m tests.cases || failed=1
 
-# The long ones run side by side; what each prints comes in this order.
-beside=(prefixes certificates forged trees roundtrip fields stats why lint warned lines loss robust refusals)
+# As many modules run side by side as there are processors, the long ones first; what each prints comes in the order of the second list. hostile runs after them, by
+# itself: its calls have at most so many seconds of the processor, and beside other work each takes up to half as many more.
+longest=(first_call loss refusals 'why drawn' 'why stored' files roundtrip robust lines lint certificates trees traces forged walks cases)
+ordered=(sentences pages walks left_out editors tuning 'flows line' cases prefixes certificates forged trees roundtrip fields stats advise 'why stored' 'why drawn' avoided
+  lint warned lines loss robust refusals ends first_call files traces hostile manual)
 printed=$(mktemp -d)
 trap 'rm -rf "$printed"' EXIT
-running=()
-for name in "${beside[@]}"; do
-  python3 -m "tests.$name" >"$printed/$name" 2>&1 &
-  running+=($!)
+export printed
+module() {
+  # shellcheck disable=SC2086 # (the words of one module)
+  python3 -m tests.$1 >"$printed/$1" 2>&1
+  echo $? >"$printed/$1.status"
+}
+export -f module
+printf '%s\n' "${longest[@]}" "${ordered[@]}" | awk '$0 != "hostile" && !seen[$0]++' | xargs -d '\n' -P "$(nproc)" -I{} bash -c 'module "{}"'
+module hostile
+for name in "${ordered[@]}"; do
+  cat "$printed/$name"
+  [ "$(cat "$printed/$name.status" 2>/dev/null)" = 0 ] || failed=1
 done
-for place in "${!beside[@]}"; do
-  wait "${running[place]}" || failed=1
-  cat "$printed/${beside[place]}"
-done
-
-python3 -m tests.ends || failed=1
-python3 -m tests.first_call || failed=1
-python3 -m tests.files || failed=1
-python3 -m tests.hostile || failed=1
-python3 -m tests.manual || failed=1
 [ "$failed" -eq 0 ]

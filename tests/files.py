@@ -348,18 +348,18 @@ CUT = [
 ]
 # Calls that are refused, each with its status and what it says.
 REFUSED = [
-    (["pack", "width.fn", "--pcap", "mixed"], 2, "width.fn: w's header has 7 bits, and --pcap cuts none of that length"),
-    (["pack", "open.fn", "--pcap", "mixed"], 2, "open.fn: the fields of w's header have no constant lengths, so --pcap doesn't know what to cut"),
+    (["pack", "width.fn", "--pcap", "mixed"], 2, "width.fn: w's header has 7 bits, and --pcap cuts none of that length; --cut cuts any"),
+    (["pack", "open.fn", "--pcap", "mixed"], 2, "open.fn: the fields of w's header have no constant lengths, so --pcap doesn't know what to cut; --cut says it"),
     (["pack", "asks.fn", "--pcap", "zero"], 2,
-     "--pcap can't infer other: of an asked field it knows msn, ip_id_behaviour, udp_checksum_used and ts_stride alone"),
+     "--pcap can't infer other: of an asked field it knows msn, ip_id_behaviour, udp_checksum_used, tcp_options and ts_stride alone"),
     (["pack", "narrow.fn", "--pcap", "zero"], 2, "--pcap infers 3 for ip_id_behaviour, which has 1 bits"),
-    (["pack", "esp.fn", "--pcap", "items"], 3, "items: this is no capture of the classic pcap format"),
-    (["pack", "esp.fn", "--pcap", "next"], 3, "next: this is a pcapng capture; `editcap -F pcap IN OUT` makes a classic one of it"),
+    (["pack", "esp.fn", "--pcap", "items"], 3, "items: this is no capture of the format pcap or pcapng"),
+    (["pack", "esp.fn", "--pcap", "next"], 3, "next: a section of the capture begins with no order of octets"),
     (["pack", "esp.fn", "--pcap", "short"], 3, "short: the capture ends inside packet 1"),
     (["pack", "esp.fn", "--pcap", "cut"], 3, "cut: the capture ends inside packet 2"),
     (["pack", "esp.fn", "--pcap", "link"], 3, "link: packets of the link type 105 can't be read"),
     (["pack", "esp.fn", "--pcap", "nothing"], 2, "nothing: no packet has a header of esp"),
-    (["pack", "rtp.fn", "--pcap", "control"], 2, "control: 1 of 1 packets have no header of rtp\nrohcfn: control: no packet has a header of rtp"),
+    (["pack", "rtp.fn", "--pcap", "control"], 2, "control: 1 of 1 packets have no header of rtp\nrohcfn: control: no packet has a header of rtp: it has 1 ipv6 and udp"),
     (["pack", "esp.fn", "--pcap", "no capture"], 3, "no capture: No such file or directory"),
 ]
 
@@ -427,7 +427,7 @@ def by_files(place, path):
 
 def worked(place):
     """The worked inputs by files, with the program: what it prints is stored."""
-    paths = sorted([*EXAMPLES.glob("*.bundle"), *EXAMPLES.glob("tutorial/*.bundle")])
+    paths = sorted([*EXAMPLES.glob("*.bundle"), *EXAMPLES.glob("bundles/*.bundle")])
     with concurrent.futures.ThreadPoolExecutor(max_workers=4) as pool:
         for name, holds, seen in pool.map(lambda it: by_files(place, it), paths):
             check("by files: %s" % name, holds, seen)

@@ -1,7 +1,7 @@
 """Packs the headers of data/ through the built program, reads them back, compares the octets, and prints how many bits a header of each flow takes on average.
 
 Each flow goes through `pack --context` and `unpack --context`; with the word `line` all flows together also go over `line` and back by `line --receive`, and the
-line's octets are compared with those of the same packets. It fails where an octet differs, where the UDP headers take more than they may, and where README shows
+line's octets are compared with those of the same packets. It fails where an octet differs, where the UDP headers take more than they may, and where docs/LOSS.md shows
 other numbers."""
 import sys
 
@@ -67,13 +67,13 @@ def trial(kind, lined):
 
 
 def main():
-    shown, done = (program.ROOT / "README.md").read_text(), []
+    shown, done = (program.DOCS / "LOSS.md").read_text(), []
     for kind in headers.TOPS:
         lines, well = trial(kind, "line" in sys.argv[1:])
         print("\n".join(lines))
         done.append(well)
         if "\n".join(lines) not in shown:
-            print("README shows other numbers")
+            print("docs/LOSS.md shows other numbers")
             done.append(False)
     print("headers: %s" % ("all come back" if all(done) else "failed"))
     sys.exit(0 if all(done) else 1)

@@ -145,28 +145,30 @@ def bounded():
     yield Row("30,000 fields without bits", '"$0" pack nothing.fn --pcap one', 7, "64:0000abcd00010007\n", "", 2)
     yield Row("a flow of 5,000 digits", '"$0" pack esp.fn --pcap one --flow %s' % ("9" * 5000), 2, "", "rohcfn: one: choose one flow by --flow\nflow 0, 127.0.0.1 to 127.0.0.2, index 0000abcd: 1 headers\n", 1)
     yield Row("a flow of 5,000 zeros", '"$0" pack esp.fn --pcap one --flow %s' % ("0" * 5000), 7, "64:0000abcd00010007\n", "", 1)
-    yield Row("--pcap /dev/zero", '"$0" pack esp.fn --pcap /dev/zero', 3, "", "rohcfn: /dev/zero: this is no capture of the classic pcap format\n", 1)
+    yield Row("--pcap /dev/zero", '"$0" pack esp.fn --pcap /dev/zero', 3, "", "rohcfn: /dev/zero: this is no capture of the format pcap or pcapng\n", 1)
     yield Row("a packet of 4 GiB", '"$0" pack esp.fn --pcap endless', 3, "", "rohcfn: endless: the capture ends inside packet 1\n", 1)
     yield Row("a packet of 3 MiB", '"$0" pack esp.fn --pcap "long packet"', 7, "64:0000abcd00010007\n64:0000abcd00010007\n", "", 1)
-    yield Row("500,000 tags", '"$0" pack esp.fn --pcap tags', 2, "", "rohcfn: tags: 1 of 1 packets have no header of esp\nrohcfn: tags: no packet has a header of esp\n", 1)
-    yield Row("600,000 empty packets", '"$0" pack esp.fn --pcap "empty packets"', 2, "", "rohcfn: empty packets: 600000 of 600000 packets have no header of esp\n", 3)
+    yield Row("500,000 tags", '"$0" pack esp.fn --pcap tags', 2, "", "rohcfn: tags: 1 of 1 packets have no header of esp\nrohcfn: tags: no packet has a header of esp: it has 1 neither ipv4 nor ipv6\n", 1)
+    yield Row("600,000 empty packets", '"$0" pack esp.fn --pcap "empty packets"', 2, "", "rohcfn: empty packets: 600000 of 600000 packets have no header of esp\n", 4)
     flows = "rohcfn: flows: choose one flow by --flow\nflow 0, 127.10.0.0 to"
     yield Row("100,000 flows", '"$0" pack esp.fn --pcap flows', 2, "", "\nand more than %d flows\n" % (COUNTED - LISTED), 3, lines=LISTED + 2)
     yield Row("100,000 flows on a line", '"$0" line esp.fn --pcap flows', 2, "", "rohcfn: flows: more than %d flows, and a line has 16\n" % COUNTED, 3, lines=LISTED + 2)
     yield Row("the flow 20,000 of 100,000", '"$0" pack esp.fn --pcap flows --flow 20000', 7, "64:", "", 3)
-    yield Row("250,000 headers of a flow", '"$0" pack esp.fn --pcap "same flow"', 2, "", "rohcfn: same flow: the headers make more than 4 MiB of items, and no call takes more\n", 4, 100)
-    yield Row("250,000 headers on a line", '"$0" line esp.fn --pcap "same flow"', 2, "", "rohcfn: same flow: the headers make more than 4 MiB of items, and no call takes more\n", 4, 100)
+    for it in ("fields", "line"):
+        yield Row("250,000 headers of a flow, %s" % it, '"$0" %s esp.fn --pcap "same flow"' % it, 2, "", "rohcfn: same flow: the headers make more than 4 MiB, about ", 4, 100)
+    yield Row("250,000 headers of a flow, in pieces", '"$0" pack esp.fn --pcap "same flow"', 7, "[pack][--top][top][--context]\n=== items\n64:0000abcd00010007\n", "", 10, 100)
 
 
 def endless():
     """/dev/zero for each file, to the built program."""
-    for name, call, status in (("PROFILE", "check /dev/zero", 1), ("--items", "pack p.fn --items /dev/zero", 1), ("--packets", "unpack p.fn --packets /dev/zero", 2), ("--events", "line p.fn --events /dev/zero", 1),
+    for name, call, status in (("PROFILE", "check /dev/zero", 1), ("--items", "pack p.fn --items /dev/zero", 1), ("--packets", "fields p.fn --packets /dev/zero", 2), ("--packets of unpack", "unpack p.fn --packets /dev/zero", 1), ("--events", "line p.fn --events /dev/zero", 1),
                                ("--octets", "line p.fn --octets /dev/zero", 2), ("--certificate", "check p.fn --certificate /dev/zero", 1), ("--from-context", "pack p.fn --item 24:014007 --from-context /dev/zero", 2)):
         printed = "bundle: I6 above 4 MiB\n" if status == 1 else ""
         yield Row("/dev/zero as %s" % name, '"$0" ' + call, status, printed, "" if printed else "rohcfn: /dev/zero: it has more octets, and", 2, 220, 1)
         given = call.replace("/dev/zero", "-")
         yield Row("/dev/zero as %s, on standard input" % name, '"$0" %s </dev/zero' % given, status, printed, "" if printed else "rohcfn: -: it has more octets, and", 2, 220, 1)
-    yield Row("items of 4 MiB", '"$0" pack p.fn --items "long items"', 1, "bundle: I6 above 4 MiB\n", "")
+    yield Row("items of 4 MiB", '"$0" loss p.fn --items "long items"', 1, "bundle: I6 above 4 MiB\n", "")
+    yield Row("items of 4 MiB, in pieces", '"$0" pack p.fn --items "long items" | tail -n 1', 0, "5:38\n", "")
     for name in ("powers", "products", "raised", "digits"):
         yield Row("%s.fn" % name, '"$0" check %s.fn' % name, 1, "profile:", "", 1, lines=1)
     for name in ("quotes", "open", "constants", "comments", "names", "numbers", "marks", "lines", "unknown"):

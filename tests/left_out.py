@@ -1,5 +1,5 @@
 """Whether each profile that docs/FROM_RFC4997.md shows is accepted by the built program, or is answered as the text after it says; and whether each piece of
-profiles/parts/, and each profile of profiles/ that flows.py doesn't try, is accepted, and packs and reads what its comment says.
+profiles/parts/, and each profile of profiles/ that neither flows.py nor tuning.py tries, is accepted, and packs and reads what its comment says.
 
 After a block of the page a text `COMMAND` answers `OUTPUT`, or `pack` of `ITEM` and `ITEM` answers `OUTPUT` and `OUTPUT`, is tested, and what is packed is
 read back. A block marked as left out has such a text. In a piece a line `// ITEM -> PACKET`, or two with the arrow in the second, is tested so, all of them
@@ -7,7 +7,7 @@ in one context. What is due was worked by hand, the CRCs by the steps of docs/NO
 import re
 import sys
 
-from examples import headers
+from examples import headers, tuning
 from . import program
 
 PAGE = program.DOCS / "FROM_RFC4997.md"
@@ -64,9 +64,9 @@ def page():
 
 
 def parts():
-    """What is wrong with the pieces and the profiles that flows.py has no headers for, and how many there are."""
+    """What is wrong with the pieces and the profiles that have no headers in data/, and how many there are."""
     wrong, count = [], 0
-    for path in sorted(it for it in program.EXAMPLES.glob("profiles/**/*.profile") if it.stem not in headers.TOPS):
+    for path in sorted(it for it in program.EXAMPLES.glob("profiles/**/*.profile") if it.stem not in {*headers.TOPS, *tuning.TRACES.values()}):
         profile = path.read_text()
         trials = TRIAL.findall(profile)
         faults = [it for it in answer("check", profile) if it != "accepted"]

@@ -1,4 +1,4 @@
-"""Through the built program: what `lint` prints. Of the profiles of samples.py, profiles/ and tutorial/, by each format of which something can be packed, it
+"""Through the built program: what `lint` prints. Of the profiles of samples.py, profiles/ and bundles/, by each format of which something can be packed, it
 prints nothing but what is due: for one that needs a context to begin with, for one with too many candidates, and the warnings of losses. Of drawn small
 profiles each format that it names has no filling by a slow search over all headers, in contexts that are drawn (searching.py). A format that gets a part by
 which nothing can be packed is named, at the place of that part: a condition above the range of its field or without a value, a number too great for its
@@ -193,7 +193,7 @@ def useful():
     for path in sorted((EXAMPLES / "profiles").glob("*.profile")):
         text = path.read_text()
         yield path.name, text, METHOD.findall(text)[-1]
-    for path in sorted((EXAMPLES / "tutorial").glob("*.bundle")):
+    for path in sorted((EXAMPLES / "bundles").glob("*.bundle")):
         parts = dict(it.split("\n", 1) for it in path.read_text().split("=== ")[1:])
         if path.with_suffix(".expected").read_text().startswith("accepted") and "profile" in parts:
             yield path.name, parts["profile"], parts["words"].split("--top ")[1].split()[0]

@@ -1,26 +1,13 @@
-"""Whether docs/TUTORIAL.md shows just the bundles of tutorial/ and what they print, each pair once and in the order of their names, and in its other blocks commands
-alone; whether the built program accepts each profile that docs/NOTATION.md shows as an example; and whether docs/FAULTS.md has each code of docs/FORMATS.md."""
+"""Whether the built program accepts each profile that docs/NOTATION.md shows as an example; and whether docs/FAULTS.md has each code of docs/FORMATS.md."""
 import re
 import sys
 
-from .program import DOCS, EXAMPLES, bundle, run
+from .program import DOCS, bundle, run
 
-PAIR = re.compile(r"^`(\S+)\.bundle`:\n\n```\n(.*?)```\n\nprints\n\n```\n(.*?)```$", re.DOTALL | re.MULTILINE)
 BLOCK = re.compile(r"^```(\w*)\n(.*?)^```$", re.DOTALL | re.MULTILINE)
 CODE = re.compile(r"(?<![\w-])([EKVPIFULC]\d{1,2})\b")
 TOLD = re.compile(r"\*\*([EKVPIFULC]\d{1,2})\b")
 METHOD = re.compile(r"^(\w+)(?:\(.*\))?$", re.MULTILINE)
-
-
-def tutorial():
-    """What is wrong with the tutorial, and how many bundles it shows."""
-    text = (DOCS / "TUTORIAL.md").read_text()
-    due = [(it.stem, it.read_text(), it.with_suffix(".expected").read_text()) for it in sorted((EXAMPLES / "tutorial").glob("*.bundle"))]
-    shown = PAIR.findall(text)
-    wrong = [name for name, *_ in set(due) ^ set(shown)] + ["a block" for kind, _ in BLOCK.findall(PAIR.sub("", text)) if kind != "sh"]
-    if not wrong and [it[0] for it in shown] != sorted(it[0] for it in due):
-        wrong = ["the order"]
-    return ["tutorial: %s" % it for it in sorted(set(wrong))], len(due)
 
 
 def notation():
@@ -43,11 +30,11 @@ def codes():
 
 
 def main():
-    parts = [tutorial(), notation(), codes()]
+    parts = [notation(), codes()]
     wrong = [it for faults, _ in parts for it in faults]
     for it in wrong:
         print(it)
-    print("pages: %d bundles of the tutorial, %d examples of the notation, %d codes of faults, %d wrong" % (*[count for _, count in parts], len(wrong)))
+    print("pages: %d examples of the notation, %d codes of faults, %d wrong" % (*[count for _, count in parts], len(wrong)))
     sys.exit(1 if wrong or not all(count for _, count in parts) else 0)
 
 

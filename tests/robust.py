@@ -83,7 +83,10 @@ def own_subjects():
 
 
 def without_loss():
-    """For each stored case of `pack`, `stats`, `loss` and `why --items` that is no usage fault whether it prints the same with `--robust 0`."""
+    """For each stored case of `pack`, `stats`, `loss` and `why --items` that is no usage fault whether it prints the same with `--robust 0`.
+
+    `why --not` is left out: it doesn't take `--robust`.
+    """
     def tried(case):
         name, text, status, output = case
         return name, run(text) == (output.decode(), status)
@@ -93,7 +96,7 @@ def without_loss():
         for command in (b"pack", b"stats", b"loss", b"why"):
             head = b"=== words\n" + command + b" "
             words = text.partition(head)[2].partition(b"\n")[0].split()
-            sends = command != b"why" or b"--items" in words
+            sends = command != b"why" or b"--items" in words and not any(it.startswith(b"--not") for it in words)
             if text.count(head) == 1 and status != 2 and sends and not any(it.startswith(b"--robust") for it in words):
                 found.append((name, text.replace(head, head + b"--robust 0 "), status, output))
     with concurrent.futures.ThreadPoolExecutor(max_workers=4) as pool:

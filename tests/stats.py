@@ -92,8 +92,8 @@ def small(draw):
         yield "%s from %s" % (subject.profile, start), seen == (counted(subject.profile, subject.name, trees) + refused, 0), len(items)
 
 
-def large(draw):
-    """For each flow of headers whether it is right, and how many headers it has. A bad item after each tenth one is refused and leaves the context."""
+def mixed_flows(draw):
+    """Each flow of headers: what it is called, the profile and its top, its items, those with a bad one after each tenth, and the lines of the bad ones. These leave the context."""
     for kind, top in headers.TOPS.items():
         profile = (EXAMPLES / "profiles" / (kind + ".profile")).read_text()
         every = headers.headers_of(kind, (EXAMPLES / "data" / (kind + "-headers.hex")).read_text().splitlines())
@@ -105,9 +105,15 @@ def large(draw):
                     mixed.append(draw.choice(["0:", LONG, item.split(" ")[0]]))
                     (line,), _ = fields.printed("pack --top " + top, profile, {}, "items", mixed[-1:])
                     refused.append(line.replace("item 1:", "item %d:" % len(mixed), 1))
-            listed, _ = fields.printed("fields --items --top " + top, profile, {}, "items", items)
-            seen = fields.printed("stats --top " + top, profile, {}, "items", mixed)
-            yield "flow %d of %s" % (place, kind), seen == (counted(profile, top, fields.trees(listed)) + refused, 0), len(flow)
+            yield "flow %d of %s" % (place, kind), profile, top, items, mixed, refused
+
+
+def large(draw):
+    """For each flow of headers whether it is right, and how many headers it has."""
+    for name, profile, top, items, mixed, refused in mixed_flows(draw):
+        listed, _ = fields.printed("fields --items --top " + top, profile, {}, "items", items)
+        seen = fields.printed("stats --top " + top, profile, {}, "items", mixed)
+        yield name, seen == (counted(profile, top, fields.trees(listed)) + refused, 0), len(items)
 
 
 def main():

@@ -239,21 +239,31 @@ def subjects(draw):
         yield subject, context, 4
 
 
-def main():
-    draw = random.Random(4997)
-    passed = failed = told = 0
+def stored_and_noticed():
+    """The same of stored cases; and how many slips in their reasons the second reading notices, where it misses none."""
     of_cases = list(stored_trials())
     missed, slipped = noticed()
     for it in missed:
         print("why: a slip that the second reading misses: %s: %s" % it)
-    drawn = (it for subject, context, most in subjects(draw) for it in trials(subject, context, draw, most))
-    for wrong, blamed in itertools.chain(readings(), of_cases, drawn):
+    return of_cases if of_cases and slipped and not missed else [(("no stored case", missed), 0)], slipped - len(missed)
+
+
+def main(words):
+    """Of the stored cases by the word `stored`, of drawn ones by `drawn`, of both without a word."""
+    draw = random.Random(4997)
+    passed = failed = told = slipped = 0
+    every = []
+    if words[:1] != ["drawn"]:
+        every, slipped = stored_and_noticed()
+    if words[:1] != ["stored"]:
+        every = itertools.chain(every, readings(), (it for subject, context, most in subjects(draw) for it in trials(subject, context, draw, most)))
+    for wrong, blamed in every:
         passed, failed, told = passed + (wrong is None), failed + (wrong is not None), told + blamed
         if wrong is not None and failed < 5:
             print("why:", *wrong)
-    print("why: %d passed, %d of them of stored cases, %d failed; %d formats with a reason, %d slips noticed" % (passed, len(of_cases), failed, told, slipped - len(missed)))
-    return 1 if failed or missed or not told or not of_cases or not slipped else 0
+    print("why%s: %d passed, %d failed; %d formats with a reason, %d slips noticed" % ("".join(" " + it for it in words), passed, failed, told, slipped))
+    return 1 if failed or not told else 0
 
 
 if __name__ == "__main__":
-    sys.exit(main())
+    sys.exit(main(sys.argv[1:]))

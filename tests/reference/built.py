@@ -335,8 +335,43 @@ def crammed():
         yield from sent_both_ways("tables of 65280 entries and %s" % octets[:2].decode(), profile, item, item, 128, b"=== certificate\n" + certificate.encode())
 
 
+def refused(count, others):
+    """A chain of so many methods, the top among them: two formats of each call the next one, and those of the last want another header. Further formats of the top
+    call a method each, which has so many formats that want another header. Beside the text the lines of `why` on the item 8:07."""
+    wanting = lambda name, formats: "%s { UNCOMPRESSED { v [8]; } %s}" % (
+        name, "".join("COMPRESSED f%d { mark =:= '%s' [2]; v =:= uncompressed_value(8, %d); } " % (it, format(it, "02b"), it) for it in range(formats)))
+    calling = lambda name, called: "%s { UNCOMPRESSED { x; } %s}" % (
+        name, "".join("COMPRESSED f%d { mark =:= '%s' [3]; x =:= %s; } " % (it, format(it, "03b"), to) for it, to in enumerate(called)))
+    names = ["m%d" % it for it in range(count)]
+    wanted = {names[-1]: 2, **{"n%d" % it: formats for it, formats in enumerate(others)}}
+    calls = {name: [names[it + 1]] * 2 + ["n%d" % other for other in range(len(others)) if it == 0] for it, name in enumerate(names[:-1])}
+    texts = [calling(name, called) for name, called in calls.items()] + [wanting(name, formats) for name, formats in wanted.items()]
+    line = {text.split()[0]: number for number, text in enumerate(texts, 1)}
+
+    def told(name, depth):
+        for it in range(wanted.get(name, 0)):
+            place = "%d:%d" % (line[name], len(name) + len(" { UNCOMPRESSED { v ") + 1)
+            yield "%s: %s%s.f%d: uncompressed_value of v: the header has 8:07, and 8:%02x is due\n" % (place, "  " * depth, name, it, it)
+        for it, called in enumerate(calls.get(name, [])):
+            yield "%d:1: %s%s.f%d: nothing goes in x, by no format of %s\n" % (line[name], "  " * depth, name, it, called)
+            yield from told(called, depth + 1)
+
+    return "\n".join(texts) + "\n", list(told("m0", 0))
+
+
+def reasons():
+    """As many lines of `why` as may be, one more, and twice as many. Where one format takes more than half of the looks that may be, what stands inside isn't told."""
+    for name, count, others in (("all", 11, (1,)), ("one too many", 11, (2,)), ("twice", 12, ())):
+        text, lines = refused(count, others)
+        last = "more stands against these formats, and only 4096 lines are told\n" if len(lines) > 4096 else ""
+        answer = "item 1: F3 NoFormat\n" + "".join(lines[:4096]) + last
+        yield "%d lines of reasons, %s" % (len(lines), name), bundle(b"why --items --top m0", text.encode(), b"=== items\n8:07\n"), 0, answer.encode()
+    answer = "item 1: F3 NoFormat\n" + "".join("1:1: m0.f%d: nothing simple stands against it\n" % it for it in range(2))
+    yield "reasons in 16 methods", bundle(b"why --items --top m0", refused(16, ())[0].encode(), b"=== items\n8:07\n"), 0, answer.encode()
+
+
 def cases():
     """Name, bundle, status and output of each."""
-    parts = (counts, nestings, in_order, packed, long_inputs, names, fronts, checked, lines, crowded, tabled, widths, choices, candidates, chains, longest, both_above, greatest, crammed)
+    parts = (counts, nestings, in_order, packed, long_inputs, names, fronts, checked, lines, crowded, tabled, widths, choices, candidates, chains, longest, both_above, greatest, crammed, reasons)
     for part in parts:
         yield from part()

@@ -13,6 +13,7 @@ use fn_bits::{Bits, Cursor};
 use fn_context::Context;
 use fn_engine::{UnpackFault, Unpacked, item_of, most_octets, unpack, unpack_drawn};
 use fn_filling::{Item, advance};
+use fn_flat::{ReadPage, asked_of, goes_on, read_page};
 use std::alloc::{AllocError, Global};
 
 /// How many octets are looked at ahead, at most: longer packets are tried octet by octet.
@@ -68,6 +69,59 @@ fn try_packet(
 /// The item of the packet that begins these octets, after its flow's, and how many of them it is; and the context then moves on. None where that isn't told at
 /// once, though there may be one.
 fn whole_packet(
+    alloc: Global,
+    accepted: &Accepted,
+    context: &mut Context,
+    octets: &[u8],
+) -> Result<Option<(Item, usize)>, AllocError>
+    ensures some { IfOk result (λ o. IfSome o (λ whole. (whole.1 ≤ length octets.now) × IsTaken accepted.now context.old context.new (take whole.1 octets.now) whole.0)) }
+    ensures none { IfOk result (λ o. IfNone o (context.new ≡ context.old)) }
+{
+    match packet_by_page(alloc, accepted, context, octets)? {
+        Some(whole) => Ok(Some(whole)),
+        None => packet_drawn(alloc, accepted, context, octets),
+    }
+}
+
+/// The same by a page, where the context has the paths of its entries. A flow's first packet finds none there.
+fn packet_by_page(
+    alloc: Global,
+    accepted: &Accepted,
+    context: &mut Context,
+    octets: &[u8],
+) -> Result<Option<(Item, usize)>, AllocError>
+    ensures some { IfOk result (λ o. IfSome o (λ whole. (whole.1 ≤ length octets.now) × IsTaken accepted.now context.old context.new (take whole.1 octets.now) whole.0)) }
+    ensures none { IfOk result (λ o. IfNone o (context.new ≡ context.old)) }
+{
+    if context.len() == 0 {
+        return Ok(None);
+    }
+    let Some(bits) = Bits::from_octets(alloc, octets, octets.len().saturating_mul(8))? else {
+        return Ok(None);
+    };
+    let mut cursor = Cursor::new(&bits);
+    let Some(read) = read_page(alloc, accepted, context, &mut cursor)? else {
+        return Ok(None);
+    };
+    let Some(over) = read.bits.checked_add(7) else {
+        return Ok(None);
+    };
+    let count = over / 8;
+    let Some(_own) = Bits::from_octets(alloc, &octets[..count], read.bits)? else {
+        return Ok(None);
+    };
+    let ReadPage { header, page, .. } = read;
+    let Some(asked) = asked_of(alloc, accepted, &page)? else {
+        return Ok(None);
+    };
+    if !goes_on(alloc, accepted, context, &page)? {
+        return Ok(None);
+    }
+    Ok(Some((Item { header, asked }, count)))
+}
+
+/// The same by a filling.
+fn packet_drawn(
     alloc: Global,
     accepted: &Accepted,
     context: &mut Context,

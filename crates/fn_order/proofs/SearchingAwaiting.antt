@@ -1,11 +1,12 @@
 -- Steps that needn't be looked at aren't next.
-use Rattle.std.proofs.Common.{◌≡◌, ◌⊎◌, refl, sym, ◌∙◌, ap, subst, ℕ, zero, suc, ◌+◌, ◌*◌, ◌/◌, ◌%◌, ◌^◌, ◌-◌, ◌<◌, ◌≤◌, Bool, true, false, List, [], ◌∷◌, length, replicate, get_or, map, drop, inl, inr, cond, find, arith}
-use Rattle.std.specs.Prelude.{Option, Some, None, slice_get, nat_lt, ◌&&◌, ◌||◌, not, is_some}
+use Rattle.std.proofs.Common.{◌≡◌, ◌⊎◌, refl, sym, ◌∙◌, ap, subst, ℕ, zero, suc, ◌+◌, ◌*◌, ◌/◌, ◌%◌, ◌^◌, ◌-◌, ◌<◌, ◌≤◌, Bool, true, false, List, [], ◌∷◌, ◌++◌, length, replicate, get_or, map, drop, inl, inr, cond, find, arith}
+use Rattle.std.specs.Prelude.{Option, Some, None, slice_get, slice_set, nat_lt, MatchOption, ◌&&◌, ◌||◌, not}
 use Rattle.std.specs.List.{list_all}
 use Rattle.std.proofs.lemmas.Bool.{cases_eq}
 use Rattle.std.specs.Int.{bit_at}
 use Rattle.std.proofs.lemmas.Nat.Bits.{bit_at_ones}
-use Rattle.std.proofs.lemmas.List.{drop_more, drop_all, get_or-replicate, length-replicate}
+use Rattle.std.proofs.lemmas.List.{drop_more, drop_all, get_or-replicate, length-replicate, length-append, length-set, get_or-set_same, get_or-set_other}
+use Rattle.std.proofs.lemmas.List.Folds.{list_all-append}
 use Rattle.std.proofs.lemmas.Option.{slice_get_within}
 use Rattle.fn_normal.specs.declared.profile.Format.{Format}
 use Rattle.fn_cert.specs.declared.rule.Fact.{Fact}
@@ -13,13 +14,13 @@ use Rattle.fn_cert.specs.declared.rule.Rule.{Rule}
 use Rattle.fn_rules.specs.Facts.{has}
 use Rattle.fn_plans.specs.declared.knowledge.Knowledge.{Knowledge}
 use Rattle.fn_plans.specs.Knowing.{field_of, shows, width}
-use Rattle.fn_plans.specs.Needing.{told, first_unknown}
-use Rattle.fn_plans.proofs.NeedingUnknown.{all_known_is, found_lacks}
+use Rattle.fn_plans.specs.Needing.{told}
 use Rattle.fn_order.specs.declared.possible.Possible.{Possible}
 use Rattle.fn_order.specs.declared.waiting.Rest.{Rest}
 use Rattle.fn_order.specs.declared.waiting.Rest.TheVariants.{Due, Until, Over}
 use Rattle.fn_order.specs.Marking.{bit_in, IsDue, IsInRow, AreWoken}
-use Rattle.fn_order.specs.Searching.{Ruled, ruled, gives_more, gives_none, KnowsAll, RestsBy, is_still, IsNotedFor, Rests, AreWaiting}
+use Rattle.fn_order.specs.Searching.{Ruled, ruled, gives_more, gives_none, KnowsAll, StandFor, LacksFor, StandIfWritten, AreLeft, RestsBy, is_still, IsNotedFor, Rests, AreWaiting}
+use Rattle.fn_order.specs.Needed.{AskTheSame}
 
 never : (b : Bool) → (b && false) ≡ false
 never true = refl
@@ -29,7 +30,7 @@ not_true : (b : Bool) → not b ≡ true → b ≡ false
 not_true false e = refl
 not_true true e = absurd (cc)
 
-not_false : (b : Bool) → b ≡ false → not b ≡ true
+pub not_false : (b : Bool) → b ≡ false → not b ≡ true
 not_false false e = refl
 not_false true e = absurd (cc)
 
@@ -61,7 +62,7 @@ module _ (r : Rule) where
   -- one that needn't be looked at gives nothing new
   pub rests_still : (known : Fact → Bool) (why : Rest) → RestsBy known r why → is_still known why ≡ true → gives_more known r ≡ false
   rests_still known Due w e = absurd (cc)
-  rests_still known (Until x) w e = needs_more known (w known (not_true (known x) e))
+  rests_still known (Until x) w e = needs_more known (w known (λ x h. h) (not_true (known x) e))
   rests_still known Over w e = w known (λ x h. h)
 
   -- one that gives nothing new, or is hindered, does so whatever more is known
@@ -72,27 +73,104 @@ module _ (r : Rule) where
     by more keeps false h e = is_hindered more (some_stays known more keeps r.absent (not_true (list_all (λ y. not (known y)) r.absent) e))
 
   -- one that waits for what isn't known
-  pub waits_for_it : (k : Knowledge) (x : Fact) → Some x ≡ first_unknown k r.needs → RestsBy (shows k) r (Until x)
-  waits_for_it k x e = found_lacks k r.needs x (sym e)
+  pub waits_for_it : (known : Fact → Bool) (x : Fact) → LacksFor known r.needs (Some x) → RestsBy known r (Until x)
+  waits_for_it known x lacks = lacks.1
 
   -- else it is next
-  pub next_else : (k : Knowledge) → gives_none (shows k) r ≡ false → first_unknown k r.needs ≡ None → true ≡ gives_more (shows k) r
-  next_else k over none = by (list_all (shows k) r.gives) (list_all (λ y. not (shows k y)) r.absent) over (all_known_is k r.needs true (ap is_some none)) where
-    by : (gives free : Bool) → (gives || not free) ≡ false → true ≡ list_all (shows k) r.needs → true ≡ ((list_all (shows k) r.needs && free) && not gives)
+  pub next_else : (known : Fact → Bool) → gives_none known r ≡ false → LacksFor known r.needs None → true ≡ gives_more known r
+  next_else known over all = by (list_all known r.gives) (list_all (λ y. not (known y)) r.absent) over (sym all) where
+    by : (gives free : Bool) → (gives || not free) ≡ false → true ≡ list_all known r.needs → true ≡ ((list_all known r.needs && free) && not gives)
     by true free e m = absurd (cc)
     by false false e m = absurd (cc)
-    by false true e m = m ∙ ever (list_all (shows k) r.needs) where
+    by false true e m = m ∙ ever (list_all known r.needs) where
       ever : (b : Bool) → b ≡ ((b && true) && true)
       ever true = refl
       ever false = refl
 
--- what is told to be unknown is so
-pub unknown_is : (k : Knowledge) (xs : List Fact) (x : Fact) → Some x ≡ first_unknown k xs → is_still (shows k) (Until x) ≡ true
-unknown_is k [] x e = absurd (cc)
-unknown_is k (y ∷ ys) x e = by (not (shows k y)) refl e (λ h. unknown_is k ys x h) where
-  by : (b : Bool) → not (shows k y) ≡ b → Some x ≡ cond b (Some y) (first_unknown k ys) → (Some x ≡ first_unknown k ys → not (shows k x) ≡ true) → not (shows k x) ≡ true
-  by true h e rest = let same : y ≡ x = cc in subst (λ z. not (shows k z) ≡ true) same h
-  by false h e rest = rest e
+-- one that isn't known, wherever it stands
+pub lacks_there : (known : Fact → Bool) (xs : List Fact) (i : ℕ) (x : Fact) → slice_get xs i ≡ Some x → known x ≡ false → list_all known xs ≡ false
+lacks_there known [] i x at h = absurd (cc)
+lacks_there known (y ∷ ys) zero x at h = let same : y ≡ x = cc in ap (λ b. b && list_all known ys) (ap known same ∙ h)
+lacks_there known (y ∷ ys) (suc i) x at h = ap (λ b. known y && b) (lacks_there known ys i x at h) ∙ never (known y)
+
+pub lacks_it : (known : Fact → Bool) (needs left : List Fact) (i : ℕ) (x : Fact) → StandFor known needs left → slice_get left i ≡ Some x → known x ≡ false → LacksFor known needs (Some x)
+lacks_it known needs left i x stand at h = (h, λ more keeps lacks. sym (stand more keeps) ∙ lacks_there more left i x at lacks)
+
+pub lacks_none : (known : Fact → Bool) (needs left : List Fact) → StandFor known needs left → left ≡ [] → LacksFor known needs None
+lacks_none known needs left stand none = sym (stand known (λ x h. h)) ∙ ap (list_all known) none
+
+-- the last of a list
+at_end : (xs : List Fact) (y : Fact) → slice_get (xs ++ y ∷ []) (length xs) ≡ Some y
+at_end [] y = refl
+at_end (x ∷ xs) y = at_end xs y
+
+-- one that is known is taken away
+pub stands_without : (known : Fact → Bool) (needs left rest : List Fact) (x y : Fact) → StandFor known needs left → slice_get left (length left - 1) ≡ Some x → known x ≡ true → left ≡ rest ++ y ∷ [] → StandFor known needs rest
+stands_without known needs left rest x y stand at h e = λ more keeps.
+    let last : length left - 1 ≡ length rest = let n = ap length e ∙ length-append rest (y ∷ []) in omega (arith, n) in
+    let there : Some y ≡ Some x = sym (at_end rest y) ∙ (ap (λ z. slice_get z (length rest)) (sym e) ∙ (ap (slice_get left) (sym last) ∙ at)) in
+    let same : y ≡ x = cc in
+    let full : list_all more left ≡ (list_all more rest && (more y && true)) = ap (list_all more) e ∙ list_all-append more rest (y ∷ []) in
+    let has : more y ≡ true = ap more same ∙ keeps x h in
+    sym (full ∙ (ap (λ b. list_all more rest && (b && true)) has ∙ and_true (list_all more rest))) ∙ stand more keeps where
+      and_true : (b : Bool) → (b && true) ≡ b
+      and_true true = refl
+      and_true false = refl
+
+pub stands_popped : (known : Fact → Bool) (needs left rest : List Fact) (x : Fact) (o : Option Fact) → StandFor known needs left → slice_get left (length left - 1) ≡ Some x → known x ≡ true →
+    MatchOption o ((left ≡ []) × (rest ≡ [])) (λ y. left ≡ rest ++ y ∷ []) → StandFor known needs rest
+stands_popped known needs left rest x None stand at h e = subst (StandFor known needs) (e.0 ∙ sym e.1) stand
+stands_popped known needs left rest x (Some y) stand at h e = stands_without known needs left rest x y stand at h e
+
+-- what is written out stands for all of it
+pub stands_at_first : (known : Fact → Bool) (needs left : List Fact) → AskTheSame left needs → StandFor known needs left
+stands_at_first known needs left same = λ more keeps. same more
+
+-- where there is no last one, there is none
+pub none_there : (xs : List Fact) → slice_get xs (length xs - 1) ≡ None → xs ≡ []
+none_there [] at = refl
+none_there (x ∷ xs) at = let e : length (x ∷ xs) - 1 ≡ length xs = omega arith in absurd (by xs x (subst (λ n. slice_get (x ∷ xs) n ≡ None) e at)) where
+  by : (ys : List Fact) (y : Fact) → slice_get (y ∷ ys) (length ys) ≡ None → ⊥
+  by [] y e = absurd (cc)
+  by (z ∷ zs) y e = by zs z e
+
+-- what stands for the needs of each step
+module _ (format : Format) (possible : List Possible) where
+  unwritten : (known : Fact → Bool) (n i : ℕ) (needs : List Fact) → StandIfWritten known needs (get_or (replicate n None) i None)
+  unwritten known zero i needs = tt
+  unwritten known (suc n) zero needs = tt
+  unwritten known (suc n) (suc i) needs = unwritten known n i needs
+
+  pub none_left : (known : Fact → Bool) (needs : List (Option (List Fact))) → needs ≡ replicate (length possible) None → AreLeft known format possible needs
+  none_left known needs e = record {
+    each = ap length e ∙ length-replicate (length possible) None;
+    right = λ i p at. subst (λ z. StandIfWritten known (told format p.rule).needs (get_or z i None)) (sym e) (unwritten known (length possible) i (told format p.rule).needs);
+  }
+
+  stand_on : (known new : Fact → Bool) (needs : List Fact) (left : Option (List Fact)) → KnowsAll known new → StandIfWritten known needs left → StandIfWritten new needs left
+  stand_on known new needs None knows so = tt
+  stand_on known new needs (Some left) knows so = λ more keeps. so more (λ x e. keeps x (knows x e))
+
+  pub left_on : (known new : Fact → Bool) (needs : List (Option (List Fact))) → KnowsAll known new → AreLeft known format possible needs → AreLeft new format possible needs
+  left_on known new needs knows are = record { each = are.each; right = λ i p at. stand_on known new (told format p.rule).needs (get_or needs i None) knows (are.right i p at) }
+
+  pub left_more : (known : Fact → Bool) (needs new : List (Option (List Fact))) (place : ℕ) (p : Possible) (left : Option (List Fact)) → slice_get possible place ≡ Some p → new ≡ slice_set needs place left →
+      AreLeft known format possible needs → StandIfWritten known (told format p.rule).needs left → AreLeft known format possible new
+  left_more known needs new place p left at e are stand =
+      let there : place < length needs = subst (λ z. place < z) (sym are.each) (slice_get_within possible place p at) in
+      record {
+        each = ap length e ∙ (length-set needs place left ∙ are.each);
+        right = λ i q found. elim (cases_eq place i) [
+          | inl s ↦
+              let one : Some p ≡ Some q = sym at ∙ (ap (slice_get possible) s ∙ found) in
+              let is : p ≡ q = cc in
+              let here : get_or new i None ≡ left = ap (λ z. get_or z i None) e ∙ (ap (λ j. get_or (slice_set needs place left) j None) (sym s) ∙ get_or-set_same needs place left None there) in
+              subst (StandIfWritten known (told format q.rule).needs) (sym here) (subst (λ (z : Possible). StandIfWritten known (told format z.rule).needs left) is stand)
+          | inr n ↦
+              let kept : get_or new i None ≡ get_or needs i None = ap (λ z. get_or z i None) e ∙ get_or-set_other needs place i left None (λ z. n (sym z)) in
+              subst (StandIfWritten known (told format q.rule).needs) (sym kept) (are.right i q found)
+        ];
+      }
 
 -- at first all are to be looked at
 all_ones : (n i : ℕ) → i < 64 * n → IsDue (replicate n (2 ^ 64 - 1)) i
@@ -193,7 +271,7 @@ module _ (old new : Knowledge) (gives : List Fact) (learns : (x : Fact) → show
 
   rests_on : (r : Rule) (why : Rest) → RestsBy (shows old) r why → RestsBy (shows new) r why
   rests_on r Due w = tt
-  rests_on r (Until x) w = w
+  rests_on r (Until x) w = λ more keeps. w more (λ x e. keeps x (knows_all x e))
   rests_on r Over w = λ more keeps. w more (λ x e. keeps x (knows_all x e))
 
   unknown_yet : (x : Fact) → has gives x ≡ false → shows new x ≡ shows old x
@@ -205,7 +283,7 @@ module _ (old new : Knowledge) (gives : List Fact) (learns : (x : Fact) → show
     rests_so r i within n Due w still seen = absurd (cc)
     rests_so r i within n (Until x) w still seen =
         let on = woken.rests i x within seen n in
-        record { why = Until x; right = w; still = ap not (unknown_yet x on.0) ∙ still; seen = on.1 }
+        record { why = Until x; right = rests_on r (Until x) w; still = ap not (unknown_yet x on.0) ∙ still; seen = on.1 }
     rests_so r i within n Over w still seen = record { why = Over; right = rests_on r Over w; still = refl; seen = tt }
 
     rests_next : (i : ℕ) → Rests (shows new) next left i

@@ -32,7 +32,7 @@ use Rattle.fn_reasons.specs.Looks.{IsLook, SeenOf, SeenOn, SoFar}
 use Rattle.fn_reasons.specs.Places.{BeginsAt, held, length_in, order_of}
 use Rattle.fn_reasons.specs.Settings.{Setting, setting_of}
 use Rattle.fn_reasons.specs.Told.{Related, length_of, lengths_from, opposite, reference_in, seen_at, seen_side}
-use Rattle.fn_reasons.specs.Reasons.{HasMethod, Stands, dead, short, long, cut, no_reference, differs, no_side, untrue, no_argument, no_truth, Calls, Tells, by_reason, by_call, TellAll, ends, next, HasReferences, HasRoom, IsClear, IsOpen, Verdicts, lacking, lacks, no_more, out, open_still, all_ranged, formats_of, inside, line_of, ranges_in, undefined_at, wants_reference}
+use Rattle.fn_reasons.specs.Reasons.{HasMethod, Stands, dead, short, long, cut, no_reference, differs, no_side, untrue, no_argument, no_truth, Calls, Tells, by_reason, by_call, TellAll, ends, next, HasReferences, HasRoom, IsClear, IsOpen, IsVerdict, is_open, is_out, Verdicts, lacking, lacks, no_more, out, open_still, all_ranged, formats_of, inside, line_of, ranges_in, undefined_at, wants_reference}
 use Rattle.fn_reasons.specs.Figures.{figures_at}
 use Rattle.fn_lint.specs.Undefined.{first_undefined}
 use Rattle.fn_reasons.specs.Listing as listing
@@ -217,21 +217,31 @@ all_next s depth n old new more lt tells is so rest t = subst (λ z. TellAll s d
 pub all_end : (s : Setting) (depth n : ℕ) (lines : List Line) → formats_of s ≤ n → AllSoFar s depth n lines → TellAll s depth 0 lines
 all_end s depth n lines past so = subst (λ z. TellAll s depth 0 z) (append-nil lines) (so [] (ends past))
 
-pub verdict_out : (s : Setting) (n : ℕ) (old new more : List Line) → n < formats_of s → Tells s 0 n more → new ≡ old ++ more → listing.SoFar s n old → listing.SoFar s (n + 1) new
-verdict_out s n old new more lt tells is so rest t = subst (λ z. Verdicts s 0 z) (sym (append_assoc old more rest) ∙ ap (λ z. z ++ rest) (sym is)) (so (more ++ rest) (out lt tells t))
+pub verdict_out : (s : Setting) (n : ℕ) (old new more : List Line) → Tells s 0 n more → new ≡ old ++ more → listing.AddsVerdict s n old new
+verdict_out s n old new more tells is = (more, is_out tells, is)
 
-pub verdict_open : (s : Setting) (n : ℕ) (old new : List Line) (line : Line) → n < formats_of s → IsOpen s n → HasReferences s n → IsClear s n → line ≡ line_of s 0 n reason.Nothing → new ≡ old ++ line ∷ [] → listing.SoFar s n old → listing.SoFar s (n + 1) new
-verdict_open s n old new line lt free referred clear is are so rest t =
-    let made : Verdicts s n (line ∷ rest) = subst (λ z. Verdicts s n (z ∷ rest)) (sym is) (open_still lt free referred clear t) in
-    subst (λ z. Verdicts s 0 z) (sym (append_assoc old (line ∷ []) rest) ∙ ap (λ z. z ++ rest) (sym are)) (so (line ∷ rest) made)
+pub verdict_open : (s : Setting) (n : ℕ) (old new : List Line) (line : Line) → IsOpen s n → HasReferences s n → IsClear s n → line ≡ line_of s 0 n reason.Nothing → new ≡ old ++ line ∷ [] → listing.AddsVerdict s n old new
+verdict_open s n old new line free referred clear is are = (line_of s 0 n reason.Nothing ∷ [], is_open free referred clear, are ∙ ap (λ z. old ++ z ∷ []) is)
+
+one_verdict : (s : Setting) (n : ℕ) (lines rest : List Line) → n < formats_of s → IsVerdict s n lines → Verdicts s (n + 1) rest → Verdicts s n (lines ++ rest)
+one_verdict s n lines rest lt (is_out tells) t = out lt tells t
+one_verdict s n _ rest lt (is_open free referred clear) t = open_still lt free referred clear t
+
+pub verdict_next : (s : Setting) (n : ℕ) (old new : List Line) → n < formats_of s → listing.AddsVerdict s n old new → listing.SoFar s n old → listing.SoFar s (n + 1) new
+verdict_next s n old new lt adds so rest t =
+    subst (λ z. Verdicts s 0 z) (sym (append_assoc old adds.0 rest) ∙ ap (λ z. z ++ rest) (sym adds.2)) (so (adds.0 ++ rest) (one_verdict s n adds.0 rest lt adds.1 t))
+
+-- what is added to no lines
+pub verdict_alone : (s : Setting) (n : ℕ) (old new : List Line) → old ≡ [] → listing.AddsVerdict s n old new → IsVerdict s n new
+verdict_alone s n old new none adds = subst (IsVerdict s n) (sym (adds.2 ∙ ap (λ z. z ++ adds.0) none)) adds.1
 
 pub verdicts_end : (s : Setting) (n : ℕ) (lines : List Line) → formats_of s ≤ n → listing.SoFar s n lines → Verdicts s 0 lines
 verdicts_end s n lines past so = subst (λ z. Verdicts s 0 z) (append-nil lines) (so [] (no_more past))
 
 -- what stands without a look
-pub verdict_at_once : (s : Setting) (n : ℕ) (old new : List Line) (line : Line) (r : Reason) → n < formats_of s → Stands s n r → line ≡ line_of s 0 n r → new ≡ old ++ line ∷ [] → listing.SoFar s n old → listing.SoFar s (n + 1) new
-verdict_at_once s n old new line r lt stands is are so =
-    verdict_out s n old new (line ∷ []) lt (subst (λ z. Tells s 0 n (z ∷ [])) (sym is) (by_reason r stands)) are so
+pub verdict_at_once : (s : Setting) (n : ℕ) (old new : List Line) (line : Line) (r : Reason) → Stands s n r → line ≡ line_of s 0 n r → new ≡ old ++ line ∷ [] → listing.AddsVerdict s n old new
+verdict_at_once s n old new line r stands is are =
+    verdict_out s n old new (line ∷ []) (subst (λ z. Tells s 0 n (z ∷ [])) (sym is) (by_reason r stands)) are
 
 -- ---- references
 

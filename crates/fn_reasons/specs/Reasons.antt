@@ -188,3 +188,8 @@ pub data Verdicts (s : Setting) : ℕ → List Line → Type 0 where
   no_more : {n : ℕ} → formats_of s ≤ n → Verdicts s n []
   out : {n : ℕ} {first rest : List Line} → n < formats_of s → Tells s 0 n first → Verdicts s (n + 1) rest → Verdicts s n (first ++ rest)
   open_still : {n : ℕ} {rest : List Line} → n < formats_of s → IsOpen s n → HasReferences s n → IsClear s n → Verdicts s (n + 1) rest → Verdicts s n (line_of s 0 n reason.Nothing ∷ rest)
+
+-- What is told of one format: why no filling of it is asked for, or that nothing simple stands against it.
+pub data IsVerdict (s : Setting) (n : ℕ) : List Line → Type 0 where
+  is_out : {lines : List Line} → Tells s 0 n lines → IsVerdict s n lines
+  is_open : IsOpen s n → HasReferences s n → IsClear s n → IsVerdict s n (line_of s 0 n reason.Nothing ∷ [])

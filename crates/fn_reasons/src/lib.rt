@@ -5,7 +5,7 @@ pub use figures::Figure;
 pub use line::Line;
 pub use reason::{Reason, Within};
 pub use spot::Spot;
-pub use verdicts::reasons;
+pub use verdicts::{reasons, reasons_against};
 
 mod across;
 mod conflict;

@@ -39,16 +39,38 @@ use sqlite_items::Items;
 use std::alloc::{AllocError, Global};
 use std::slice::from_ref;
 
+/// How many fields and conditions of called methods are looked at, in equal shares for the formats.
+const EFFORT_LIMIT: usize = 1 << 16;
+
 /// For each format of the spot's method, in the order of the text, what stands against it: a line, or several where that is in the methods that a field calls, or
-/// that nothing is found. The error is want of memory.
+/// that nothing is found. What a look into called methods has not found within the format's share of the effort isn't told. The error is want of memory.
 pub fn reasons(alloc: Global, spot: &Spot<'_>) -> Result<Items<Line>, AllocError>
     ensures { IfOk result (spec.Verdicts (setting_of spot.now) 0) }
 {
     let mut lines = Items::new(alloc);
+    let share = share_of(spot);
     for format in 0..formats_of(spot) {
-        add_verdict(alloc, spot, format, &mut lines)?;
+        add_verdict(alloc, spot, format, share, &mut lines)?;
     }
     Ok(lines)
+}
+
+/// The same of one format. Past the formats of the method it is that nothing is found.
+pub fn reasons_against(
+    alloc: Global,
+    spot: &Spot<'_>,
+    format: usize,
+) -> Result<Items<Line>, AllocError>
+    ensures { IfOk result (spec.IsVerdict (setting_of spot.now) format) }
+{
+    let mut lines = Items::new(alloc);
+    add_verdict(alloc, spot, format, share_of(spot), &mut lines)?;
+    Ok(lines)
+}
+
+/// The share of the effort that each format of the method has.
+fn share_of(spot: &Spot<'_>) -> usize {
+    EFFORT_LIMIT / formats_of(spot).max(1)
 }
 
 /// How many formats the method has.
@@ -66,14 +88,14 @@ fn add_verdict(
     alloc: Global,
     spot: &Spot<'_>,
     format: usize,
+    share: usize,
     lines: &mut Items<Line>,
 ) -> Result<(), AllocError>
-    requires { format < spec.formats_of (setting_of spot.now) }
-    ensures { OnOk result (listing.SoFar (setting_of spot.now) format lines.old → listing.SoFar (setting_of spot.now) (format + 1) lines.new) }
+    ensures { OnOk result (listing.AddsVerdict (setting_of spot.now) format lines.old lines.new) }
 {
     match at_once(alloc, spot, format)? {
         Some(reason) => lines.push(line(spot, 0, format, reason)),
-        None => add_look(alloc, spot, format, lines),
+        None => add_look(alloc, spot, format, share, lines),
     }
 }
 
@@ -82,13 +104,14 @@ fn add_look(
     alloc: Global,
     spot: &Spot<'_>,
     format: usize,
+    share: usize,
     lines: &mut Items<Line>,
 ) -> Result<(), AllocError>
-    requires within { format < spec.formats_of (setting_of spot.now) }
-    requires is_open { spec.IsOpen (setting_of spot.now) format }
-    ensures { OnOk result (listing.SoFar (setting_of spot.now) format lines.old → listing.SoFar (setting_of spot.now) (format + 1) lines.new) }
+    requires { spec.IsOpen (setting_of spot.now) format }
+    ensures { OnOk result (listing.AddsVerdict (setting_of spot.now) format lines.old lines.new) }
 {
-    match told(DEPTH_LIMIT, alloc, spot, 0, format)? {
+    let mut effort = share;
+    match told(DEPTH_LIMIT, &mut effort, alloc, spot, 0, format)? {
         Some(more) => lines.append(more),
         None => add_rest(alloc, spot, format, lines),
     }
@@ -101,10 +124,9 @@ fn add_rest(
     format: usize,
     lines: &mut Items<Line>,
 ) -> Result<(), AllocError>
-    requires within { format < spec.formats_of (setting_of spot.now) }
     requires is_open { spec.IsOpen (setting_of spot.now) format }
     requires none { SeesNone (setting_of spot.now) format }
-    ensures { OnOk result (listing.SoFar (setting_of spot.now) format lines.old → listing.SoFar (setting_of spot.now) (format + 1) lines.new) }
+    ensures { OnOk result (listing.AddsVerdict (setting_of spot.now) format lines.old lines.new) }
 {
     match rest_at(alloc, spot, format)? {
         Some(reason) => lines.push(line(spot, 0, format, reason)),
@@ -137,6 +159,7 @@ fn line(spot: &Spot<'_>, depth: usize, format: usize, reason: Reason) -> Line
 #[cycle(telling)]
 fn told(
     left: usize,
+    effort: &mut usize,
     alloc: Global,
     spot: &Spot<'_>,
     depth: usize,
@@ -153,6 +176,7 @@ fn told(
     let Some(sizes) = sizes_of(spot.profile, spot.method, format) else {
         return Ok(None);
     };
+    spend(effort, found);
     let order = order_of(alloc, found, spot.side)?;
     let base = format_ranges(alloc, sizes, spot.parameters)?;
     let lengths = lengths(alloc, spot, found.fields.as_slice(), sizes, &base)?;
@@ -172,7 +196,15 @@ fn told(
         seen: &seen,
         ranges: &ranges,
     };
-    told_by(left, alloc, &sighted, depth)
+    told_by(left, effort, alloc, &sighted, depth)
+}
+
+/// Takes what a look at the format costs.
+fn spend(effort: &mut usize, format: &Format) {
+    *effort = effort
+        .saturating_sub(format.fields.len())
+        .saturating_sub(format.constraints.len())
+        .saturating_sub(1);
 }
 
 /// One line of this reason.
@@ -268,6 +300,7 @@ fn whole_side(
 #[cycle(telling)]
 fn told_by(
     left: usize,
+    effort: &mut usize,
     alloc: Global,
     sighted: &Sighted<'_>,
     depth: usize,
@@ -275,7 +308,7 @@ fn told_by(
     requires { IsSighted sighted.now }
     ensures { IfOk result (λ o. MatchOption o (SeesNone (setting_of sighted.now.look.spot) sighted.now.number) (spec.Tells (setting_of sighted.now.look.spot) depth sighted.now.number)) }
 {
-    match told_by_fields(left, alloc, sighted, depth)? {
+    match told_by_fields(left, effort, alloc, sighted, depth)? {
         Some(lines) => Ok(Some(lines)),
         None => told_by_condition(alloc, sighted, depth),
     }
@@ -285,6 +318,7 @@ fn told_by(
 #[cycle(telling)]
 fn told_by_fields(
     left: usize,
+    effort: &mut usize,
     alloc: Global,
     sighted: &Sighted<'_>,
     depth: usize,
@@ -293,13 +327,13 @@ fn told_by_fields(
     ensures { IfOk result (λ o. MatchOption o (AreClear sighted.now) (spec.Tells (setting_of sighted.now.look.spot) depth sighted.now.number)) }
 {
     for next in sighted.look.order {
-        if let Some(lines) = told_by_field(left, alloc, sighted, depth, *next)? {
+        if let Some(lines) = told_by_field(left, effort, alloc, sighted, depth, *next)? {
             return Ok(Some(lines));
         }
     }
     for index in 0..sighted.look.format.fields.len() {
         if !sighted.look.order.contains(&index) {
-            if let Some(lines) = told_by_field(left, alloc, sighted, depth, index)? {
+            if let Some(lines) = told_by_field(left, effort, alloc, sighted, depth, index)? {
                 return Ok(Some(lines));
             }
         }
@@ -426,6 +460,7 @@ fn told_by_argument(
 #[cycle(telling)]
 fn told_by_field(
     left: usize,
+    effort: &mut usize,
     alloc: Global,
     sighted: &Sighted<'_>,
     depth: usize,
@@ -438,7 +473,7 @@ fn told_by_field(
         return Ok(Some(lines));
     }
     match sighted.look.format.fields.get(index) {
-        Some(field) => told_by_encoding(left, alloc, sighted, depth, index, field),
+        Some(field) => told_by_encoding(left, effort, alloc, sighted, depth, index, field),
         None => Ok(None),
     }
 }
@@ -447,6 +482,7 @@ fn told_by_field(
 #[cycle(telling)]
 fn told_by_encoding(
     left: usize,
+    effort: &mut usize,
     alloc: Global,
     sighted: &Sighted<'_>,
     depth: usize,
@@ -465,6 +501,7 @@ fn told_by_encoding(
         if left > 0 {
             if let Some(lines) = told_by_call(
                 left - 1,
+                effort,
                 alloc,
                 sighted,
                 depth,
@@ -505,6 +542,7 @@ fn told_by_conflict(
 #[cycle(telling)]
 fn told_by_call(
     left: usize,
+    effort: &mut usize,
     alloc: Global,
     sighted: &Sighted<'_>,
     depth: usize,
@@ -543,7 +581,7 @@ fn told_by_call(
     let Some(deeper) = depth.checked_add(1) else {
         return Ok(None);
     };
-    let Some(more) = all_told(left, alloc, &inner, deeper)? else {
+    let Some(more) = all_told(left, effort, alloc, &inner, deeper)? else {
         return Ok(None);
     };
     let mut lines = Items::new(alloc);
@@ -557,10 +595,11 @@ fn told_by_call(
     Ok(Some(lines))
 }
 
-/// The lines that tell it of each format of the method, where something is found against each.
+/// The lines that tell it of each format of the method, where something is found against each before the effort ends.
 #[cycle(telling)]
 fn all_told(
     left: usize,
+    effort: &mut usize,
     alloc: Global,
     spot: &Spot<'_>,
     depth: usize,
@@ -569,7 +608,10 @@ fn all_told(
 {
     let mut lines = Items::new(alloc);
     for format in 0..formats_of(spot) {
-        let Some(more) = told(left, alloc, spot, depth, format)? else {
+        if *effort == 0 {
+            return Ok(None);
+        }
+        let Some(more) = told(left, effort, alloc, spot, depth, format)? else {
             return Ok(None);
         };
         lines.append(more)?;

@@ -37,8 +37,8 @@ impl<'a> Model for Places<'a> {
 }
 
 impl<'a> Places<'a> {
-    /// The places of these octets.
-    pub(crate) fn new(alloc: Global, octets: &'a [u8]) -> Result<Places<'a>, AllocError>
+    /// The places of these octets. The error is want of memory.
+    pub fn new(alloc: Global, octets: &'a [u8]) -> Result<Places<'a>, AllocError>
         ensures { IfOk result (λ p. p ≡ octets.now) }
     {
         let table = positions(alloc, octets)?;
@@ -46,7 +46,7 @@ impl<'a> Places<'a> {
     }
 
     /// The line and column of an octet. An offset past the end counts as the end.
-    pub(crate) fn position(&self, offset: usize) -> Position
+    pub fn position(&self, offset: usize) -> Position
         ensures line { result.line ≡ line_of self.now offset }
         ensures column { result.column ≡ column_of self.now offset }
     {

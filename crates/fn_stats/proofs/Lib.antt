@@ -1,7 +1,14 @@
 pub mod CountsAdding
 pub mod DepthInside
+pub mod NearingBest
+pub mod NearingShares
+pub mod NearingWindows
+pub mod StepsCounting
+pub mod StepsNumbers
 pub mod SumsGrowing
 pub mod SumsLaws
 pub mod SumsPlacing
 pub mod SumsReaching
 pub mod SumsRolled
+pub mod TrendsGrowing
+pub mod ValuesCounting

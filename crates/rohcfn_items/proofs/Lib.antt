@@ -2,3 +2,5 @@ pub mod BitTextsSpelled
 pub mod FieldsListed
 pub mod LossNumbers
 pub mod StatsInside
+pub mod AvoidedBlocks
+pub mod WhyLines

@@ -2,8 +2,10 @@ pub mod BitTexts
 pub mod Fields
 pub mod Stats
 pub mod StatsSteps
+pub mod Advise
 pub mod Asked
 pub mod Why
 pub mod Step
 pub mod Loss
 pub mod Reach
+pub mod Avoided

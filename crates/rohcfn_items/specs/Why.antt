@@ -1,5 +1,5 @@
--- What `why` prints of the reasons that stand against formats: a line for each (docs/FORMATS.md).
-use Rattle.std.specs.Prelude.{ℕ, List, ◌++◌, Option, Some, None, codes, decimal, flat_map, replicate, slice_get, string_bytes}
+-- What `why` prints of the reasons that stand against formats: a line for each, up to 4,096 (docs/FORMATS.md).
+use Rattle.std.specs.Prelude.{ℕ, Bool, true, false, List, [], ◌++◌, length, take, nat_lt, Option, Some, None, codes, decimal, flat_map, replicate, slice_get, string_bytes}
 use Rattle.std.specs.Fmt.{signed_decimal}
 use Rattle.std.specs.Option.{option_and_then, unwrap_or}
 use Rattle.fn_source.specs.declared.span.Span.{Span}
@@ -123,6 +123,14 @@ reason_line octets p asked l =
     reason_text (line_of octets (reason_place p.methods l.method l.format l.reason).from) (column_of octets (reason_place p.methods l.method l.format l.reason).from) (indent l.depth)
     (method_name p.methods l.method) (format_name p.methods l.method l.format) (line_words p asked l)
 
--- each after a line feed
+abbrev pub lines_text : List ℕ → Resolved → List AskedValue → List Line → List ℕ
+lines_text octets p asked lines = flat_map (reason_line octets p asked) lines
+
+-- that there are more, where there are
+abbrev pub rest_text : Bool → List ℕ
+rest_text true = codes "\nmore stands against these formats, and only 4096 lines are told"
+rest_text false = []
+
+-- 4,096 lines at most, each after a line feed
 abbrev pub reasons_text : List ℕ → Resolved → List AskedValue → List Line → List ℕ
-reasons_text octets p asked lines = flat_map (reason_line octets p asked) lines
+reasons_text octets p asked lines = lines_text octets p asked (take 4096 lines) ++ rest_text (nat_lt 4096 (length lines))

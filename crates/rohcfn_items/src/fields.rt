@@ -148,7 +148,7 @@ fn format_of(inner: &Option<Filling>) -> Option<usize>
     }
 }
 
-fn part_word(part: Part) -> &'static str
+pub(crate) fn part_word(part: Part) -> &'static str
     ensures { result.now ≡ spec.part_word part }
 {
     match part {

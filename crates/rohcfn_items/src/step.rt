@@ -84,7 +84,7 @@ fn nearest(all: u128, ahead: u128) -> i128
 
 /// How many numbers so many bits spell.
 #[tactic(auto, using(crate::proofs::LossNumbers::few, crate::proofs::LossNumbers::some))]
-fn power(count: usize) -> u128
+pub(crate) fn power(count: usize) -> u128
     requires { count ≤ 64 }
     ensures value { result ≡ 2 ^ count }
     ensures some { 1 ≤ result }

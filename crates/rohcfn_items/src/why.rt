@@ -17,15 +17,19 @@ use fn_lint::{DeadFormat, Obstacle};
 use fn_normal::{Constraint, Method, Name};
 use fn_profile::Profile;
 use fn_reasons::{Figure, Line, Reason};
-use fn_source::{Span, line_column};
+use fn_show::Places;
+use fn_source::Span;
 use itoa::Buffer;
 use rohcfn_names::names::{constraints_at, field_name, format_name, method_name, method_place};
 use rohcfn_names::obstacles::{bracket_or, obstacle_words, place_of};
 use rohcfn_names::table::push_blanks;
 use std::alloc::{AllocError, Global};
 
+/// How many lines are told at most.
+const LINE_LIMIT: usize = 4096;
+
 /// Adds a line for each, after a line feed: where in the profile it stands, the method and the format, and what stands against that, after the asked values by which
-/// it goes. Each method that a field calls stands two blanks further in.
+/// it goes. Each method that a field calls stands two blanks further in. Where there are more than 4,096, the others are left out, and a line says so.
 pub fn push_reasons(
     alloc: Global,
     output: &mut String,
@@ -36,8 +40,35 @@ pub fn push_reasons(
 ) -> Result<(), AllocError>
     ensures { OnOk result (string_bytes output.new ≡ string_bytes output.old ++ spec.reasons_text octets.now profile.now asked.now lines.now) }
 {
+    let places = Places::new(alloc, octets)?;
+    let end = LINE_LIMIT.min(lines.len());
+    push_lines(alloc, output, &places, profile, asked, &lines[..end])?;
+    push_rest(output, lines.len() > LINE_LIMIT)
+}
+
+/// Adds a line for each of them.
+fn push_lines(
+    alloc: Global,
+    output: &mut String,
+    places: &Places<'_>,
+    profile: &Profile,
+    asked: &[AskedValue],
+    lines: &[Line],
+) -> Result<(), AllocError>
+    ensures { OnOk result (string_bytes output.new ≡ string_bytes output.old ++ spec.lines_text places.now profile.now asked.now lines.now) }
+{
     for line in lines {
-        push_reason(alloc, output, octets, profile, asked, line)?;
+        push_reason(alloc, output, places, profile, asked, line)?;
+    }
+    Ok(())
+}
+
+/// Adds that there are more, where there are.
+fn push_rest(output: &mut String, are_more: bool) -> Result<(), AllocError>
+    ensures { OnOk result (string_bytes output.new ≡ string_bytes output.old ++ spec.rest_text are_more) }
+{
+    if are_more {
+        output.push_str("\nmore stands against these formats, and only 4096 lines are told")?;
     }
     Ok(())
 }
@@ -46,30 +77,30 @@ pub fn push_reasons(
 fn push_reason(
     alloc: Global,
     output: &mut String,
-    octets: &[u8],
+    places: &Places<'_>,
     profile: &Profile,
     asked: &[AskedValue],
     line: &Line,
 ) -> Result<(), AllocError>
-    ensures { OnOk result (string_bytes output.new ≡ string_bytes output.old ++ spec.reason_line octets.now profile.now asked.now line.now) }
+    ensures { OnOk result (string_bytes output.new ≡ string_bytes output.old ++ spec.reason_line places.now profile.now asked.now line.now) }
 {
-    let text = reason_line(alloc, octets, profile, asked, line)?;
+    let text = reason_line(alloc, places, profile, asked, line)?;
     output.push_str(text.as_str())
 }
 
 fn reason_line(
     alloc: Global,
-    octets: &[u8],
+    places: &Places<'_>,
     profile: &Profile,
     asked: &[AskedValue],
     line: &Line,
 ) -> Result<String, AllocError>
-    ensures { IfOk result (λ text. string_bytes text ≡ spec.reason_line octets.now profile.now asked.now line.now) }
+    ensures { IfOk result (λ text. string_bytes text ≡ spec.reason_line places.now profile.now asked.now line.now) }
 {
     let methods = profile.methods();
     let (method, format) = (line.method, line.format);
     let at = reason_place(methods, method, format, &line.reason);
-    let place = line_column(octets, at.from as usize);
+    let place = places.position(at.from as usize);
     let blanks = indent(alloc, line.depth)?;
     let words = line_words(alloc, profile, asked, line)?;
     reason_text(

@@ -17,13 +17,14 @@ use Rattle.rohcfn_report.specs.ProfileLines.{IsFaultLine}
 use Rattle.rohcfn_report.specs.Surveys.{LintedBy, LintedIn, Lints, LintsBy, by_form, linted, no_context, no_lint, DrawnBy, Draws, drawn_by, no_drawing}
 use Rattle.rohcfn_survey.specs.Draw.{DrawsProfile, drawn}
 use Rattle.rohcfn_survey.specs.Lint.{LintsProfile, lint_text}
+use Rattle.rohcfn_survey.specs.Meant.{silenced}
 
 -- ---- in a context
 
 pub linted_from : (octets : List ℕ) (p : Resolved) (context : Option (Bor (List ℕ))) (ctx : Entries) (r : Result Answer AllocError) → StartsAt context ctx → IfOk r (LintsProfile octets p ctx) → IfOk r (LintsBy octets p context)
 linted_from octets p context ctx (Err e) starts k = tt
 linted_from octets p context ctx (Ok a) starts k =
-    subst (λ out. LintedIn octets p context a.status out) (sym k.5) (subst (λ s. LintedIn octets p context s (lint_text octets p k.0 ++ k.3)) (sym k.2) (linted ctx k.0 k.3 starts k.1 k.4))
+    subst (λ out. LintedIn octets p context a.status out) (sym k.5) (subst (λ s. LintedIn octets p context s (silenced octets (lint_text octets p k.0 ++ k.3))) (sym k.2) (linted ctx k.0 k.3 starts k.1 k.4))
 
 context_bad : (octets : List ℕ) (p : Resolved) (context given : Option (Bor (List ℕ))) (n : ℕ) → context ≡ given → BlamesContext (bad.Number n) given → LintedIn octets p context status.Refused (context_line n ++ 10 ∷ [])
 context_bad octets p context None n is h = absurd h

@@ -15,15 +15,16 @@ use Rattle.rohcfn_input.specs.Refusals.{Holds, context_line}
 use Rattle.rohcfn_report.specs.ProfileLines.{IsFaultLine}
 use Rattle.rohcfn_survey.specs.Draw.{drawn}
 use Rattle.rohcfn_survey.specs.Lint.{lint_text}
+use Rattle.rohcfn_survey.specs.Meant.{silenced}
 use Rattle.rohcfn_survey.specs.Warnings.{AreWarnings}
 
 -- What is answered to `lint` of a normal form, by the part of the context.
 pub data LintedIn (octets : List ℕ) (p : Resolved) (context : Option (Bor (List ℕ))) : Status → List ℕ → Type 0 where
   -- a line of the context can't be read
   no_context : (given : Bor (List ℕ)) (n : ℕ) → context ≡ Some given → IsBadContext given.now n → LintedIn octets p context status.Refused (context_line n ++ 10 ∷ [])
-  -- the formats by which nothing can be packed, and below them warnings for a flow that begins with that context
+  -- the formats by which nothing can be packed, and below them warnings for a flow that begins with that context, but for those that are meant
   linted : (ctx : Entries) (found : List DeadFormat) (warnings : List ℕ) → StartsAt context ctx → AreDead p 0 0 found → AreWarnings octets p (keys_of ctx) warnings
-      → LintedIn octets p context status.Done (lint_text octets p found ++ warnings)
+      → LintedIn octets p context status.Done (silenced octets (lint_text octets p found ++ warnings))
 
 abbrev pub LintsBy : List ℕ → Resolved → Option (Bor (List ℕ)) → Answer → Type 0
 LintsBy octets p context = Holds (LintedIn octets p context)

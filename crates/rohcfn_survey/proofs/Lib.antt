@@ -1,2 +1,3 @@
 pub mod DrawLemmas
 pub mod WarningsLemmas
+pub mod MeantLines

@@ -1,3 +1,4 @@
 pub mod Draw
 pub mod Lint
 pub mod Warnings
+pub mod Meant

@@ -10,6 +10,7 @@ use Rattle.rohcfn_input.specs.declared.status.Answer.{Answer}
 use Rattle.rohcfn_input.specs.declared.status.Status.TheVariants as status
 use Rattle.rohcfn_names.specs.Names.{format_name, method_name}
 use Rattle.rohcfn_names.specs.Obstacles.{obstacle_words, place_of}
+use Rattle.rohcfn_survey.specs.Meant.{silenced}
 use Rattle.rohcfn_survey.specs.Warnings.{AreWarnings}
 
 -- a line and a column of the profile, the method and the format, and what keeps every filling from it
@@ -25,7 +26,7 @@ lint_line octets p d =
 abbrev pub lint_text : List ℕ → Resolved → List DeadFormat → List ℕ
 lint_text octets p found = flat_map (lint_line octets p) found
 
--- the formats of a profile by which nothing can be packed, and warnings for a flow that begins with that context
+-- the formats of a profile by which nothing can be packed, and warnings for a flow that begins with that context, but for those that are meant
 abbrev pub LintsProfile : List ℕ → Resolved → Entries → Answer → Type 0
 LintsProfile octets p ctx a =
-    (found : List DeadFormat) × AreDead p 0 0 found × (a.status ≡ status.Done) × (warnings : List ℕ) × AreWarnings octets p (keys_of ctx) warnings × (string_bytes a.output ≡ lint_text octets p found ++ warnings)
+    (found : List DeadFormat) × AreDead p 0 0 found × (a.status ≡ status.Done) × (warnings : List ℕ) × AreWarnings octets p (keys_of ctx) warnings × (string_bytes a.output ≡ silenced octets (lint_text octets p found ++ warnings))

@@ -3,4 +3,5 @@
 
 pub mod draw;
 pub mod lint;
+mod meant;
 mod warnings;

@@ -3,19 +3,20 @@
 ghost use Rattle.std.specs.Prelude.{◌≡◌, ◌++◌, IfOk, OnOk, string_bytes};
 ghost use Rattle.rohcfn_survey.specs.Lint as spec;
 
+use crate::meant::silenced;
 use crate::warnings::warnings;
 use fn_context::Context;
 use fn_lint::{DeadFormat, dead_formats};
 use fn_profile::Profile;
-use fn_source::line_column;
+use fn_show::Places;
 use rohcfn_input::status::{Answer, Status};
 use rohcfn_names::names::{format_name, method_name};
 use rohcfn_names::obstacles::{obstacle_words, place_of};
 use std::alloc::{AllocError, Global};
 
 /// A line for each format of the profile by which no header can ever be packed, whatever the context holds: where in the profile the reason stands, and what it is.
-/// Below them stand warnings: what the rules of fn_lint find, and methods with too many candidates. The octets are those of the profile's text. A flow
-/// begins with the context. It fails only where memory is refused.
+/// Below them stand warnings: what the rules of fn_lint find, and methods with too many candidates. Lines of the text that end with a comment silence what is told of
+/// them. The octets are those of the profile's text. A flow begins with the context. It fails only where memory is refused.
 pub fn lint_profile(
     alloc: Global,
     octets: &[u8],
@@ -25,15 +26,16 @@ pub fn lint_profile(
     ensures { IfOk result (spec.LintsProfile octets.now profile.now context.now) }
 {
     let found = dead_formats(alloc, profile)?;
+    let places = Places::new(alloc, octets)?;
     let mut output = String::new(alloc);
     for dead in found.as_slice() {
-        push_line(alloc, &mut output, octets, profile, *dead)?;
+        push_line(alloc, &mut output, &places, profile, *dead)?;
     }
-    let warnings = warnings(alloc, octets, profile, context)?;
+    let warnings = warnings(alloc, &places, profile, context)?;
     output.push_str(warnings.as_str())?;
     Ok(Answer {
         status: Status::Done,
-        output,
+        output: silenced(alloc, octets, output.as_str())?,
     })
 }
 
@@ -41,15 +43,15 @@ pub fn lint_profile(
 fn push_line(
     alloc: Global,
     output: &mut String,
-    octets: &[u8],
+    places: &Places<'_>,
     profile: &Profile,
     dead: DeadFormat,
 ) -> Result<(), AllocError>
-    ensures { OnOk result (string_bytes output.new ≡ string_bytes output.old ++ spec.lint_line octets.now profile.now dead) }
+    ensures { OnOk result (string_bytes output.new ≡ string_bytes output.old ++ spec.lint_line places.now profile.now dead) }
 {
     let words = obstacle_words(alloc, profile, dead.method, dead.format, dead.obstacle)?;
     let methods = profile.methods();
-    let place = line_column(octets, place_of(methods, dead).from as usize);
+    let place = places.position(place_of(methods, dead).from as usize);
     let line = line_text(
         alloc,
         place.line,

@@ -13,7 +13,7 @@ use fn_lint::{
 use fn_normal::{Format, Method};
 use fn_profile::Profile;
 use fn_prover::{Unproved, prove};
-use fn_source::line_column;
+use fn_show::Places;
 use rohcfn_names::candidates::{
     Counts, Factor, count_all, factors, format_count, method_count, write_steps,
 };
@@ -26,11 +26,11 @@ use std::alloc::{AllocError, Global};
 /// context that no format has.
 pub(crate) fn warnings(
     alloc: Global,
-    octets: &[u8],
+    places: &Places<'_>,
     profile: &Profile,
     context: &Context,
 ) -> Result<String, AllocError>
-    ensures { IfOk result (λ text. spec.AreWarnings octets.now profile.now (keys_of context.now) (string_bytes text)) }
+    ensures { IfOk result (λ text. spec.AreWarnings places.now profile.now (keys_of context.now) (string_bytes text)) }
 {
     let methods = profile.methods();
     let given = paths_of(alloc, context)?;
@@ -38,11 +38,11 @@ pub(crate) fn warnings(
     let misspelled = misspelled_names(alloc, methods)?;
     let unnoticed = unnoticed_formats(alloc, profile)?;
     let unlike = unlike_calls(alloc, methods)?;
-    let candidates = candidate_lines(alloc, octets, profile)?;
+    let candidates = candidate_lines(alloc, places, profile)?;
     let unknown = unknown_paths(alloc, profile, given.as_slice())?;
     all_lines(
         alloc,
-        octets,
+        places,
         methods,
         needing.as_slice(),
         misspelled.as_slice(),
@@ -55,7 +55,7 @@ pub(crate) fn warnings(
 
 fn all_lines(
     alloc: Global,
-    octets: &[u8],
+    places: &Places<'_>,
     methods: &[Method],
     needing: &[Needing],
     misspelled: &[Misspelled],
@@ -64,13 +64,13 @@ fn all_lines(
     candidates: &str,
     unknown: &[&str],
 ) -> Result<String, AllocError>
-    ensures { IfOk result (λ text. string_bytes text ≡ spec.warning_lines octets.now methods.now needing.now misspelled.now unnoticed.now unlike.now candidates.now (map (λ p. p.now) unknown.now)) }
+    ensures { IfOk result (λ text. string_bytes text ≡ spec.warning_lines places.now methods.now needing.now misspelled.now unnoticed.now unlike.now candidates.now (map (λ p. p.now) unknown.now)) }
 {
     let mut text = String::new(alloc);
-    push_all_needing(alloc, &mut text, octets, methods, needing)?;
-    push_all_misspelled(alloc, &mut text, octets, methods, misspelled)?;
-    push_all_unnoticed(alloc, &mut text, octets, methods, unnoticed)?;
-    push_all_unlike(alloc, &mut text, octets, methods, unlike)?;
+    push_all_needing(alloc, &mut text, places, methods, needing)?;
+    push_all_misspelled(alloc, &mut text, places, methods, misspelled)?;
+    push_all_unnoticed(alloc, &mut text, places, methods, unnoticed)?;
+    push_all_unlike(alloc, &mut text, places, methods, unlike)?;
     text.push_str(candidates)?;
     push_all_unknown(alloc, &mut text, unknown)?;
     Ok(text)
@@ -94,13 +94,13 @@ fn paths_of(alloc: Global, context: &Context) -> Result<Items<&str>, AllocError>
 /// `LINE:COLUMN: warning METHOD`, at the place of the method's name.
 fn method_head(
     alloc: Global,
-    octets: &[u8],
+    places: &Places<'_>,
     methods: &[Method],
     method: usize,
 ) -> Result<String, AllocError>
-    ensures { IfOk result (λ text. string_bytes text ≡ spec.method_head octets.now methods.now method) }
+    ensures { IfOk result (λ text. string_bytes text ≡ spec.method_head places.now methods.now method) }
 {
-    let place = line_column(octets, method_place(methods, method).from as usize);
+    let place = places.position(method_place(methods, method).from as usize);
     head_words(
         alloc,
         place.line,
@@ -118,14 +118,14 @@ fn head_words(alloc: Global, line: usize, column: usize, method: &str) -> Result
 /// `LINE:COLUMN: warning METHOD.FORMAT`, at the place of the method's name.
 fn format_head(
     alloc: Global,
-    octets: &[u8],
+    places: &Places<'_>,
     methods: &[Method],
     method: usize,
     format: usize,
 ) -> Result<String, AllocError>
-    ensures { IfOk result (λ text. string_bytes text ≡ spec.format_head octets.now methods.now method format) }
+    ensures { IfOk result (λ text. string_bytes text ≡ spec.format_head places.now methods.now method format) }
 {
-    let mut text = method_head(alloc, octets, methods, method)?;
+    let mut text = method_head(alloc, places, methods, method)?;
     push_format_name(&mut text, format_name(methods, method, format))?;
     Ok(text)
 }
@@ -142,14 +142,14 @@ fn push_format_name(text: &mut String, name: &str) -> Result<(), AllocError>
 fn push_all_needing(
     alloc: Global,
     text: &mut String,
-    octets: &[u8],
+    places: &Places<'_>,
     methods: &[Method],
     found: &[Needing],
 ) -> Result<(), AllocError>
-    ensures { OnOk result (string_bytes text.new ≡ string_bytes text.old ++ spec.needing_lines octets.now methods.now found.now) }
+    ensures { OnOk result (string_bytes text.new ≡ string_bytes text.old ++ spec.needing_lines places.now methods.now found.now) }
 {
     for needing in found {
-        push_needing(alloc, text, octets, methods, needing)?;
+        push_needing(alloc, text, places, methods, needing)?;
     }
     Ok(())
 }
@@ -157,13 +157,13 @@ fn push_all_needing(
 fn push_needing(
     alloc: Global,
     text: &mut String,
-    octets: &[u8],
+    places: &Places<'_>,
     methods: &[Method],
     needing: &Needing,
 ) -> Result<(), AllocError>
-    ensures { OnOk result (string_bytes text.new ≡ string_bytes text.old ++ spec.needing_line octets.now methods.now needing.now) }
+    ensures { OnOk result (string_bytes text.new ≡ string_bytes text.old ++ spec.needing_line places.now methods.now needing.now) }
 {
-    let head = format_head(alloc, octets, methods, needing.method, needing.format)?;
+    let head = format_head(alloc, places, methods, needing.method, needing.format)?;
     let line = needing_words(alloc, head.as_str(), needing.path.as_str())?;
     text.push_str(line.as_str())
 }
@@ -179,14 +179,14 @@ fn needing_words(alloc: Global, head: &str, path: &str) -> Result<String, AllocE
 fn push_all_misspelled(
     alloc: Global,
     text: &mut String,
-    octets: &[u8],
+    places: &Places<'_>,
     methods: &[Method],
     found: &[Misspelled],
 ) -> Result<(), AllocError>
-    ensures { OnOk result (string_bytes text.new ≡ string_bytes text.old ++ spec.misspelled_lines octets.now methods.now found.now) }
+    ensures { OnOk result (string_bytes text.new ≡ string_bytes text.old ++ spec.misspelled_lines places.now methods.now found.now) }
 {
     for name in found {
-        push_misspelled(alloc, text, octets, methods, *name)?;
+        push_misspelled(alloc, text, places, methods, *name)?;
     }
     Ok(())
 }
@@ -194,13 +194,13 @@ fn push_all_misspelled(
 fn push_misspelled(
     alloc: Global,
     text: &mut String,
-    octets: &[u8],
+    places: &Places<'_>,
     methods: &[Method],
     name: Misspelled,
 ) -> Result<(), AllocError>
-    ensures { OnOk result (string_bytes text.new ≡ string_bytes text.old ++ spec.misspelled_line octets.now methods.now name) }
+    ensures { OnOk result (string_bytes text.new ≡ string_bytes text.old ++ spec.misspelled_line places.now methods.now name) }
 {
-    let head = format_head(alloc, octets, methods, name.method, name.format)?;
+    let head = format_head(alloc, places, methods, name.method, name.format)?;
     let line = misspelled_words(
         alloc,
         head.as_str(),
@@ -226,14 +226,14 @@ fn misspelled_words(
 fn push_all_unnoticed(
     alloc: Global,
     text: &mut String,
-    octets: &[u8],
+    places: &Places<'_>,
     methods: &[Method],
     found: &[Unnoticed],
 ) -> Result<(), AllocError>
-    ensures { OnOk result (string_bytes text.new ≡ string_bytes text.old ++ spec.unnoticed_lines octets.now methods.now found.now) }
+    ensures { OnOk result (string_bytes text.new ≡ string_bytes text.old ++ spec.unnoticed_lines places.now methods.now found.now) }
 {
     for format in found {
-        push_unnoticed(alloc, text, octets, methods, *format)?;
+        push_unnoticed(alloc, text, places, methods, *format)?;
     }
     Ok(())
 }
@@ -241,13 +241,13 @@ fn push_all_unnoticed(
 fn push_unnoticed(
     alloc: Global,
     text: &mut String,
-    octets: &[u8],
+    places: &Places<'_>,
     methods: &[Method],
     found: Unnoticed,
 ) -> Result<(), AllocError>
-    ensures { OnOk result (string_bytes text.new ≡ string_bytes text.old ++ spec.unnoticed_line octets.now methods.now found) }
+    ensures { OnOk result (string_bytes text.new ≡ string_bytes text.old ++ spec.unnoticed_line places.now methods.now found) }
 {
-    let head = format_head(alloc, octets, methods, found.method, found.format)?;
+    let head = format_head(alloc, places, methods, found.method, found.format)?;
     let line = unnoticed_words(alloc, head.as_str())?;
     text.push_str(line.as_str())
 }
@@ -261,14 +261,14 @@ fn unnoticed_words(alloc: Global, head: &str) -> Result<String, AllocError>
 fn push_all_unlike(
     alloc: Global,
     text: &mut String,
-    octets: &[u8],
+    places: &Places<'_>,
     methods: &[Method],
     found: &[UnlikeCall],
 ) -> Result<(), AllocError>
-    ensures { OnOk result (string_bytes text.new ≡ string_bytes text.old ++ spec.unlike_lines octets.now methods.now found.now) }
+    ensures { OnOk result (string_bytes text.new ≡ string_bytes text.old ++ spec.unlike_lines places.now methods.now found.now) }
 {
     for call in found {
-        push_unlike(alloc, text, octets, methods, *call)?;
+        push_unlike(alloc, text, places, methods, *call)?;
     }
     Ok(())
 }
@@ -276,13 +276,13 @@ fn push_all_unlike(
 fn push_unlike(
     alloc: Global,
     text: &mut String,
-    octets: &[u8],
+    places: &Places<'_>,
     methods: &[Method],
     call: UnlikeCall,
 ) -> Result<(), AllocError>
-    ensures { OnOk result (string_bytes text.new ≡ string_bytes text.old ++ spec.unlike_line octets.now methods.now call) }
+    ensures { OnOk result (string_bytes text.new ≡ string_bytes text.old ++ spec.unlike_line places.now methods.now call) }
 {
-    let head = method_head(alloc, octets, methods, call.method)?;
+    let head = method_head(alloc, places, methods, call.method)?;
     let line = unlike_words(
         alloc,
         head.as_str(),
@@ -326,11 +326,15 @@ fn unknown_words(alloc: Global, path: &str) -> Result<String, AllocError>
 
 /// A line for each method that has more candidates than the limit by the certificate that the prover makes, and below it one for each of its formats. No lines, where the
 /// prover makes none.
-fn candidate_lines(alloc: Global, octets: &[u8], profile: &Profile) -> Result<String, AllocError>
-    ensures { IfOk result (λ text. spec.AreCandidates octets.now profile.now (string_bytes text)) }
+fn candidate_lines(
+    alloc: Global,
+    places: &Places<'_>,
+    profile: &Profile,
+) -> Result<String, AllocError>
+    ensures { IfOk result (λ text. spec.AreCandidates places.now profile.now (string_bytes text)) }
 {
     match prove(alloc, profile, Version::One) {
-        Ok(certificate) => counted_lines(alloc, octets, profile, &certificate),
+        Ok(certificate) => counted_lines(alloc, places, profile, &certificate),
         Err(unproved) => no_lines(alloc, unproved),
     }
 }
@@ -349,18 +353,18 @@ fn no_lines(alloc: Global, unproved: Unproved) -> Result<String, AllocError>
 
 fn counted_lines(
     alloc: Global,
-    octets: &[u8],
+    places: &Places<'_>,
     profile: &Profile,
     certificate: &Certificate,
 ) -> Result<String, AllocError>
-    ensures { IfOk result (λ text. spec.AreCountedLines octets.now profile.now certificate.now.methods (string_bytes text)) }
+    ensures { IfOk result (λ text. spec.AreCountedLines places.now profile.now certificate.now.methods (string_bytes text)) }
 {
     let counts = count_all(alloc, profile, certificate)?;
     let mut text = String::new(alloc);
     push_all_crowded(
         alloc,
         &mut text,
-        octets,
+        places,
         profile.methods(),
         certificate.methods(),
         &counts,
@@ -371,15 +375,15 @@ fn counted_lines(
 fn push_all_crowded(
     alloc: Global,
     text: &mut String,
-    octets: &[u8],
+    places: &Places<'_>,
     methods: &[Method],
     entries: &[Option<MethodPlans>],
     counts: &Counts,
 ) -> Result<(), AllocError>
-    ensures { OnOk result (string_bytes text.new ≡ string_bytes text.old ++ spec.candidates_text octets.now methods.now entries.now counts.now) }
+    ensures { OnOk result (string_bytes text.new ≡ string_bytes text.old ++ spec.candidates_text places.now methods.now entries.now counts.now) }
 {
     for (index, method) in methods.iter().enumerate() {
-        push_crowded(alloc, text, octets, methods, entries, counts, index, method)?;
+        push_crowded(alloc, text, places, methods, entries, counts, index, method)?;
     }
     Ok(())
 }
@@ -388,27 +392,27 @@ fn push_all_crowded(
 fn push_crowded(
     alloc: Global,
     text: &mut String,
-    octets: &[u8],
+    places: &Places<'_>,
     methods: &[Method],
     entries: &[Option<MethodPlans>],
     counts: &Counts,
     index: usize,
     method: &Method,
 ) -> Result<(), AllocError>
-    ensures { OnOk result (string_bytes text.new ≡ string_bytes text.old ++ spec.crowded_lines octets.now methods.now entries.now counts.now index method.now) }
+    ensures { OnOk result (string_bytes text.new ≡ string_bytes text.old ++ spec.crowded_lines places.now methods.now entries.now counts.now index method.now) }
 {
     let count = method_count(counts, index);
     if count <= CANDIDATE_LIMIT {
         return Ok(());
     }
-    let head = method_head(alloc, octets, methods, index)?;
+    let head = method_head(alloc, places, methods, index)?;
     let shown = count_text(alloc, count)?;
     let line = crowded_words(alloc, head.as_str(), shown.as_str())?;
     text.push_str(line.as_str())?;
     push_all_ways(
         alloc,
         text,
-        octets,
+        places,
         methods,
         entries,
         counts,
@@ -442,18 +446,18 @@ fn crowded_words(alloc: Global, head: &str, count: &str) -> Result<String, Alloc
 fn push_all_ways(
     alloc: Global,
     text: &mut String,
-    octets: &[u8],
+    places: &Places<'_>,
     methods: &[Method],
     entries: &[Option<MethodPlans>],
     counts: &Counts,
     method: usize,
     formats: &[Format],
 ) -> Result<(), AllocError>
-    ensures { OnOk result (string_bytes text.new ≡ string_bytes text.old ++ spec.ways_lines octets.now methods.now entries.now counts.now method formats.now) }
+    ensures { OnOk result (string_bytes text.new ≡ string_bytes text.old ++ spec.ways_lines places.now methods.now entries.now counts.now method formats.now) }
 {
     for (index, format) in formats.iter().enumerate() {
         push_ways(
-            alloc, text, octets, methods, entries, counts, method, index, format,
+            alloc, text, places, methods, entries, counts, method, index, format,
         )?;
     }
     Ok(())
@@ -463,7 +467,7 @@ fn push_all_ways(
 fn push_ways(
     alloc: Global,
     text: &mut String,
-    octets: &[u8],
+    places: &Places<'_>,
     methods: &[Method],
     entries: &[Option<MethodPlans>],
     counts: &Counts,
@@ -471,11 +475,11 @@ fn push_ways(
     index: usize,
     format: &Format,
 ) -> Result<(), AllocError>
-    ensures { OnOk result (string_bytes text.new ≡ string_bytes text.old ++ spec.ways_line octets.now methods.now entries.now counts.now method index format.now) }
+    ensures { OnOk result (string_bytes text.new ≡ string_bytes text.old ++ spec.ways_line places.now methods.now entries.now counts.now method index format.now) }
 {
     let steps = write_steps(entries, method, index);
     let found = factors(alloc, counts.methods.as_slice(), format, steps)?;
-    let head = format_head(alloc, octets, methods, method, index)?;
+    let head = format_head(alloc, places, methods, method, index)?;
     let words = factors_text(alloc, methods, method, index, found.as_slice())?;
     let count = format_count(counts, method, index);
     let shown = count_text(alloc, count)?;

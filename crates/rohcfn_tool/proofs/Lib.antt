@@ -12,3 +12,5 @@ pub mod PrintedTallying
 pub mod Losing
 pub mod SenderLemmas
 pub mod SendingLines
+pub mod AvoidingLemmas
+pub mod PrintedAdvising

@@ -1,5 +1,5 @@
 -- What is printed goes with a run that is done or refused; and what a run does to the known bytes of its writer.
-use Rattle.std.proofs.Common.{◌≡◌, ◌∙◌, ℕ, zero, suc, ◌+◌, ◌<◌, Bool, List, [], ◌∷◌, ◌++◌, Option, None, Some, refl, sym, subst, inr, length, string_bytes, Bor, arith}
+use Rattle.std.proofs.Common.{◌≡◌, if◌then◌else◌, ◌==◌, ◌||◌, ◌&&◌, not, false, true, ◌∙◌, ℕ, zero, suc, ◌+◌, ◌<◌, Bool, List, [], ◌∷◌, ◌++◌, Option, None, Some, refl, sym, subst, inr, length, string_bytes, Bor, arith}
 use Rattle.std.specs.Prelude.{Result, Ok, IfOk, IfSome, String}
 use Rattle.std.specs.Global.{Global}
 use Rattle.std.specs.Io.KnownBytes.{Appends, Keeps}
@@ -39,19 +39,26 @@ use Rattle.rohcfn_words.specs.declared.words.Direction.TheVariants.{Pack, Unpack
 use Rattle.rohcfn_words.specs.declared.words.End.{End}
 use Rattle.rohcfn_words.specs.declared.words.End.TheVariants.{Sending, Receiving}
 use Rattle.rohcfn_words.specs.declared.words.Order.{Order}
-use Rattle.rohcfn_tool.specs.Printed.{Prints, PrintsInput, AnsweredIn, AnsweredFor, AnsweredBy, AnsweredRun, Answered, SentBy, StatsBy, SurveyBy, StatsIn, StatsFor, StatsWith, Stated, SaysItem, FaultsItem, stop_of, SaysPacket, FaultsPacket}
+use Rattle.rohcfn_tool.specs.Printed.{LintedWith, fillings_in, is_above, Prints, PrintsInput, AnsweredIn, AnsweredFor, AnsweredBy, AnsweredRun, Answered, SentBy, StatsBy, SurveyBy, StatsIn, StatsFor, StatsWith, Stated, SaysItem, FaultsItem, stop_of, SaysPacket, FaultsPacket}
 use Rattle.rohcfn_tool.specs.Printed.Prints.{done as prints_done, fault as prints_fault, line as prints_line}
 use Rattle.rohcfn_tool.specs.Printed.AnsweredIn.{answered as answered_in_answered, bad_line as answered_in_bad_line}
 use Rattle.rohcfn_tool.specs.Printed.AnsweredFor.{bad_context as answered_for_bad_context, from_context as answered_for_from_context}
 use Rattle.rohcfn_tool.specs.Printed.AnsweredBy.{by_profile as answered_by_by_profile, unaccepted as answered_by_unaccepted}
 use Rattle.rohcfn_tool.specs.Printed.AnsweredRun.{both as answered_run_both, no_input as answered_run_no_input}
-use Rattle.rohcfn_tool.specs.Printed.Answered.{check_explained as answers_check_explained, checked as answers_checked, drawn as answers_drawn, lined as answers_lined, linted as answers_linted, no_profile as answers_no_profile, prove_explained as answers_prove_explained, proved as answers_proved, ran as answers_ran, shown as answers_shown, told as answers_told, explained as answers_explained, stated as answers_stated, lost_told as answers_lost_told, robust_packed as answers_robust_packed, robust_explained as answers_robust_explained, robust_stated as answers_robust_stated, robust_told as answers_robust_told}
+use Rattle.rohcfn_tool.specs.Printed.Answered.{check_explained as answers_check_explained, checked as answers_checked, drawn as answers_drawn, lined as answers_lined, linted as answers_linted, no_profile as answers_no_profile, prove_explained as answers_prove_explained, proved as answers_proved, ran as answers_ran, shown as answers_shown, told as answers_told, explained as answers_explained, stated as answers_stated, lost_told as answers_lost_told, advice_told as answers_advice_told, avoided_told as answers_avoided_told, robust_packed as answers_robust_packed, robust_explained as answers_robust_explained, robust_stated as answers_robust_stated, robust_told as answers_robust_told}
 use Rattle.rohcfn_tool.specs.declared.stats.Survey.{Survey}
 use Rattle.rohcfn_tool.specs.declared.stats.Survey.TheVariants as survey
 use Rattle.rohcfn_tool.specs.Loss.{LossBy}
 use Rattle.rohcfn_tool.specs.Loss.LossBy.{losses_told as loss_by_told, item_refused as loss_by_refused}
 use Rattle.rohcfn_tool.specs.Printed.SentBy.{all_sent as sent_by_all, one_refused as sent_by_refused, one_sent as sent_by_one}
 use Rattle.rohcfn_tool.specs.Printed.StatsBy.{counted_by as stats_by_counted}
+use Rattle.rohcfn_tool.specs.Printed.LintedWith.{linted_by as linted_with_by}
+use Rattle.fn_stats.specs.Counts.{tally}
+use Rattle.rohcfn_words.specs.declared.words.Counting.{Counting}
+use Rattle.rohcfn_tool.specs.Advise.{AdvisedBy}
+use Rattle.rohcfn_tool.specs.Advise.AdvisedBy.{advised_by as advised_by_fillings}
+use Rattle.rohcfn_tool.specs.Avoiding.{AvoidedBy}
+use Rattle.rohcfn_tool.specs.Avoiding.AvoidedBy.{no_format as avoided_by_no_format, avoided as avoided_by_format}
 use Rattle.rohcfn_tool.specs.Senders.{surviving}
 use Rattle.rohcfn_tool.specs.declared.sender.Sender.{Sender}
 use Rattle.rohcfn_tool.specs.declared.sender.Sender.TheVariants.{Plain}
@@ -141,12 +148,23 @@ lined_ends : (end : End) (order : Order) (profile : List ℕ) (parts : Parts) (s
 lined_ends end order profile parts _ _ (lined_no_part is) = tt
 lined_ends end order profile parts s output (lined_by_part given is h) = lined_by_ends end (line_version order.is_wide) order.top.now profile (origin_of order.version parts.certificate) given.now s output h
 
-stats_by_ends : (a : Accepting) (who : Sender) (items : List Item) (s : Status) (output : List ℕ) → StatsBy a who items s output → MayPrint s
-stats_by_ends a who items _ _ (stats_by_counted fs refused packs) = tt
+refused_or : (b : Bool) (s : Status) → MayPrint s → MayPrint (if b then Refused else s)
+refused_or true s ends = tt
+refused_or false s ends = ends
+
+stats_by_ends : (a : Accepting) (how : Counting) (who : Sender) (items : List Item) (s : Status) (output : List ℕ) → StatsBy a how who items s output → MayPrint s
+stats_by_ends a how who items _ _ (stats_by_counted fs refused packs) = refused_or (is_above how.most (tally (fillings_in fs)) || (how.needs_all && not (length refused == 0))) Done tt
 
 loss_by_ends : (most : ℕ) (a : Accepting) (who : Sender) (items : List Item) (s : Status) (output : List ℕ) → LossBy most a who items s output → MayPrint s
 loss_by_ends most a who items _ _ (loss_by_told fs es j sent journal) = tt
 loss_by_ends most a who items _ _ (loss_by_refused text h) = tt
+
+advised_by_ends : (lost : ℕ) (a : Accepting) (who : Sender) (items : List Item) (s : Status) (output : List ℕ) → AdvisedBy lost a who items s output → MayPrint s
+advised_by_ends lost a who items _ _ (advised_by_fillings fs refused trends text traces are is) = tt
+
+avoided_by_ends : (octets name : List ℕ) (a : Accepting) (ctx : Entries) (items : List Item) (s : Status) (output : List ℕ) → AvoidedBy octets name a ctx items s output → MayPrint s
+avoided_by_ends octets name a ctx items _ _ (avoided_by_no_format near none) = tt
+avoided_by_ends octets name a ctx items _ _ (avoided_by_format n vs text is judged told) = tt
 
 sent_by_ends : (shape : Shape) (shows : Bool) (a : Accepting) {who : Sender} {n : ℕ} {items : List Item} {s : Status} {output : List ℕ} → SentBy shape shows a who n items s output → MayPrint s
 sent_by_ends shape shows a (sent_by_all is) = tt
@@ -154,10 +172,12 @@ sent_by_ends shape shows a (sent_by_one p after text rest sent is more) = sent_b
 sent_by_ends shape shows a (sent_by_refused text h) = may_stop shape
 
 survey_ends : (what : Survey) (a : Accepting) (ctx : Entries) (items : List Item) (s : Status) (output : List ℕ) → SurveyBy what a ctx items s output → MayPrint s
-survey_ends survey.Stats a ctx items s output h = stats_by_ends a (Plain ctx) items s output h
+survey_ends (survey.Stats how) a ctx items s output h = stats_by_ends a how (Plain ctx) items s output h
 survey_ends (survey.Loss most) a ctx items s output h = loss_by_ends most a (Plain ctx) items s output h
+survey_ends (survey.Advise lost) a ctx items s output h = advised_by_ends lost a (Plain ctx) items s output h
+survey_ends (survey.Avoid octets name) a ctx items s output h = avoided_by_ends octets.now name.now a ctx items s output h
 survey_ends (survey.RobustPack shape shows lost) a ctx items s output h = sent_by_ends shape shows a h
-survey_ends (survey.RobustStats lost) a ctx items s output h = stats_by_ends a (surviving ctx lost) items s output h
+survey_ends (survey.RobustStats lost how) a ctx items s output h = stats_by_ends a how (surviving ctx lost) items s output h
 survey_ends (survey.RobustLoss most lost) a ctx items s output h = loss_by_ends most a (surviving ctx lost) items s output h
 
 stats_in_ends : (what : Survey) (a : Accepting) (ctx : Entries) (octets : List ℕ) (s : Status) (output : List ℕ) → StatsIn what a ctx octets s output → MayPrint s
@@ -183,6 +203,9 @@ linted_in_ends octets p context _ _ (linted_in_linted ctx found warnings starts 
 linted_ends : (top octets : List ℕ) (context : Option (Bor (List ℕ))) (s : Status) (output : List ℕ) → LintedBy top octets context s output → MayPrint s
 linted_ends top octets context _ _ (linted_by_no_lint text h) = tt
 linted_ends top octets context s output (linted_by_by_form p reads h) = linted_in_ends octets p context s output h
+
+linted_with_ends : (order : Order) (profile : List ℕ) (parts : Parts) (s : Status) (output : List ℕ) → LintedWith order profile parts s output → MayPrint s
+linted_with_ends order profile parts _ output (linted_with_by {s = s} h) = refused_or (order.is_strict && not (length output == 0)) s (linted_ends order.top.now profile parts.context s output h)
 
 drawn_ends : (top octets : List ℕ) (s : Status) (output : List ℕ) → DrawnBy top octets s output → MayPrint s
 drawn_ends top octets _ _ (drawn_by_no_drawing text h) = tt
@@ -210,7 +233,7 @@ explained_ends Bare ends s _ (explained_plain {output = plain} notes h) = ends s
 answer_ends : (order : Order) (parts : Parts) (s : Status) (output : List ℕ) → Answered order parts s output → MayPrint s
 answer_ends order parts _ _ (answers_no_profile is) = tt
 answer_ends order parts s output (answers_shown profile is asks h) = shown_ends order.top.now profile.now s output h
-answer_ends order parts s output (answers_linted profile is asks h) = linted_ends order.top.now profile.now parts.context s output h
+answer_ends order parts s output (answers_linted profile is asks h) = linted_with_ends order profile.now parts s output h
 answer_ends order parts s output (answers_drawn profile is asks h) = drawn_ends order.top.now profile.now s output h
 answer_ends order parts s output (answers_checked profile is asks h) = checked_ends order.top.now profile.now (origin_of order.version parts.certificate) s output h
 answer_ends order parts s output (answers_proved profile is asks h) = proved_ends order profile.now s output h
@@ -221,11 +244,13 @@ answer_ends order parts s output (answers_ran profile direction is asks h) = run
 answer_ends order parts s output (answers_told profile direction is asks h) = run_ends direction Tree order profile.now parts s output h
 answer_ends order parts s output (answers_explained profile direction is asks h) = run_ends direction (Why profile) order profile.now parts s output h
 answer_ends order parts s output (answers_lined profile end is asks h) = lined_ends end order profile.now parts s output h
-answer_ends order parts s output (answers_stated profile is asks h) = stated_ends survey.Stats order profile.now parts s output h
+answer_ends order parts s output (answers_stated profile how is asks h) = stated_ends (survey.Stats how) order profile.now parts s output h
+answer_ends order parts s output (answers_advice_told profile lost is asks h) = stated_ends (survey.Advise lost) order profile.now parts s output h
+answer_ends order parts s output (answers_avoided_told profile is asks h) = stated_ends (survey.Avoid profile order.avoided) order profile.now parts s output h
 answer_ends order parts s output (answers_lost_told profile most is asks h) = stated_ends (survey.Loss most) order profile.now parts s output h
 answer_ends order parts s output (answers_robust_packed profile lost is asks h) = stated_ends (survey.RobustPack Line order.shows_context lost) order profile.now parts s output h
 answer_ends order parts s output (answers_robust_explained profile lost is asks h) = stated_ends (survey.RobustPack (Why profile) order.shows_context lost) order profile.now parts s output h
-answer_ends order parts s output (answers_robust_stated profile lost is asks h) = stated_ends (survey.RobustStats lost) order profile.now parts s output h
+answer_ends order parts s output (answers_robust_stated profile lost how is asks h) = stated_ends (survey.RobustStats lost how) order profile.now parts s output h
 answer_ends order parts s output (answers_robust_told profile most lost is asks h) = stated_ends (survey.RobustLoss most lost) order profile.now parts s output h
 
 print_ends : (given : List (List ℕ)) (input : List ℕ) (s : Status) (output : List ℕ) → RunPrints given input s output → MayPrint s

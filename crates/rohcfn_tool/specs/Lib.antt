@@ -1,3 +1,4 @@
+pub mod Advise
 pub mod Asked
 pub mod Events
 pub mod FaultLaws
@@ -7,3 +8,4 @@ pub mod Senders
 pub mod Loss
 pub mod Printed
 pub mod Program
+pub mod Avoiding

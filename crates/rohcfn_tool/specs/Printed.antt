@@ -1,5 +1,5 @@
 -- What is printed for a profile with a context and items or packets, and what is answered to an order (docs/FORMATS.md).
-use Rattle.std.specs.Prelude.{◌≡◌, ℕ, ◌+◌, Bool, true, false, List, [], ◌∷◌, ◌++◌, length, codes, decimal, Option, Some, None, string_bytes}
+use Rattle.std.specs.Prelude.{◌≡◌, ℕ, ◌+◌, ◌*◌, Bool, true, false, not, ◌&&◌, ◌||◌, if◌then◌else◌, nat_lt, List, [], ◌∷◌, ◌++◌, length, map, ◌==◌, codes, decimal, Option, Some, None, string_bytes}
 use Rattle.std.specs.Borrow.{Bor}
 use Rattle.fn_bits.specs.Text.{IsText}
 use Rattle.fn_context.specs.Entries.{Entries, bits_at}
@@ -9,7 +9,9 @@ use Rattle.fn_filling.specs.declared.filling.Filling.{Filling, out-Filling}
 use Rattle.fn_filling.specs.declared.filling.Item.{Item}
 use Rattle.fn_filling.specs.Fillings.{packed, item}
 use Rattle.fn_filling.specs.Entries.{next}
-use Rattle.fn_stats.specs.declared.summing.Sums.{Sums}
+use Rattle.fn_stats.specs.declared.counts.Tally.{Tally}
+use Rattle.fn_stats.specs.declared.summing.Sums.{Sums, out-Sums}
+use Rattle.fn_stats.specs.Counts.{tally}
 use Rattle.fn_stats.specs.Adding.{Adds}
 use Rattle.fn_stats.specs.Sums.{AreSums}
 use Rattle.fn_candidates.specs.Best.{Best}
@@ -31,6 +33,7 @@ use Rattle.rohcfn_input.specs.declared.status.Status.{Status}
 use Rattle.rohcfn_input.specs.declared.status.Status.TheVariants as status
 use Rattle.rohcfn_words.specs.declared.words.Command.TheVariants as command
 use Rattle.rohcfn_words.specs.declared.words.Command.TheVariants.{Show, Lint, Draw, Check, Prove, ExplainCheck, ExplainProve, Run, Fields}
+use Rattle.rohcfn_words.specs.declared.words.Counting.{Counting}
 use Rattle.rohcfn_words.specs.declared.words.Direction.{Direction}
 use Rattle.rohcfn_words.specs.declared.words.Direction.TheVariants.{Pack, Unpack}
 use Rattle.rohcfn_words.specs.declared.words.End.{End}
@@ -43,7 +46,7 @@ use Rattle.rohcfn_tool.specs.Asked.{asked_words}
 use Rattle.rohcfn_tool.specs.Line.{Lined}
 use Rattle.rohcfn_tool.specs.declared.packets.Shape.{Shape}
 use Rattle.rohcfn_tool.specs.declared.packets.Shape.TheVariants.{Line, Tree, Why}
-use Rattle.fn_expr.specs.declared.expr.Side.TheVariants.{Uncompressed, Compressed}
+use Rattle.fn_expr.specs.declared.expr.Side.TheVariants.{Compressed}
 use Rattle.fn_reasons.specs.Reasons.{Verdicts}
 use Rattle.fn_reasons.specs.Settings.{Setting}
 use Rattle.fn_reasons.specs.declared.line.Line as reasons
@@ -52,12 +55,15 @@ use Rattle.rohcfn_items.specs.Reach.{lacks_text}
 use Rattle.rohcfn_items.specs.Why.{reasons_text}
 use Rattle.rohcfn_items.specs.Stats.{stats_text}
 use Rattle.rohcfn_tool.specs.declared.stats.Survey.{Survey}
+use Rattle.rohcfn_tool.specs.declared.stats.Told.{Told}
 use Rattle.rohcfn_tool.specs.declared.stats.Survey.TheVariants as survey
 use Rattle.rohcfn_tool.specs.Loss.{LossBy}
 use Rattle.rohcfn_tool.specs.Senders.{AreLacks, Blames, IsSenderFault, RefusesSent, Sends, own_of, surviving}
 use Rattle.rohcfn_tool.specs.declared.sender.Sender.{Sender}
 use Rattle.rohcfn_tool.specs.declared.sender.Sender.TheVariants.{Plain}
 pub use Rattle.rohcfn_tool.specs.Refused.{IsItemFault, RefusesItem}
+pub use Rattle.rohcfn_tool.specs.Avoiding.{AvoidedBy, item_setting}
+use Rattle.rohcfn_tool.specs.Advise.{AdvisedBy}
 use Rattle.rohcfn_names.specs.Names.{format_name, method_name}
 use Rattle.rohcfn_names.specs.CheckFaults.{format_words}
 use Rattle.rohcfn_report.specs.Explained.{Explained}
@@ -142,10 +148,7 @@ RefusesPacket a ctx n packet text = (e : UnpackFault) × reading.Blames e a ctx 
 
 -- ---- why an item or a packet is refused
 
--- the fillings of the top that have the header and the asked values of the item, and those whose packed bits are at the front of the packet
-abbrev pub item_setting : Accepting → Entries → Item → Setting
-item_setting a ctx it = record { profile = a.profile; context = ctx; method = a.profile.top; parameters = []; path = []; side = Uncompressed; bits = it.header; is_whole = true; asked = it.asked }
-
+-- the fillings of the top whose packed bits are at the front of the packet
 abbrev pub packet_setting : Accepting → Entries → List Bool → Setting
 packet_setting a ctx packet = record { profile = a.profile; context = ctx; method = a.profile.top; parameters = []; path = []; side = Compressed; bits = packet; is_whole = false; asked = [] }
 
@@ -278,19 +281,53 @@ pub data AnsweredRun (direction : Direction) (shape : Shape) (order : Order) (pr
 
 -- ---- what is counted of items
 
--- Items that a sender packs one after the other, counted from n: the fillings of those that are packed, by which it goes on; and the line of each that is refused,
--- after a line feed. That one leaves the sender as it was.
-pub data Packs (a : Accepting) : Sender → ℕ → List Item → List Filling → List ℕ → Type 0 where
+-- Items that a sender packs one after the other, counted from n: the fillings of those that are packed, each with the number of its item, by which it goes on; and the
+-- line of each that is refused, after a line feed. That one leaves the sender as it was.
+pub data Packs (a : Accepting) : Sender → ℕ → List Item → List (ℕ × Filling) → List ℕ → Type 0 where
   packs_none : {s : Sender} {n : ℕ} → Packs a s n [] [] []
-  packs_one : {s : Sender} {n : ℕ} {it : Item} {items : List Item} {fs : List Filling} {refused : List ℕ} (p : Packed) (after : Sender)
-      → Sends a s it p after → Packs a after (n + 1) items fs refused → Packs a s n (it ∷ items) (p.filling ∷ fs) refused
-  refuses_one : {s : Sender} {n : ℕ} {it : Item} {items : List Item} {fs : List Filling} {refused : List ℕ} (text : List ℕ)
+  packs_one : {s : Sender} {n : ℕ} {it : Item} {items : List Item} {fs : List (ℕ × Filling)} {refused : List ℕ} (p : Packed) (after : Sender)
+      → Sends a s it p after → Packs a after (n + 1) items fs refused → Packs a s n (it ∷ items) ((n, p.filling) ∷ fs) refused
+  refuses_one : {s : Sender} {n : ℕ} {it : Item} {items : List Item} {fs : List (ℕ × Filling)} {refused : List ℕ} (text : List ℕ)
       → RefusesSent a s n it text → Packs a s (n + 1) items fs refused → Packs a s n (it ∷ items) fs ((10 ∷ text) ++ refused)
 
+abbrev pub fillings_in : List (ℕ × Filling) → List Filling
+fillings_in = map (λ x. x.1)
+
+-- the row of an item, after a line feed: its number, its format and how many bits its packet has, with tabs between them; and those of some
+abbrev pub row_text : ℕ → List ℕ → ℕ → List ℕ
+row_text n name bits = codes "\n" ++ decimal n ++ codes "\t" ++ name ++ codes "\t" ++ decimal bits
+
+abbrev pub row_of : Accepting → ℕ × Filling → List ℕ
+row_of a x = row_text x.0 (format_name a.profile.methods a.profile.top (out-Filling x.1).format) (length (packed x.1))
+
+-- the same by what was packed
+abbrev pub item_row : Accepting → ℕ → Packed → List ℕ
+item_row a n p = row_text n (format_name a.profile.methods a.profile.top (out-Filling p.filling).format) (length p.packed)
+
+abbrev pub rows_of : Accepting → List (ℕ × Filling) → List ℕ
+rows_of a [] = []
+rows_of a (x ∷ xs) = row_of a x ++ rows_of a xs
+
+abbrev pub row_heads : List ℕ
+row_heads = codes "item\tformat\tbits"
+
+-- what `stats` prints of these: what is counted, or a row for each item
+abbrev pub counts_text : Accepting → Counting → List (ℕ × Filling) → List ℕ
+counts_text a how fs = if how.lists_items then row_heads ++ rows_of a fs else stats_text a.profile.methods a.profile.top (fillings_in fs)
+
+-- the mean is above so many bits
+abbrev pub is_above : Option ℕ → Tally → Bool
+is_above None all = false
+is_above (Some most) all = nat_lt (most * all.items) all.bits
+
+-- the status: that of a refusal where the mean is above what it may be, or where an item is refused and all have to be packed
+abbrev pub counted_status : Counting → Tally → List ℕ → Status
+counted_status how all refused = if is_above how.most all || (how.needs_all && not (length refused == 0)) then status.Refused else status.Done
+
 -- What `stats` prints for items: what is counted of the fillings of those that are packed, and the lines of the refused.
-pub data StatsBy (a : Accepting) (s : Sender) (items : List Item) : Status → List ℕ → Type 0 where
-  counted_by : (fs : List Filling) (refused : List ℕ) → Packs a s 1 items fs refused
-      → StatsBy a s items status.Done (stats_text a.profile.methods a.profile.top fs ++ refused ++ 10 ∷ [])
+pub data StatsBy (a : Accepting) (how : Counting) (s : Sender) (items : List Item) : Status → List ℕ → Type 0 where
+  counted_by : (fs : List (ℕ × Filling)) (refused : List ℕ) → Packs a s 1 items fs refused
+      → StatsBy a how s items (counted_status how (tally (fillings_in fs)) refused) (counts_text a how fs ++ refused ++ 10 ∷ [])
 
 -- the line of an item that can't be packed for all that a receiver may hold, and then a line for each format
 pub record LacksReach (profile : List ℕ) (a : Accepting) (s : Sender) (n : ℕ) (it : Item) (text : List ℕ) : Type 0 where
@@ -327,11 +364,13 @@ pub data SentBy (shape : Shape) (shows : Bool) (a : Accepting) : Sender → ℕ 
 
 -- what `stats`, `loss`, `pack --robust` or `why --robust` prints for items
 abbrev pub SurveyBy : Survey → Accepting → Entries → List Item → Status → List ℕ → Type 0
-SurveyBy survey.Stats a ctx items = StatsBy a (Plain ctx) items
+SurveyBy (survey.Stats how) a ctx items = StatsBy a how (Plain ctx) items
 SurveyBy (survey.Loss most) a ctx items = LossBy most a (Plain ctx) items
 SurveyBy (survey.RobustPack shape shows lost) a ctx items = SentBy shape shows a (surviving ctx lost) 1 items
-SurveyBy (survey.RobustStats lost) a ctx items = StatsBy a (surviving ctx lost) items
+SurveyBy (survey.RobustStats lost how) a ctx items = StatsBy a how (surviving ctx lost) items
 SurveyBy (survey.RobustLoss most lost) a ctx items = LossBy most a (surviving ctx lost) items
+SurveyBy (survey.Advise lost) a ctx items = AdvisedBy lost a (Plain ctx) items
+SurveyBy (survey.Avoid octets name) a ctx items = AvoidedBy octets.now name.now a ctx items
 
 -- What is answered to one of these from a context on, by the octets of items.
 pub data StatsIn (what : Survey) (a : Accepting) (ctx : Entries) (input : List ℕ) : Status → List ℕ → Type 0 where
@@ -353,13 +392,21 @@ pub data Stated (what : Survey) (order : Order) (profile : List ℕ) (parts : Pa
   no_items : parts.items ≡ None → Stated what order profile parts status.Refused (codes "bundle: I4 bad part items" ++ 10 ∷ [])
   with_items : {s : Status} {output : List ℕ} (input : Bor (List ℕ)) → parts.items ≡ Some input → StatsWith what order profile parts input.now s output → Stated what order profile parts s output
 
+-- the status of `lint`: with `--strict` that of a refusal where anything is printed
+abbrev pub strict_status : Bool → Status → List ℕ → Status
+strict_status strict s output = if strict && not (length output == 0) then status.Refused else s
+
+-- What is answered to `lint`.
+pub data LintedWith (order : Order) (profile : List ℕ) (parts : Parts) : Status → List ℕ → Type 0 where
+  linted_by : {s : Status} {output : List ℕ} → LintedBy order.top.now profile parts.context s output → LintedWith order profile parts (strict_status order.is_strict s output) output
+
 -- What is answered to an order with these parts.
 pub data Answered (order : Order) (parts : Parts) : Status → List ℕ → Type 0 where
   no_profile : parts.profile ≡ None → Answered order parts status.Refused (codes "bundle: I4 bad part profile" ++ 10 ∷ [])
   shown : {s : Status} {output : List ℕ} (profile : Bor (List ℕ)) → parts.profile ≡ Some profile → order.command ≡ Show
       → ShownBy order.top.now profile.now s output → Answered order parts s output
   linted : {s : Status} {output : List ℕ} (profile : Bor (List ℕ)) → parts.profile ≡ Some profile → order.command ≡ Lint
-      → LintedBy order.top.now profile.now parts.context s output → Answered order parts s output
+      → LintedWith order profile.now parts s output → Answered order parts s output
   drawn : {s : Status} {output : List ℕ} (profile : Bor (List ℕ)) → parts.profile ≡ Some profile → order.command ≡ Draw
       → DrawnBy order.top.now profile.now s output → Answered order parts s output
   checked : {s : Status} {output : List ℕ} (profile : Bor (List ℕ)) → parts.profile ≡ Some profile → order.command ≡ Check
@@ -378,16 +425,20 @@ pub data Answered (order : Order) (parts : Parts) : Status → List ℕ → Type
       → AnsweredRun direction (Why profile) order profile.now parts s output → Answered order parts s output
   lined : {s : Status} {output : List ℕ} (profile : Bor (List ℕ)) (end : End) → parts.profile ≡ Some profile → order.command ≡ command.Line end
       → Lined end order profile.now parts s output → Answered order parts s output
-  stated : {s : Status} {output : List ℕ} (profile : Bor (List ℕ)) → parts.profile ≡ Some profile → order.command ≡ command.Stats
-      → Stated survey.Stats order profile.now parts s output → Answered order parts s output
+  stated : {s : Status} {output : List ℕ} (profile : Bor (List ℕ)) (how : Counting) → parts.profile ≡ Some profile → order.command ≡ command.Stats how
+      → Stated (survey.Stats how) order profile.now parts s output → Answered order parts s output
   lost_told : {s : Status} {output : List ℕ} (profile : Bor (List ℕ)) (most : ℕ) → parts.profile ≡ Some profile → order.command ≡ command.Loss most
       → Stated (survey.Loss most) order profile.now parts s output → Answered order parts s output
   robust_packed : {s : Status} {output : List ℕ} (profile : Bor (List ℕ)) (lost : ℕ) → parts.profile ≡ Some profile → order.command ≡ command.RobustPack lost
       → Stated (survey.RobustPack Line order.shows_context lost) order profile.now parts s output → Answered order parts s output
   robust_explained : {s : Status} {output : List ℕ} (profile : Bor (List ℕ)) (lost : ℕ) → parts.profile ≡ Some profile → order.command ≡ command.RobustWhy lost
       → Stated (survey.RobustPack (Why profile) order.shows_context lost) order profile.now parts s output → Answered order parts s output
-  robust_stated : {s : Status} {output : List ℕ} (profile : Bor (List ℕ)) (lost : ℕ) → parts.profile ≡ Some profile → order.command ≡ command.RobustStats lost
-      → Stated (survey.RobustStats lost) order profile.now parts s output → Answered order parts s output
+  robust_stated : {s : Status} {output : List ℕ} (profile : Bor (List ℕ)) (lost : ℕ) (how : Counting) → parts.profile ≡ Some profile → order.command ≡ command.RobustStats lost how
+      → Stated (survey.RobustStats lost how) order profile.now parts s output → Answered order parts s output
+  advice_told : {s : Status} {output : List ℕ} (profile : Bor (List ℕ)) (lost : ℕ) → parts.profile ≡ Some profile → order.command ≡ command.Advise lost
+      → Stated (survey.Advise lost) order profile.now parts s output → Answered order parts s output
+  avoided_told : {s : Status} {output : List ℕ} (profile : Bor (List ℕ)) → parts.profile ≡ Some profile → order.command ≡ command.WhyNot
+      → Stated (survey.Avoid profile order.avoided) order profile.now parts s output → Answered order parts s output
   robust_told : {s : Status} {output : List ℕ} (profile : Bor (List ℕ)) (most lost : ℕ) → parts.profile ≡ Some profile → order.command ≡ command.RobustLoss most lost
       → Stated (survey.RobustLoss most lost) order profile.now parts s output → Answered order parts s output
 
@@ -395,6 +446,9 @@ pub data Answered (order : Order) (parts : Parts) : Status → List ℕ → Type
 
 abbrev pub Answers : Order → Parts → Answer → Type 0
 Answers order parts = Holds (Answered order parts)
+
+abbrev pub AnswersLint : Order → List ℕ → Parts → Answer → Type 0
+AnswersLint order profile parts = Holds (LintedWith order profile parts)
 
 abbrev pub AnswersRun : Direction → Shape → Order → List ℕ → Parts → Answer → Type 0
 AnswersRun direction shape order profile parts = Holds (AnsweredRun direction shape order profile parts)
@@ -421,8 +475,8 @@ AnswersStatsFor what a context input = Holds (StatsFor what a context input)
 abbrev pub AnswersStatsIn : Survey → Accepting → Entries → List ℕ → Answer → Type 0
 AnswersStatsIn what a ctx input = Holds (StatsIn what a ctx input)
 
-abbrev pub CountsItems : Accepting → Sender → List Item → Answer → Type 0
-CountsItems a s items = Holds (StatsBy a s items)
+abbrev pub CountsItems : Accepting → Counting → Sender → List Item → Answer → Type 0
+CountsItems a how s items = Holds (StatsBy a how s items)
 
 abbrev pub SendsItems : Shape → Bool → Accepting → Sender → List Item → Answer → Type 0
 SendsItems shape shows a s items = Holds (SentBy shape shows a s 1 items)
@@ -430,20 +484,38 @@ SendsItems shape shows a s items = Holds (SentBy shape shows a s 1 items)
 abbrev pub Surveys : Survey → Accepting → Entries → List Item → Answer → Type 0
 Surveys what a ctx items = Holds (SurveyBy what a ctx items)
 
--- what is counted of the fillings that the sums are over, and below it the lines of the refused
-pub record IsPrintedStats (a : Accepting) (sums : Sums) (refused : List ℕ) (answer : Answer) : Type 0 where
-  pub status_is : answer.status ≡ status.Done
-  pub output_is : (fs : List Filling) → AreSums fs sums → string_bytes answer.output ≡ stats_text a.profile.methods a.profile.top fs ++ refused ++ 10 ∷ []
+-- what is told so far is of these fillings: the sums are over them, and the rows are theirs, where such are wanted
+pub record TellsOf (a : Accepting) (how : Counting) (fs : List (ℕ × Filling)) (t : Told) : Type 0 where
+  pub sums_are : AreSums (fillings_in fs) t.sums
+  pub rows_are : how.lists_items ≡ true → string_bytes t.rows ≡ rows_of a fs
+
+-- the text of what is told, where it is of these fillings
+abbrev pub IsCountsText : Accepting → Counting → Told → List ℕ → Type 0
+IsCountsText a how t text = (fs : List (ℕ × Filling)) → TellsOf a how fs t → text ≡ counts_text a how fs
+
+-- that text, and below it the lines of the refused
+pub record IsPrintedStats (a : Accepting) (how : Counting) (t : Told) (answer : Answer) : Type 0 where
+  pub status_is : answer.status ≡ counted_status how (out-Sums t.sums).all (string_bytes t.refused)
+  pub text : List ℕ
+  pub text_is : IsCountsText a how t text
+  pub output_is : string_bytes answer.output ≡ text ++ string_bytes t.refused ++ 10 ∷ []
 
 -- the line of a refused item below those before it, which is one line
 abbrev pub IsRefusedBelow : RobustFault → ℕ → List ℕ → List ℕ → Type 0
 IsRefusedBelow e n before after = (text : List ℕ) × IsSenderFault e n text × IsLine text × (after ≡ before ++ 10 ∷ text)
 
--- One item more: it is packed, and added to the sums, and the sender goes on; or it is refused, and its line comes below the others.
-pub data CountsItem (a : Accepting) (old new : Sender) (before after : Sums) (above below : List ℕ) (n : ℕ) (it : Item) : Type 0 where
-  counts_packed : (p : Packed) → Sends a old it p new → Adds p.filling before after → below ≡ above
-      → CountsItem a old new before after above below n it
-  counts_refused : (text : List ℕ) → RefusesSent a old n it text → new ≡ old → after ≡ before → below ≡ above ++ 10 ∷ text → CountsItem a old new before after above below n it
+-- a filling more is told of, by a row where such are wanted
+pub record AddsPacked (a : Accepting) (how : Counting) (n : ℕ) (p : Packed) (old new : Told) : Type 0 where
+  pub adds : Adds p.filling old.sums new.sums
+  pub row : how.lists_items ≡ true → string_bytes new.rows ≡ string_bytes old.rows ++ item_row a n p
+  pub refused_stays : string_bytes new.refused ≡ string_bytes old.refused
+
+-- One item more: it is packed, and told of, and the sender goes on; or it is refused, and its line comes below the others.
+pub data CountsItem (a : Accepting) (how : Counting) (old new : Sender) (before after : Told) (n : ℕ) (it : Item) : Type 0 where
+  counts_packed : (p : Packed) → Sends a old it p new → AddsPacked a how n p before after
+      → CountsItem a how old new before after n it
+  counts_refused : (text : List ℕ) → RefusesSent a old n it text → new ≡ old → after.sums ≡ before.sums → string_bytes after.rows ≡ string_bytes before.rows → string_bytes after.refused ≡ string_bytes before.refused ++ 10 ∷ text
+      → CountsItem a how old new before after n it
 
 -- these lines, and what follows the last
 pub record IsFinished (shows : Bool) (ctx : Entries) (lines : List ℕ) (a : Answer) : Type 0 where

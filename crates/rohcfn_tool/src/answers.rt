@@ -12,7 +12,7 @@ use fn_context::Context;
 use rohcfn_input::bundle::Parts;
 use rohcfn_input::inputs::{BadLine, read_context, read_items, read_packets};
 use rohcfn_input::refusals::{context_line, refusal};
-use rohcfn_input::status::Answer;
+use rohcfn_input::status::{Answer, Status};
 use rohcfn_report::check::answer_check;
 use rohcfn_report::explaining::{explain_check, explain_prove};
 use rohcfn_report::profile_and_certificate::{Judged, Origin, accept};
@@ -35,7 +35,7 @@ pub fn answer(alloc: Global, order: &Order<'_>, parts: &Parts<'_>) -> Result<Ans
     };
     match order.command {
         Command::Show => answer_listing(alloc, order.top, profile),
-        Command::Lint => answer_lint(alloc, order.top, profile, parts),
+        Command::Lint => lint_by(alloc, order, profile, parts),
         Command::Draw => answer_draw(alloc, order.top, profile),
         Command::Check => {
             let origin = Origin::of(order.version, parts);
@@ -56,7 +56,9 @@ pub fn answer(alloc: Global, order: &Order<'_>, parts: &Parts<'_>) -> Result<Ans
         Command::Why(direction) => {
             answer_run(alloc, direction, Shape::Why(profile), order, profile, parts)
         }
-        Command::Stats => answer_stats(alloc, Survey::Stats, order, profile, parts),
+        Command::Stats(counting) => {
+            answer_stats(alloc, Survey::Stats(counting), order, profile, parts)
+        }
         Command::Loss(most) => answer_stats(alloc, Survey::Loss(most), order, profile, parts),
         Command::RobustPack(lost) => {
             let what = Survey::RobustPack(Shape::Line, order.shows_context, lost);
@@ -66,13 +68,47 @@ pub fn answer(alloc: Global, order: &Order<'_>, parts: &Parts<'_>) -> Result<Ans
             let what = Survey::RobustPack(Shape::Why(profile), order.shows_context, lost);
             answer_stats(alloc, what, order, profile, parts)
         }
-        Command::RobustStats(lost) => {
-            answer_stats(alloc, Survey::RobustStats(lost), order, profile, parts)
+        Command::RobustStats(lost, counting) => {
+            let what = Survey::RobustStats(lost, counting);
+            answer_stats(alloc, what, order, profile, parts)
         }
         Command::RobustLoss(most, lost) => {
             answer_stats(alloc, Survey::RobustLoss(most, lost), order, profile, parts)
         }
+        Command::WhyNot => {
+            let what = Survey::Avoid(profile, order.avoided);
+            answer_stats(alloc, what, order, profile, parts)
+        }
+        Command::Advise(lost) => {
+            answer_stats(alloc, Survey::Advise(lost), order, profile, parts)
+        }
         Command::Line(end) => answer_line(alloc, end, order, profile, parts),
+    }
+}
+
+/// The answer to `lint`. With `--strict` the status is that of a refusal where anything is printed.
+fn lint_by(
+    alloc: Global,
+    order: &Order<'_>,
+    profile: &[u8],
+    parts: &Parts<'_>,
+) -> Result<Answer, AllocError>
+    ensures { IfOk result (spec.AnswersLint order.now profile.now parts.now) }
+{
+    let Answer { status, output } = answer_lint(alloc, order.top, profile, parts)?;
+    Ok(Answer {
+        status: strict_status(order.is_strict, status, output.as_str()),
+        output,
+    })
+}
+
+fn strict_status(is_strict: bool, status: Status, output: &str) -> Status
+    ensures { result ≡ spec.strict_status is_strict status output.now }
+{
+    if is_strict && !output.is_empty() {
+        Status::Refused
+    } else {
+        status
     }
 }
 

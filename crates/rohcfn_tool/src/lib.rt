@@ -1,8 +1,10 @@
 //! The program, octets in to octets out.
 #![tactic(auto)]
 
+mod advise;
 pub mod answers;
 mod asked;
+mod avoiding;
 pub mod events;
 mod explaining;
 pub mod line;

@@ -1,42 +1,50 @@
 //! What is answered to `stats`, and by what to `loss`, `pack --robust` and `why --robust`.
 
-ghost use Rattle.std.specs.Prelude.{◌≡◌, ◌++◌, IfOk, OnOk, string_bytes};
+ghost use Rattle.std.specs.Prelude.{◌≡◌, ◌++◌, true, IfOk, OnOk, string_bytes};
 ghost use Rattle.rohcfn_tool.specs.Senders as senders;
 ghost use Rattle.rohcfn_tool.specs.Printed as spec;
 
+use crate::advise::advise_all;
 use crate::answers::bad_line;
+use crate::avoiding::avoid_all;
 use crate::loss::lose_all;
 use crate::packets::Shape;
 use crate::sender::Sender;
 use crate::sending::{send_all, sender_fault};
 use fn_accepted::Accepted;
 use fn_context::Context;
+use fn_engine::Packed;
 use fn_filling::Item;
 use fn_robust::RobustFault;
-use fn_stats::Sums;
+use fn_stats::{Sums, Tally};
 use rohcfn_input::bundle::Parts;
 use rohcfn_input::inputs::{BadLine, read_context, read_items};
 use rohcfn_input::refusals::{context_line, refusal};
 use rohcfn_input::spelling::push_line;
 use rohcfn_input::status::{Answer, Status};
 use rohcfn_items::stats::stats_text;
+use rohcfn_names::names::format_name;
 use rohcfn_report::profile_and_certificate::{Judged, Origin, accept};
-use rohcfn_words::words::{Direction, Order};
+use rohcfn_words::words::{Counting, Direction, Order};
 use std::alloc::{AllocError, Global};
 
 /// What is told of items that are packed.
 #[derive(Clone, Copy)]
 pub(crate) enum Survey<'a> {
     /// How many there are, and how many bits they take.
-    Stats,
+    Stats(Counting),
     /// What receivers read of them where up to so many packets are lost.
     Loss(u8),
     /// What is printed of each in that shape, and the last context where it is wanted, of packets that survive losses of up to so many in a row.
     RobustPack(Shape<'a>, bool, u8),
     /// How many such packets there are, and how many bits they take.
-    RobustStats(u8),
+    RobustStats(u8, Counting),
     /// What receivers read of them where up to so many are lost, the first number, and as many as the second says do no harm.
     RobustLoss(u8, u8),
+    /// What the fields are like, and which `lsb` takes their steps where up to so many packets are lost.
+    Advise(u8),
+    /// What stands against the format of that name, by these octets of the profile, for those that are packed by others.
+    Avoid(&'a [u8], &'a str),
 }
 
 /// The answer to `stats`, `loss`, `pack --robust` or `why --robust`, by the octets of a profile and the items among the parts: what is counted of the packets, and a line for each item that is refused; or the
@@ -124,16 +132,20 @@ fn tell_all(
     ensures { IfOk result (spec.Surveys what.entry accepted.now context items.now) }
 {
     match what {
-        Survey::Stats => count_all(alloc, accepted, Sender::Plain(context), items),
+        Survey::Stats(counting) => {
+            count_all(alloc, accepted, counting, Sender::Plain(context), items)
+        }
         Survey::Loss(most) => lose_all(alloc, accepted, most, Sender::Plain(context), items),
         Survey::RobustPack(shape, shows, lost) => {
             let sender = Sender::surviving(alloc, &context, lost)?;
             send_all(alloc, shape, shows, accepted, sender, items)
         }
-        Survey::RobustStats(lost) => {
+        Survey::RobustStats(lost, counting) => {
             let sender = Sender::surviving(alloc, &context, lost)?;
-            count_all(alloc, accepted, sender, items)
+            count_all(alloc, accepted, counting, sender, items)
         }
+        Survey::Advise(lost) => { advise_all(alloc, accepted, lost, Sender::Plain(context), items) }
+        Survey::Avoid(octets, name) => { avoid_all(alloc, octets, name, accepted, context, items) }
         Survey::RobustLoss(most, lost) => {
             let sender = Sender::surviving(alloc, &context, lost)?;
             lose_all(alloc, accepted, most, sender, items)
@@ -141,54 +153,119 @@ fn tell_all(
     }
 }
 
+/// What is told of the items so far: the sums over their fillings, a row for each where that is wanted, and the lines of the refused, each after a line feed.
+#[derive(Drop)]
+pub(crate) struct Told {
+    pub(crate) sums: Sums,
+    pub(crate) rows: String,
+    pub(crate) refused: String,
+}
+
 /// What is counted of the packets of items, and a line for each item that is refused. After such an item the sender is as before it.
 fn count_all(
     alloc: Global,
     accepted: &Accepted,
+    counting: Counting,
     start: Sender,
     items: &[Item],
 ) -> Result<Answer, AllocError>
-    ensures { IfOk result (spec.CountsItems accepted.now start items.now) }
+    ensures { IfOk result (spec.CountsItems accepted.now counting start items.now) }
 {
     let mut sender = start;
-    let mut sums = Sums::new(alloc);
-    let mut refused = String::new(alloc);
+    let mut told = Told {
+        sums: Sums::new(alloc),
+        rows: String::new(alloc),
+        refused: String::new(alloc),
+    };
     for (i, item) in items.iter().enumerate() {
         count_one(
             alloc,
             accepted,
+            counting,
             &mut sender,
-            &mut sums,
-            &mut refused,
+            &mut told,
             i + 1,
             item,
         )?;
     }
-    print_counts(alloc, accepted, &sums, refused.as_str())
+    print_counts(alloc, accepted, counting, &told)
 }
 
-/// Packs an item, whose number counts from 1. What is counted of its packet is added to the sums, and the sender goes on to the next; or its line is added to
-/// those of the refused.
+/// Packs an item, whose number counts from 1. What is counted of its packet is added, and the sender goes on to the next; or its line is added to those of the
+/// refused.
 fn count_one(
     alloc: Global,
     accepted: &Accepted,
+    counting: Counting,
     sender: &mut Sender,
-    sums: &mut Sums,
-    refused: &mut String,
+    told: &mut Told,
     number: usize,
     item: &Item,
 ) -> Result<(), AllocError>
-    ensures { OnOk result (spec.CountsItem accepted.now sender.old sender.new sums.old sums.new (string_bytes refused.old) (string_bytes refused.new) number item.now) }
+    ensures { OnOk result (spec.CountsItem accepted.now counting sender.old sender.new told.old told.new number item.now) }
 {
     match sender.send(alloc, accepted, item) {
-        Ok(sent) => sums.add(alloc, &sent.filling),
-        Err(fault) => add_refused(alloc, refused, number, fault),
+        Ok(sent) => add_packed(alloc, accepted, counting, told, number, &sent),
+        Err(fault) => add_refused(alloc, &mut told.refused, number, fault),
     }
+}
+
+/// Adds what is counted of a packet, and its row where that is wanted.
+fn add_packed(
+    alloc: Global,
+    accepted: &Accepted,
+    counting: Counting,
+    told: &mut Told,
+    number: usize,
+    sent: &Packed,
+) -> Result<(), AllocError>
+    ensures { OnOk result (spec.AddsPacked accepted.now counting number sent.now told.old told.new) }
+{
+    told.sums.add(alloc, &sent.filling)?;
+    add_row(alloc, accepted, counting, &mut told.rows, number, sent)
+}
+
+/// Adds the row of an item, where such are wanted.
+fn add_row(
+    alloc: Global,
+    accepted: &Accepted,
+    counting: Counting,
+    rows: &mut String,
+    number: usize,
+    sent: &Packed,
+) -> Result<(), AllocError>
+    ensures { OnOk result (counting.lists_items ≡ true → string_bytes rows.new ≡ string_bytes rows.old ++ spec.item_row accepted.now number sent.now) }
+{
+    if !counting.lists_items {
+        return Ok(());
+    }
+    let row = item_row(alloc, accepted, number, sent)?;
+    rows.push_str(row.as_str())
+}
+
+/// The row of an item, after a line feed: its number, its format and how many bits its packet has, with tabs between them.
+fn item_row(
+    alloc: Global,
+    accepted: &Accepted,
+    number: usize,
+    sent: &Packed,
+) -> Result<String, AllocError>
+    ensures { IfOk result (λ text. string_bytes text ≡ spec.item_row accepted.now number sent.now) }
+{
+    let profile = accepted.profile();
+    let name = format_name(profile.methods(), profile.top(), sent.filling.format);
+    row_text(alloc, number, name, sent.packed.len())
+}
+
+fn row_text(alloc: Global, number: usize, name: &str, bits: usize) -> Result<String, AllocError>
+    ensures { IfOk result (λ text. string_bytes text ≡ spec.row_text number name.now bits) }
+{
+    format!(in alloc; "\n{number}\t{name}\t{bits}")
 }
 
 /// Adds the line of a refused item, after a line feed.
 #[inline(never)]
-fn add_refused(
+pub(crate) fn add_refused(
     alloc: Global,
     refused: &mut String,
     number: usize,
@@ -203,20 +280,61 @@ fn add_refused(
     Ok(())
 }
 
-/// What is counted, and the lines of the refused below.
+/// What is counted, or the row of each item, and the lines of the refused below.
 fn print_counts(
     alloc: Global,
     accepted: &Accepted,
-    sums: &Sums,
-    refused: &str,
+    counting: Counting,
+    told: &Told,
 ) -> Result<Answer, AllocError>
-    ensures { IfOk result (spec.IsPrintedStats accepted.now sums.now refused.now) }
+    ensures { IfOk result (spec.IsPrintedStats accepted.now counting told.now) }
 {
-    let profile = accepted.profile();
-    let mut output = stats_text(alloc, profile.methods(), profile.top(), sums)?;
-    push_line(&mut output, refused)?;
+    let mut output = counts_text(alloc, accepted, counting, told)?;
+    push_line(&mut output, told.refused.as_str())?;
     Ok(Answer {
-        status: Status::Done,
+        status: counted_status(counting, told.sums.all, told.refused.as_str()),
         output,
     })
+}
+
+fn counts_text(
+    alloc: Global,
+    accepted: &Accepted,
+    counting: Counting,
+    told: &Told,
+) -> Result<String, AllocError>
+    ensures { IfOk result (λ text. spec.IsCountsText accepted.now counting told.now (string_bytes text)) }
+{
+    if counting.lists_items {
+        return heads_and_rows(alloc, told.rows.as_str());
+    }
+    let profile = accepted.profile();
+    stats_text(alloc, profile.methods(), profile.top(), &told.sums)
+}
+
+fn heads_and_rows(alloc: Global, rows: &str) -> Result<String, AllocError>
+    ensures { IfOk result (λ text. string_bytes text ≡ spec.row_heads ++ rows.now) }
+{
+    format!(in alloc; "item\tformat\tbits{rows}")
+}
+
+/// The status after items are counted: that of a refusal where one is refused and all have to be packed, or where the mean is above what it may be.
+fn counted_status(counting: Counting, all: Tally, refused: &str) -> Status
+    ensures { result ≡ spec.counted_status counting all refused.now }
+{
+    if is_above(counting.most, all) || (counting.needs_all && !refused.is_empty()) {
+        Status::Refused
+    } else {
+        Status::Done
+    }
+}
+
+/// Whether the mean is above so many bits.
+fn is_above(most: Option<u32>, all: Tally) -> bool
+    ensures { result ≡ spec.is_above most all }
+{
+    match most {
+        Some(most) => (most as u128) * (all.items as u128) < all.bits as u128,
+        None => false,
+    }
 }

@@ -1,6 +1,6 @@
 -- What clap's clauses say of the program's command line.
 use Rattle.std.proofs.Common.{◌≡◌, ◌∙◌, ℕ, Bool, true, List, [], ◌∷◌, Option, None, Some, refl, sym, ap, subst, option_map, codes, Bor, ◌⊎◌, inl, inr}
-use Rattle.std.specs.Prelude.{Box, option_and_then}
+use Rattle.std.specs.Prelude.{Box}
 use Rattle.std.specs.Box.{box_value}
 use Rattle.clap.specs.Words.{App, IsAmong, Kinds, Row, fault_of, first_of, found_of, is_simple, is_simple_and_free, rows_of, subcommand_of, subcommand_rows}
 use Rattle.clap.specs.declared.error.kind.ErrorKind.{ErrorKind}
@@ -8,10 +8,11 @@ use Rattle.clap.specs.declared.error.kind.ErrorKind.TheVariants.{DisplayHelp, Ou
 use Rattle.clap.specs.declared.parser.matches.ArgMatches.{ArgMatches}
 use Rattle.clap.specs.declared.parser.matches.ArgMatches.TheViews.{out-SubCommand}
 use Rattle.clap.specs.declared.parser.matches.SubCommand.{SubCommand}
+use Rattle.fn_cert.specs.declared.certificate.Version.{Version}
 use Rattle.rohcfn_words.specs.declared.words.Command.{Command}
 use Rattle.rohcfn_words.specs.declared.words.WordsError.{WordsError}
 use Rattle.rohcfn_words.specs.declared.words.WordsError.TheVariants as error
-use Rattle.rohcfn_words.specs.Words.{AskHelp, AskJustHelp, Asked, RefusesError, RefusesWords, asked_by, asked_in, asked_of, asked_unless, command_named, is_set, lost_in, program, robust_by}
+use Rattle.rohcfn_words.specs.Words.{AskHelp, AskJustHelp, Asked, RefusesError, RefusesWords, asked_by, asked_in, asked_of, asked_unless, command_in, is_set, program, text_or_empty, version_asked}
 
 program_is_simple : is_simple program ≡ true
 unfolding program
@@ -32,34 +33,12 @@ subcommand_read (Some b) (Some p) name rows =
     ap Some (λ i. (sym n i, sym r i))
 
 -- what a command's name and the values of its flags ask for
-pub asked_by_parts : (met : Option (List ℕ × List Row)) (name : List ℕ) (rows : List Row) (plain command : Option Command) (receives packs explains : Bool) (lost : Option ℕ) (robust top : Option (List ℕ)) (context second wide : Bool) → met ≡ Some (name, rows)
-    → plain ≡ command_named name receives packs explains lost → command ≡ option_and_then (robust_by robust) plain
-    → receives ≡ is_set (first_of (codes "receive") rows) → packs ≡ is_set (first_of (codes "items") rows) → explains ≡ is_set (first_of (codes "explain") rows) → lost ≡ lost_in (first_of (codes "lost") rows) → robust ≡ first_of (codes "robust") rows
-    → top ≡ first_of (codes "top") rows → context ≡ is_set (first_of (codes "context") rows) → second ≡ is_set (first_of (codes "v2") rows) → wide ≡ is_set (first_of (codes "wide") rows) → asked_by command top context second wide ≡ asked_in met
-asked_by_parts met name rows plain command receives packs explains lost robust top context second wide m b c r p x l o t s v w =
-    let named = b ∙ (λ j. command_named name (r j) (p j) (x j) (l j)) in
-    (λ i. asked_by ((c ∙ (λ j. option_and_then (robust_by (o j)) (named j))) i) (t i) (s i) (v i) (w i)) ∙ sym (ap asked_in m)
-
--- without a command nothing is asked for
-pub asked_without_command : (met : Option (List ℕ × List Row)) (name : List ℕ) (rows : List Row) (plain : Option Command) (receives packs explains : Bool) (lost : Option ℕ) (robust : Option (List ℕ)) → met ≡ Some (name, rows)
-    → plain ≡ command_named name receives packs explains lost → None ≡ option_and_then (robust_by robust) plain
-    → receives ≡ is_set (first_of (codes "receive") rows) → packs ≡ is_set (first_of (codes "items") rows) → explains ≡ is_set (first_of (codes "explain") rows) → lost ≡ lost_in (first_of (codes "lost") rows) → robust ≡ first_of (codes "robust") rows → None ≡ asked_in met
-asked_without_command met name rows plain receives packs explains lost robust m b c r p x l o =
-    asked_by_parts met name rows plain None receives packs explains lost robust (first_of (codes "top") rows) (is_set (first_of (codes "context") rows)) (is_set (first_of (codes "v2") rows)) (is_set (first_of (codes "wide") rows)) m b c r p x l o refl refl refl refl
-
--- without the name of a method nothing is asked for
-pub asked_without_top : (met : Option (List ℕ × List Row)) (name : List ℕ) (rows : List Row) (plain command : Option Command) (receives packs explains : Bool) (lost : Option ℕ) (robust top : Option (List ℕ)) → met ≡ Some (name, rows)
-    → plain ≡ command_named name receives packs explains lost → command ≡ option_and_then (robust_by robust) plain
-    → receives ≡ is_set (first_of (codes "receive") rows) → packs ≡ is_set (first_of (codes "items") rows) → explains ≡ is_set (first_of (codes "explain") rows) → lost ≡ lost_in (first_of (codes "lost") rows) → robust ≡ first_of (codes "robust") rows → top ≡ first_of (codes "top") rows → top ≡ None → None ≡ asked_in met
-asked_without_top met name rows plain command receives packs explains lost robust top m b c r p x l o t none =
-    let context : Bool = is_set (first_of (codes "context") rows) in
-    let second : Bool = is_set (first_of (codes "v2") rows) in
-    let wide : Bool = is_set (first_of (codes "wide") rows) in
-    no_top command context second wide ∙ (λ i. asked_by command (sym none i) context second wide) ∙ asked_by_parts met name rows plain command receives packs explains lost robust top context second wide m b c r p x l o t refl refl refl
-  where
-    no_top : (command : Option Command) (context second wide : Bool) → None ≡ asked_by command None context second wide
-    no_top None context second wide = refl
-    no_top (Some command) context second wide = refl
+pub asked_whole : (met : Option (List ℕ × List Row)) (name : List ℕ) (rows : List Row) (command : Command) (top : List ℕ) (context : Bool) (version : Version) (wide strict : Bool) (avoided : List ℕ) → met ≡ Some (name, rows)
+    → Some command ≡ command_in name rows → Some top ≡ first_of (codes "top") rows → context ≡ is_set (first_of (codes "context") rows) → version ≡ version_asked (is_set (first_of (codes "v2") rows))
+    → wide ≡ is_set (first_of (codes "wide") rows) → strict ≡ is_set (first_of (codes "strict") rows) → avoided ≡ text_or_empty (first_of (codes "not") rows)
+    → Some (record { command = command; top = top; shows_context = context; version = version; is_wide = wide; is_strict = strict; avoided = avoided }) ≡ asked_in met
+asked_whole met name rows command top context version wide strict avoided m c t x v w s a =
+    (λ i. Some (record { command = command; top = top; shows_context = x i; version = v i; is_wide = w i; is_strict = s i; avoided = a i })) ∙ (λ i. asked_by (c i) (t i) rows) ∙ sym (ap asked_in m)
 
 pub asked_found : (app : App) (words : List (List ℕ)) (met : Option (List ℕ × List Row)) (x : Option Asked) → app ≡ program → (is_simple_and_free app ≡ true → fault_of app words ≡ []) → (is_simple app ≡ true → met ≡ subcommand_of app words) → x ≡ asked_in met → asked_of words ≡ x
 unfolding asked_of

@@ -10,7 +10,8 @@ use Rattle.clap.specs.declared.error.kind.ErrorKind.TheVariants.{DisplayHelp, Ou
 use Rattle.fn_cert.specs.declared.certificate.Version.{Version}
 use Rattle.fn_cert.specs.declared.certificate.Version.TheVariants.{One, Two}
 use Rattle.rohcfn_words.specs.declared.words.Command.{Command}
-use Rattle.rohcfn_words.specs.declared.words.Command.TheVariants.{Show, Lint, Draw, Check, Prove, ExplainCheck, ExplainProve, Run, Fields, Why, Stats, Loss, RobustPack, RobustStats, RobustLoss, RobustWhy, Line}
+use Rattle.rohcfn_words.specs.declared.words.Command.TheVariants.{Show, Lint, Draw, Check, Prove, ExplainCheck, ExplainProve, Run, Fields, Why, WhyNot, Stats, Loss, Advise, RobustPack, RobustStats, RobustLoss, RobustWhy, Line}
+use Rattle.rohcfn_words.specs.declared.words.Counting.{Counting}
 use Rattle.rohcfn_words.specs.declared.words.Direction.{Direction}
 use Rattle.rohcfn_words.specs.declared.words.Direction.TheVariants.{Pack, Unpack}
 use Rattle.rohcfn_words.specs.declared.words.End.{End}
@@ -65,6 +66,38 @@ wide_flag = record (new_rule (codes "wide")) {
   action = Some SetTrue;
 }
 
+-- `--strict`, `--by-item` and `--all`, likewise
+abbrev pub strict_flag : Rule
+strict_flag = record (new_rule (codes "strict")) {
+  long = Some (codes "strict");
+  action = Some SetTrue;
+}
+
+abbrev pub list_flag : Rule
+list_flag = record (new_rule (codes "by-item")) {
+  long = Some (codes "by-item");
+  action = Some SetTrue;
+}
+
+abbrev pub all_flag : Rule
+all_flag = record (new_rule (codes "all")) {
+  long = Some (codes "all");
+  action = Some SetTrue;
+}
+
+-- `--not FORMAT` and `--at-most BITS`, which need not be there
+abbrev pub avoided_option : Rule
+avoided_option = record (new_rule (codes "not")) {
+  long = Some (codes "not");
+  value_names = 1;
+}
+
+abbrev pub most_option : Rule
+most_option = record (new_rule (codes "at-most")) {
+  long = Some (codes "at-most");
+  value_names = 1;
+}
+
 -- `--lost N`, whose value is 8 where it is not given
 abbrev pub lost_option : Rule
 lost_option = record (new_rule (codes "lost")) {
@@ -94,6 +127,18 @@ with_lost name = with_rule (with_version name) lost_option
 abbrev pub with_robust : List ℕ → App
 with_robust name = with_rule (with_version name) robust_option
 
+abbrev pub with_strict : List ℕ → App
+with_strict name = with_rule (with_top name) strict_flag
+
+abbrev pub with_list : List ℕ → App
+with_list name = with_rule (with_robust name) list_flag
+
+abbrev pub with_all : List ℕ → App
+with_all name = with_rule (with_list name) all_flag
+
+abbrev pub with_checks : List ℕ → App
+with_checks name = with_rule (with_all name) most_option
+
 abbrev pub with_losses : List ℕ → App
 with_losses name = with_rule (with_lost name) robust_option
 
@@ -109,8 +154,11 @@ with_sending name = with_rule (with_flags name) robust_option
 abbrev pub with_items : List ℕ → App
 with_items name = with_rule (with_flags name) items_flag
 
+abbrev pub with_avoided : List ℕ → App
+with_avoided name = with_rule (with_items name) avoided_option
+
 abbrev pub with_reasons : List ℕ → App
-with_reasons name = with_rule (with_items name) robust_option
+with_reasons name = with_rule (with_avoided name) robust_option
 
 abbrev pub with_receive : List ℕ → App
 with_receive name = with_rule (with_version name) receive_flag
@@ -125,19 +173,32 @@ bare_program = on_top (λ top. record top { no_binary_name = true; subcommand_re
 
 -- with its commands
 unfoldable pub program : App
-program = with_subcommand (with_subcommand (with_subcommand (with_subcommand (with_subcommand (with_subcommand (with_subcommand (with_subcommand (with_subcommand (with_subcommand (with_subcommand (with_subcommand bare_program (with_sending (codes "pack")).top)
-    (with_flags (codes "unpack")).top) (with_items (codes "fields")).top) (with_reasons (codes "why")).top) (with_robust (codes "stats")).top) (with_losses (codes "loss")).top) (with_top (codes "show")).top) (with_top (codes "lint")).top) (with_top (codes "draw")).top) (with_explain (codes "check")).top) (with_explain (codes "prove")).top) (with_wide (codes "line")).top
+program = with_subcommand (with_subcommand (with_subcommand (with_subcommand (with_subcommand (with_subcommand (with_subcommand (with_subcommand (with_subcommand (with_subcommand (with_subcommand (with_subcommand (with_subcommand bare_program (with_sending (codes "pack")).top)
+    (with_flags (codes "unpack")).top) (with_items (codes "fields")).top) (with_reasons (codes "why")).top) (with_checks (codes "stats")).top) (with_losses (codes "loss")).top) (with_lost (codes "advise")).top) (with_top (codes "show")).top) (with_strict (codes "lint")).top) (with_top (codes "draw")).top) (with_explain (codes "check")).top) (with_explain (codes "prove")).top) (with_wide (codes "line")).top
 
--- a command, the name of a method, whether the last context is printed, the version of a certificate that is made, and whether the line is the wide one
+-- a command, the name of a method, whether the last context is printed, the version of a certificate that is made, whether the line is the wide one and whether a
+-- warning ends with status 1, and the format of `--not`, which is empty where none is given
 pub record Asked : Type 0 where
   pub command : Command
   pub top : List ℕ
   pub shows_context : Bool
   pub version : Version
   pub is_wide : Bool
+  pub is_strict : Bool
+  pub avoided : List ℕ
 
 abbrev pub asked : Order → Asked
-asked order = record { command = order.command; top = order.top.now; shows_context = order.shows_context; version = order.version; is_wide = order.is_wide }
+asked order = record { command = order.command; top = order.top.now; shows_context = order.shows_context; version = order.version; is_wide = order.is_wide; is_strict = order.is_strict; avoided = order.avoided.now }
+
+-- the flag was given
+abbrev pub is_set : Option (List ℕ) → Bool
+is_set None = false
+is_set (Some text) = bytes_eq text (codes "true")
+
+-- the text of an option, or no characters
+abbrev pub text_or_empty : Option (List ℕ) → List ℕ
+text_or_empty None = []
+text_or_empty (Some text) = text
 
 -- the end of a line: the receiving one, where that is asked for
 abbrev pub end_at : Bool → End
@@ -175,7 +236,7 @@ robust_why Unpack n = None
 abbrev pub robust_command : Command → ℕ → Option Command
 robust_command (Run direction) n = robust_run direction n
 robust_command (Why direction) n = robust_why direction n
-robust_command Stats n = Some (RobustStats n)
+robust_command (Stats counting) n = Some (RobustStats n counting)
 robust_command (Loss most) n = Some (RobustLoss most n)
 robust_command _ n = None
 
@@ -184,39 +245,64 @@ abbrev pub robust_by : Option (List ℕ) → Command → Option Command
 robust_by None command = Some command
 robust_by (Some text) command = option_and_then (robust_command command) (lost_spelled text)
 
--- a command by its name, by whether the receiving end, items and explanations are asked for, and by how many packets are lost
-abbrev pub command_named : List ℕ → Bool → Bool → Bool → Option ℕ → Option Command
-command_named name receives packs explains lost = if bytes_eq name (codes "pack") then Some (Run Pack)
+-- the number of bits that a text spells: one up to 65536, likewise
+abbrev pub bits_spelled : List ℕ → Option ℕ
+bits_spelled text = if bytes_eq (decimal (digits_value 10 text)) text && nat_lt (digits_value 10 text) 65537 then Some (digits_value 10 text) else None
+
+-- what `stats` lists and wants: the mean may be anything, where `--at-most` is not given
+abbrev pub counting_of : Bool → Bool → Option (List ℕ) → Option Counting
+counting_of list all None = Some (record { lists_items = list; needs_all = all; most = None })
+counting_of list all (Some text) = option_map (λ bits. record { lists_items = list; needs_all = all; most = Some bits }) (bits_spelled text)
+
+abbrev pub counting_in : List Row → Option Counting
+counting_in rows = counting_of (is_set (first_of (codes "by-item") rows)) (is_set (first_of (codes "all") rows)) (first_of (codes "at-most") rows)
+
+-- `why`, by whether items are asked for, and the format of `--not`, which goes with items
+abbrev pub why_named : Bool → Option (List ℕ) → Option Command
+why_named packs None = Some (Why (direction_at packs))
+why_named packs (Some format) = if packs then Some WhyNot else None
+
+-- a command by its name and the values of its flags, but `--robust`
+abbrev pub command_named : List ℕ → List Row → Option Command
+command_named name rows = if bytes_eq name (codes "pack") then Some (Run Pack)
     else (if bytes_eq name (codes "unpack") then Some (Run Unpack)
-    else (if bytes_eq name (codes "fields") then Some (Fields (direction_at packs))
-    else (if bytes_eq name (codes "why") then Some (Why (direction_at packs))
-    else (if bytes_eq name (codes "stats") then Some Stats
-    else (if bytes_eq name (codes "loss") then option_map Loss lost
+    else (if bytes_eq name (codes "fields") then Some (Fields (direction_at (is_set (first_of (codes "items") rows))))
+    else (if bytes_eq name (codes "why") then why_named (is_set (first_of (codes "items") rows)) (first_of (codes "not") rows)
+    else (if bytes_eq name (codes "stats") then option_map Stats (counting_in rows)
+    else (if bytes_eq name (codes "loss") then option_map Loss (lost_in (first_of (codes "lost") rows))
+    else (if bytes_eq name (codes "advise") then option_map Advise (lost_in (first_of (codes "lost") rows))
     else (if bytes_eq name (codes "show") then Some Show
     else (if bytes_eq name (codes "lint") then Some Lint
     else (if bytes_eq name (codes "draw") then Some Draw
-    else (if bytes_eq name (codes "check") then Some (check_at explains)
-    else (if bytes_eq name (codes "prove") then Some (prove_at explains)
-    else (if bytes_eq name (codes "line") then Some (Line (end_at receives)) else None)))))))))))
+    else (if bytes_eq name (codes "check") then Some (check_at (is_set (first_of (codes "explain") rows)))
+    else (if bytes_eq name (codes "prove") then Some (prove_at (is_set (first_of (codes "explain") rows)))
+    else (if bytes_eq name (codes "line") then Some (Line (end_at (is_set (first_of (codes "receive") rows)))) else None))))))))))))
 
--- the flag was given
-abbrev pub is_set : Option (List ℕ) → Bool
-is_set None = false
-is_set (Some text) = bytes_eq text (codes "true")
+-- a command by its name and the values of its flags
+abbrev pub command_in : List ℕ → List Row → Option Command
+command_in name rows = option_and_then (robust_by (first_of (codes "robust") rows)) (command_named name rows)
 
 -- the version of a certificate that is made: the first, where the second is not asked for
 abbrev pub version_asked : Bool → Version
 version_asked second = if second then Two else One
 
-abbrev pub asked_by : Option Command → Option (List ℕ) → Bool → Bool → Bool → Option Asked
-asked_by None top context second wide = None
-asked_by (Some command) None context second wide = None
-asked_by (Some command) (Some top) context second wide = Some (record { command = command; top = top; shows_context = context; version = version_asked second; is_wide = wide })
+abbrev pub asked_by : Option Command → Option (List ℕ) → List Row → Option Asked
+asked_by None top rows = None
+asked_by (Some command) None rows = None
+asked_by (Some command) (Some top) rows = Some (record {
+  command = command;
+  top = top;
+  shows_context = is_set (first_of (codes "context") rows);
+  version = version_asked (is_set (first_of (codes "v2") rows));
+  is_wide = is_set (first_of (codes "wide") rows);
+  is_strict = is_set (first_of (codes "strict") rows);
+  avoided = text_or_empty (first_of (codes "not") rows);
+})
 
 -- a command's name, and the values of its flags
 abbrev pub asked_in : Option (List ℕ × List Row) → Option Asked
 asked_in None = None
-asked_in (Some met) = asked_by (option_and_then (robust_by (first_of (codes "robust") met.1)) (command_named met.0 (is_set (first_of (codes "receive") met.1)) (is_set (first_of (codes "items") met.1)) (is_set (first_of (codes "explain") met.1)) (lost_in (first_of (codes "lost") met.1)))) (first_of (codes "top") met.1) (is_set (first_of (codes "context") met.1)) (is_set (first_of (codes "v2") met.1)) (is_set (first_of (codes "wide") met.1))
+asked_in (Some met) = asked_by (command_in met.0 met.1) (first_of (codes "top") met.1) met.1
 
 -- the command that is asked for by a command's name and the values of its flags
 abbrev pub command_asked : List ℕ → List Row → Option Command
@@ -234,14 +320,22 @@ pub record ReadsLost : Type 0 where
 pub record ReadsRobust : Type 0 where
   pub packs : (rows : List Row) (n : ℕ) (top : List ℕ) → n < 64 → first_of (codes "robust") rows ≡ Some (decimal n) → first_of (codes "top") rows ≡ Some top
       → command_asked (codes "pack") rows ≡ Some (RobustPack n)
-  pub counts : (rows : List Row) (n : ℕ) (top : List ℕ) → n < 64 → first_of (codes "robust") rows ≡ Some (decimal n) → first_of (codes "top") rows ≡ Some top
-      → command_asked (codes "stats") rows ≡ Some (RobustStats n)
+  pub counts : (rows : List Row) (n : ℕ) (top : List ℕ) (counting : Counting) → n < 64 → first_of (codes "robust") rows ≡ Some (decimal n) → counting_in rows ≡ Some counting → first_of (codes "top") rows ≡ Some top
+      → command_asked (codes "stats") rows ≡ Some (RobustStats n counting)
   pub loses : (rows : List Row) (most n : ℕ) (top : List ℕ) → most < 64 → n < 64 → first_of (codes "lost") rows ≡ Some (decimal most) → first_of (codes "robust") rows ≡ Some (decimal n) → first_of (codes "top") rows ≡ Some top
       → command_asked (codes "loss") rows ≡ Some (RobustLoss most n)
-  pub tells : (rows : List Row) (n : ℕ) (top : List ℕ) → n < 64 → first_of (codes "robust") rows ≡ Some (decimal n) → first_of (codes "items") rows ≡ Some (codes "true") → first_of (codes "top") rows ≡ Some top
+  pub tells : (rows : List Row) (n : ℕ) (top : List ℕ) → n < 64 → first_of (codes "robust") rows ≡ Some (decimal n) → first_of (codes "items") rows ≡ Some (codes "true") → first_of (codes "not") rows ≡ None → first_of (codes "top") rows ≡ Some top
       → command_asked (codes "why") rows ≡ Some (RobustWhy n)
   pub refuses : (name text : List ℕ) (rows : List Row) → first_of (codes "robust") rows ≡ Some text → ((n : ℕ) → n < 64 → text ≢ decimal n)
       → asked_in (Some (name, rows)) ≡ None
+
+-- What `stats` makes of the text that `--at-most` has: with the decimal digits of a number up to 65536 that is wanted, with any other text nothing is asked for.
+pub record ReadsMost : Type 0 where
+  pub spelled : (text : List ℕ) (n : ℕ) → (bits_spelled text ≡ Some n) ↔ ((text ≡ decimal n) × (n < 65537))
+  pub asks : (rows : List Row) (n : ℕ) (top : List ℕ) → n < 65537 → first_of (codes "at-most") rows ≡ Some (decimal n) → first_of (codes "robust") rows ≡ None → first_of (codes "top") rows ≡ Some top
+      → command_asked (codes "stats") rows ≡ Some (Stats (record { lists_items = is_set (first_of (codes "by-item") rows); needs_all = is_set (first_of (codes "all") rows); most = Some n }))
+  pub refuses : (rows : List Row) (text : List ℕ) → first_of (codes "at-most") rows ≡ Some text → ((n : ℕ) → n < 65537 → text ≢ decimal n)
+      → asked_in (Some (codes "stats", rows)) ≡ None
 
 -- words with a fault ask for nothing
 abbrev pub asked_unless : Kinds → Option (List ℕ × List Row) → Option Asked
@@ -272,32 +366,36 @@ RefusesError kind (error.Help text) = kind ≡ DisplayHelp
 RefusesError kind (error.Usage text) = (kind ≢ OutOfMemory) × (kind ≢ DisplayHelp)
 RefusesError kind error.OutOfMemory = Unit {0}
 
+-- `stats` that lists no items and wants nothing
+abbrev pub plain_counting : Counting
+plain_counting = record { lists_items = false; needs_all = false; most = None }
+
 -- what some words ask for, written out
 pub record ReadsWords : Type 0 where
-  pub pack : asked_of (codes "pack" ∷ codes "--top" ∷ codes "plain" ∷ []) ≡ Some (record { command = Run Pack; top = codes "plain"; shows_context = false; version = One; is_wide = false })
-  pub unpack : asked_of (codes "unpack" ∷ codes "--top=plain" ∷ []) ≡ Some (record { command = Run Unpack; top = codes "plain"; shows_context = false; version = One; is_wide = false })
-  pub show : asked_of (codes "show" ∷ codes "--top" ∷ codes "plain" ∷ []) ≡ Some (record { command = Show; top = codes "plain"; shows_context = false; version = One; is_wide = false })
-  pub check : asked_of (codes "check" ∷ codes "--top" ∷ codes "plain" ∷ []) ≡ Some (record { command = Check; top = codes "plain"; shows_context = false; version = One; is_wide = false })
-  pub prove : asked_of (codes "prove" ∷ codes "--top" ∷ codes "plain" ∷ []) ≡ Some (record { command = Prove; top = codes "plain"; shows_context = false; version = One; is_wide = false })
-  pub pack_context : asked_of (codes "pack" ∷ codes "--top" ∷ codes "plain" ∷ codes "--context" ∷ []) ≡ Some (record { command = Run Pack; top = codes "plain"; shows_context = true; version = One; is_wide = false })
-  pub pack_second : asked_of (codes "pack" ∷ codes "--top" ∷ codes "plain" ∷ codes "--v2" ∷ []) ≡ Some (record { command = Run Pack; top = codes "plain"; shows_context = false; version = Two; is_wide = false })
-  pub prove_second : asked_of (codes "prove" ∷ codes "--v2" ∷ codes "--top" ∷ codes "plain" ∷ []) ≡ Some (record { command = Prove; top = codes "plain"; shows_context = false; version = Two; is_wide = false })
-  pub line_second : asked_of (codes "line" ∷ codes "--top" ∷ codes "plain" ∷ codes "--receive" ∷ codes "--v2" ∷ []) ≡ Some (record { command = Line Receiving; top = codes "plain"; shows_context = false; version = Two; is_wide = false })
+  pub pack : asked_of (codes "pack" ∷ codes "--top" ∷ codes "plain" ∷ []) ≡ Some (record { command = Run Pack; top = codes "plain"; shows_context = false; version = One; is_wide = false; is_strict = false; avoided = [] })
+  pub unpack : asked_of (codes "unpack" ∷ codes "--top=plain" ∷ []) ≡ Some (record { command = Run Unpack; top = codes "plain"; shows_context = false; version = One; is_wide = false; is_strict = false; avoided = [] })
+  pub show : asked_of (codes "show" ∷ codes "--top" ∷ codes "plain" ∷ []) ≡ Some (record { command = Show; top = codes "plain"; shows_context = false; version = One; is_wide = false; is_strict = false; avoided = [] })
+  pub check : asked_of (codes "check" ∷ codes "--top" ∷ codes "plain" ∷ []) ≡ Some (record { command = Check; top = codes "plain"; shows_context = false; version = One; is_wide = false; is_strict = false; avoided = [] })
+  pub prove : asked_of (codes "prove" ∷ codes "--top" ∷ codes "plain" ∷ []) ≡ Some (record { command = Prove; top = codes "plain"; shows_context = false; version = One; is_wide = false; is_strict = false; avoided = [] })
+  pub pack_context : asked_of (codes "pack" ∷ codes "--top" ∷ codes "plain" ∷ codes "--context" ∷ []) ≡ Some (record { command = Run Pack; top = codes "plain"; shows_context = true; version = One; is_wide = false; is_strict = false; avoided = [] })
+  pub pack_second : asked_of (codes "pack" ∷ codes "--top" ∷ codes "plain" ∷ codes "--v2" ∷ []) ≡ Some (record { command = Run Pack; top = codes "plain"; shows_context = false; version = Two; is_wide = false; is_strict = false; avoided = [] })
+  pub prove_second : asked_of (codes "prove" ∷ codes "--v2" ∷ codes "--top" ∷ codes "plain" ∷ []) ≡ Some (record { command = Prove; top = codes "plain"; shows_context = false; version = Two; is_wide = false; is_strict = false; avoided = [] })
+  pub line_second : asked_of (codes "line" ∷ codes "--top" ∷ codes "plain" ∷ codes "--receive" ∷ codes "--v2" ∷ []) ≡ Some (record { command = Line Receiving; top = codes "plain"; shows_context = false; version = Two; is_wide = false; is_strict = false; avoided = [] })
   pub show_second : asked_of (codes "show" ∷ codes "--top" ∷ codes "plain" ∷ codes "--v2" ∷ []) ≡ None
   pub show_context : asked_of (codes "show" ∷ codes "--top" ∷ codes "plain" ∷ codes "--context" ∷ []) ≡ None
-  pub line : asked_of (codes "line" ∷ codes "--top" ∷ codes "plain" ∷ []) ≡ Some (record { command = Line Sending; top = codes "plain"; shows_context = false; version = One; is_wide = false })
-  pub line_receive : asked_of (codes "line" ∷ codes "--top" ∷ codes "plain" ∷ codes "--receive" ∷ []) ≡ Some (record { command = Line Receiving; top = codes "plain"; shows_context = false; version = One; is_wide = false })
-  pub line_wide : asked_of (codes "line" ∷ codes "--top" ∷ codes "plain" ∷ codes "--wide" ∷ []) ≡ Some (record { command = Line Sending; top = codes "plain"; shows_context = false; version = One; is_wide = true })
-  pub line_wide_receive : asked_of (codes "line" ∷ codes "--wide" ∷ codes "--receive" ∷ codes "--top" ∷ codes "plain" ∷ []) ≡ Some (record { command = Line Receiving; top = codes "plain"; shows_context = false; version = One; is_wide = true })
-  pub fields : asked_of (codes "fields" ∷ codes "--top" ∷ codes "plain" ∷ []) ≡ Some (record { command = Fields Unpack; top = codes "plain"; shows_context = false; version = One; is_wide = false })
-  pub fields_items : asked_of (codes "fields" ∷ codes "--top" ∷ codes "plain" ∷ codes "--items" ∷ codes "--context" ∷ []) ≡ Some (record { command = Fields Pack; top = codes "plain"; shows_context = true; version = One; is_wide = false })
-  pub why : asked_of (codes "why" ∷ codes "--top" ∷ codes "plain" ∷ []) ≡ Some (record { command = Why Unpack; top = codes "plain"; shows_context = false; version = One; is_wide = false })
-  pub why_items : asked_of (codes "why" ∷ codes "--top" ∷ codes "plain" ∷ codes "--items" ∷ []) ≡ Some (record { command = Why Pack; top = codes "plain"; shows_context = false; version = One; is_wide = false })
-  pub stats : asked_of (codes "stats" ∷ codes "--top" ∷ codes "plain" ∷ []) ≡ Some (record { command = Stats; top = codes "plain"; shows_context = false; version = One; is_wide = false })
+  pub line : asked_of (codes "line" ∷ codes "--top" ∷ codes "plain" ∷ []) ≡ Some (record { command = Line Sending; top = codes "plain"; shows_context = false; version = One; is_wide = false; is_strict = false; avoided = [] })
+  pub line_receive : asked_of (codes "line" ∷ codes "--top" ∷ codes "plain" ∷ codes "--receive" ∷ []) ≡ Some (record { command = Line Receiving; top = codes "plain"; shows_context = false; version = One; is_wide = false; is_strict = false; avoided = [] })
+  pub line_wide : asked_of (codes "line" ∷ codes "--top" ∷ codes "plain" ∷ codes "--wide" ∷ []) ≡ Some (record { command = Line Sending; top = codes "plain"; shows_context = false; version = One; is_wide = true; is_strict = false; avoided = [] })
+  pub line_wide_receive : asked_of (codes "line" ∷ codes "--wide" ∷ codes "--receive" ∷ codes "--top" ∷ codes "plain" ∷ []) ≡ Some (record { command = Line Receiving; top = codes "plain"; shows_context = false; version = One; is_wide = true; is_strict = false; avoided = [] })
+  pub fields : asked_of (codes "fields" ∷ codes "--top" ∷ codes "plain" ∷ []) ≡ Some (record { command = Fields Unpack; top = codes "plain"; shows_context = false; version = One; is_wide = false; is_strict = false; avoided = [] })
+  pub fields_items : asked_of (codes "fields" ∷ codes "--top" ∷ codes "plain" ∷ codes "--items" ∷ codes "--context" ∷ []) ≡ Some (record { command = Fields Pack; top = codes "plain"; shows_context = true; version = One; is_wide = false; is_strict = false; avoided = [] })
+  pub why : asked_of (codes "why" ∷ codes "--top" ∷ codes "plain" ∷ []) ≡ Some (record { command = Why Unpack; top = codes "plain"; shows_context = false; version = One; is_wide = false; is_strict = false; avoided = [] })
+  pub why_items : asked_of (codes "why" ∷ codes "--top" ∷ codes "plain" ∷ codes "--items" ∷ []) ≡ Some (record { command = Why Pack; top = codes "plain"; shows_context = false; version = One; is_wide = false; is_strict = false; avoided = [] })
+  pub stats : asked_of (codes "stats" ∷ codes "--top" ∷ codes "plain" ∷ []) ≡ Some (record { command = Stats plain_counting; top = codes "plain"; shows_context = false; version = One; is_wide = false; is_strict = false; avoided = [] })
   pub stats_context : asked_of (codes "stats" ∷ codes "--top" ∷ codes "plain" ∷ codes "--context" ∷ []) ≡ None
-  pub loss : asked_of (codes "loss" ∷ codes "--top" ∷ codes "plain" ∷ []) ≡ Some (record { command = Loss 8; top = codes "plain"; shows_context = false; version = One; is_wide = false })
-  pub loss_none : asked_of (codes "loss" ∷ codes "--top" ∷ codes "plain" ∷ codes "--lost" ∷ codes "0" ∷ []) ≡ Some (record { command = Loss 0; top = codes "plain"; shows_context = false; version = One; is_wide = false })
-  pub loss_most : asked_of (codes "loss" ∷ codes "--lost=63" ∷ codes "--top" ∷ codes "plain" ∷ codes "--v2" ∷ []) ≡ Some (record { command = Loss 63; top = codes "plain"; shows_context = false; version = Two; is_wide = false })
+  pub loss : asked_of (codes "loss" ∷ codes "--top" ∷ codes "plain" ∷ []) ≡ Some (record { command = Loss 8; top = codes "plain"; shows_context = false; version = One; is_wide = false; is_strict = false; avoided = [] })
+  pub loss_none : asked_of (codes "loss" ∷ codes "--top" ∷ codes "plain" ∷ codes "--lost" ∷ codes "0" ∷ []) ≡ Some (record { command = Loss 0; top = codes "plain"; shows_context = false; version = One; is_wide = false; is_strict = false; avoided = [] })
+  pub loss_most : asked_of (codes "loss" ∷ codes "--lost=63" ∷ codes "--top" ∷ codes "plain" ∷ codes "--v2" ∷ []) ≡ Some (record { command = Loss 63; top = codes "plain"; shows_context = false; version = Two; is_wide = false; is_strict = false; avoided = [] })
   pub loss_above : asked_of (codes "loss" ∷ codes "--top" ∷ codes "plain" ∷ codes "--lost" ∷ codes "64" ∷ []) ≡ None
   pub loss_plus : asked_of (codes "loss" ∷ codes "--top" ∷ codes "plain" ∷ codes "--lost" ∷ codes "+1" ∷ []) ≡ None
   pub loss_minus : asked_of (codes "loss" ∷ codes "--top" ∷ codes "plain" ∷ codes "--lost=-1" ∷ []) ≡ None
@@ -307,25 +405,41 @@ pub record ReadsWords : Type 0 where
   pub loss_twice : asked_of (codes "loss" ∷ codes "--top" ∷ codes "plain" ∷ codes "--lost" ∷ codes "1" ∷ codes "--lost" ∷ codes "1" ∷ []) ≡ None
   pub loss_context : asked_of (codes "loss" ∷ codes "--top" ∷ codes "plain" ∷ codes "--context" ∷ []) ≡ None
   pub stats_lost : asked_of (codes "stats" ∷ codes "--top" ∷ codes "plain" ∷ codes "--lost" ∷ codes "1" ∷ []) ≡ None
-  pub pack_robust : asked_of (codes "pack" ∷ codes "--top" ∷ codes "plain" ∷ codes "--robust" ∷ codes "0" ∷ []) ≡ Some (record { command = RobustPack 0; top = codes "plain"; shows_context = false; version = One; is_wide = false })
-  pub pack_robust_context : asked_of (codes "pack" ∷ codes "--robust=63" ∷ codes "--top" ∷ codes "plain" ∷ codes "--context" ∷ codes "--v2" ∷ []) ≡ Some (record { command = RobustPack 63; top = codes "plain"; shows_context = true; version = Two; is_wide = false })
+  pub pack_robust : asked_of (codes "pack" ∷ codes "--top" ∷ codes "plain" ∷ codes "--robust" ∷ codes "0" ∷ []) ≡ Some (record { command = RobustPack 0; top = codes "plain"; shows_context = false; version = One; is_wide = false; is_strict = false; avoided = [] })
+  pub pack_robust_context : asked_of (codes "pack" ∷ codes "--robust=63" ∷ codes "--top" ∷ codes "plain" ∷ codes "--context" ∷ codes "--v2" ∷ []) ≡ Some (record { command = RobustPack 63; top = codes "plain"; shows_context = true; version = Two; is_wide = false; is_strict = false; avoided = [] })
   pub pack_robust_above : asked_of (codes "pack" ∷ codes "--top" ∷ codes "plain" ∷ codes "--robust" ∷ codes "64" ∷ []) ≡ None
   pub pack_robust_zero_first : asked_of (codes "pack" ∷ codes "--top" ∷ codes "plain" ∷ codes "--robust" ∷ codes "01" ∷ []) ≡ None
   pub pack_robust_twice : asked_of (codes "pack" ∷ codes "--top" ∷ codes "plain" ∷ codes "--robust" ∷ codes "1" ∷ codes "--robust" ∷ codes "1" ∷ []) ≡ None
-  pub stats_robust : asked_of (codes "stats" ∷ codes "--top" ∷ codes "plain" ∷ codes "--robust" ∷ codes "3" ∷ []) ≡ Some (record { command = RobustStats 3; top = codes "plain"; shows_context = false; version = One; is_wide = false })
+  pub stats_robust : asked_of (codes "stats" ∷ codes "--top" ∷ codes "plain" ∷ codes "--robust" ∷ codes "3" ∷ []) ≡ Some (record { command = RobustStats 3 plain_counting; top = codes "plain"; shows_context = false; version = One; is_wide = false; is_strict = false; avoided = [] })
   pub stats_robust_plus : asked_of (codes "stats" ∷ codes "--top" ∷ codes "plain" ∷ codes "--robust" ∷ codes "+1" ∷ []) ≡ None
-  pub loss_robust : asked_of (codes "loss" ∷ codes "--top" ∷ codes "plain" ∷ codes "--robust" ∷ codes "3" ∷ []) ≡ Some (record { command = RobustLoss 8 3; top = codes "plain"; shows_context = false; version = One; is_wide = false })
-  pub loss_both : asked_of (codes "loss" ∷ codes "--top" ∷ codes "plain" ∷ codes "--robust" ∷ codes "15" ∷ codes "--lost" ∷ codes "2" ∷ []) ≡ Some (record { command = RobustLoss 2 15; top = codes "plain"; shows_context = false; version = One; is_wide = false })
+  pub loss_robust : asked_of (codes "loss" ∷ codes "--top" ∷ codes "plain" ∷ codes "--robust" ∷ codes "3" ∷ []) ≡ Some (record { command = RobustLoss 8 3; top = codes "plain"; shows_context = false; version = One; is_wide = false; is_strict = false; avoided = [] })
+  pub loss_both : asked_of (codes "loss" ∷ codes "--top" ∷ codes "plain" ∷ codes "--robust" ∷ codes "15" ∷ codes "--lost" ∷ codes "2" ∷ []) ≡ Some (record { command = RobustLoss 2 15; top = codes "plain"; shows_context = false; version = One; is_wide = false; is_strict = false; avoided = [] })
   pub loss_robust_empty : asked_of (codes "loss" ∷ codes "--top" ∷ codes "plain" ∷ codes "--robust=" ∷ []) ≡ None
-  pub why_robust : asked_of (codes "why" ∷ codes "--top" ∷ codes "plain" ∷ codes "--items" ∷ codes "--robust" ∷ codes "2" ∷ []) ≡ Some (record { command = RobustWhy 2; top = codes "plain"; shows_context = false; version = One; is_wide = false })
+  pub why_robust : asked_of (codes "why" ∷ codes "--top" ∷ codes "plain" ∷ codes "--items" ∷ codes "--robust" ∷ codes "2" ∷ []) ≡ Some (record { command = RobustWhy 2; top = codes "plain"; shows_context = false; version = One; is_wide = false; is_strict = false; avoided = [] })
   pub why_robust_packets : asked_of (codes "why" ∷ codes "--top" ∷ codes "plain" ∷ codes "--robust" ∷ codes "2" ∷ []) ≡ None
   pub unpack_robust : asked_of (codes "unpack" ∷ codes "--top" ∷ codes "plain" ∷ codes "--robust" ∷ codes "1" ∷ []) ≡ None
   pub fields_robust : asked_of (codes "fields" ∷ codes "--top" ∷ codes "plain" ∷ codes "--items" ∷ codes "--robust" ∷ codes "1" ∷ []) ≡ None
-  pub lint : asked_of (codes "lint" ∷ codes "--top" ∷ codes "plain" ∷ []) ≡ Some (record { command = Lint; top = codes "plain"; shows_context = false; version = One; is_wide = false })
+  pub stats_by_item : asked_of (codes "stats" ∷ codes "--top" ∷ codes "plain" ∷ codes "--by-item" ∷ []) ≡ Some (record { command = Stats (record { lists_items = true; needs_all = false; most = None }); top = codes "plain"; shows_context = false; version = One; is_wide = false; is_strict = false; avoided = [] })
+  pub stats_checks : asked_of (codes "stats" ∷ codes "--top" ∷ codes "plain" ∷ codes "--all" ∷ codes "--at-most" ∷ codes "40" ∷ []) ≡ Some (record { command = Stats (record { lists_items = false; needs_all = true; most = Some 40 }); top = codes "plain"; shows_context = false; version = One; is_wide = false; is_strict = false; avoided = [] })
+  pub stats_checks_robust : asked_of (codes "stats" ∷ codes "--top" ∷ codes "plain" ∷ codes "--robust" ∷ codes "2" ∷ codes "--at-most=65536" ∷ codes "--by-item" ∷ []) ≡ Some (record { command = RobustStats 2 (record { lists_items = true; needs_all = false; most = Some 65536 }); top = codes "plain"; shows_context = false; version = One; is_wide = false; is_strict = false; avoided = [] })
+  pub stats_most_above : asked_of (codes "stats" ∷ codes "--top" ∷ codes "plain" ∷ codes "--at-most" ∷ codes "65537" ∷ []) ≡ None
+  pub stats_most_letter : asked_of (codes "stats" ∷ codes "--top" ∷ codes "plain" ∷ codes "--at-most" ∷ codes "4x" ∷ []) ≡ None
+  pub loss_checks : asked_of (codes "loss" ∷ codes "--top" ∷ codes "plain" ∷ codes "--all" ∷ []) ≡ None
+  pub why_not : asked_of (codes "why" ∷ codes "--top" ∷ codes "plain" ∷ codes "--items" ∷ codes "--not" ∷ codes "short" ∷ []) ≡ Some (record { command = WhyNot; top = codes "plain"; shows_context = false; version = One; is_wide = false; is_strict = false; avoided = codes "short" })
+  pub why_not_second : asked_of (codes "why" ∷ codes "--not=a.b" ∷ codes "--v2" ∷ codes "--items" ∷ codes "--top" ∷ codes "plain" ∷ []) ≡ Some (record { command = WhyNot; top = codes "plain"; shows_context = false; version = Two; is_wide = false; is_strict = false; avoided = codes "a.b" })
+  pub why_not_packets : asked_of (codes "why" ∷ codes "--top" ∷ codes "plain" ∷ codes "--not" ∷ codes "short" ∷ []) ≡ None
+  pub why_not_robust : asked_of (codes "why" ∷ codes "--top" ∷ codes "plain" ∷ codes "--items" ∷ codes "--not" ∷ codes "short" ∷ codes "--robust" ∷ codes "2" ∷ []) ≡ None
+  pub fields_not : asked_of (codes "fields" ∷ codes "--top" ∷ codes "plain" ∷ codes "--items" ∷ codes "--not" ∷ codes "short" ∷ []) ≡ None
+  pub advise : asked_of (codes "advise" ∷ codes "--top" ∷ codes "plain" ∷ []) ≡ Some (record { command = Advise 8; top = codes "plain"; shows_context = false; version = One; is_wide = false; is_strict = false; avoided = [] })
+  pub advise_lost : asked_of (codes "advise" ∷ codes "--top" ∷ codes "plain" ∷ codes "--lost" ∷ codes "3" ∷ []) ≡ Some (record { command = Advise 3; top = codes "plain"; shows_context = false; version = One; is_wide = false; is_strict = false; avoided = [] })
+  pub advise_robust : asked_of (codes "advise" ∷ codes "--top" ∷ codes "plain" ∷ codes "--robust" ∷ codes "3" ∷ []) ≡ None
+  pub lint_strict : asked_of (codes "lint" ∷ codes "--top" ∷ codes "plain" ∷ codes "--strict" ∷ []) ≡ Some (record { command = Lint; top = codes "plain"; shows_context = false; version = One; is_wide = false; is_strict = true; avoided = [] })
+  pub draw_strict : asked_of (codes "draw" ∷ codes "--top" ∷ codes "plain" ∷ codes "--strict" ∷ []) ≡ None
+  pub lint : asked_of (codes "lint" ∷ codes "--top" ∷ codes "plain" ∷ []) ≡ Some (record { command = Lint; top = codes "plain"; shows_context = false; version = One; is_wide = false; is_strict = false; avoided = [] })
   pub lint_second : asked_of (codes "lint" ∷ codes "--top" ∷ codes "plain" ∷ codes "--v2" ∷ []) ≡ None
-  pub draw : asked_of (codes "draw" ∷ codes "--top" ∷ codes "plain" ∷ []) ≡ Some (record { command = Draw; top = codes "plain"; shows_context = false; version = One; is_wide = false })
-  pub check_explain : asked_of (codes "check" ∷ codes "--top" ∷ codes "plain" ∷ codes "--explain" ∷ []) ≡ Some (record { command = ExplainCheck; top = codes "plain"; shows_context = false; version = One; is_wide = false })
-  pub prove_explain : asked_of (codes "prove" ∷ codes "--explain" ∷ codes "--top" ∷ codes "plain" ∷ []) ≡ Some (record { command = ExplainProve; top = codes "plain"; shows_context = false; version = One; is_wide = false })
+  pub draw : asked_of (codes "draw" ∷ codes "--top" ∷ codes "plain" ∷ []) ≡ Some (record { command = Draw; top = codes "plain"; shows_context = false; version = One; is_wide = false; is_strict = false; avoided = [] })
+  pub check_explain : asked_of (codes "check" ∷ codes "--top" ∷ codes "plain" ∷ codes "--explain" ∷ []) ≡ Some (record { command = ExplainCheck; top = codes "plain"; shows_context = false; version = One; is_wide = false; is_strict = false; avoided = [] })
+  pub prove_explain : asked_of (codes "prove" ∷ codes "--explain" ∷ codes "--top" ∷ codes "plain" ∷ []) ≡ Some (record { command = ExplainProve; top = codes "plain"; shows_context = false; version = One; is_wide = false; is_strict = false; avoided = [] })
   pub pack_explain : asked_of (codes "pack" ∷ codes "--top" ∷ codes "plain" ∷ codes "--explain" ∷ []) ≡ None
   pub pack_items : asked_of (codes "pack" ∷ codes "--top" ∷ codes "plain" ∷ codes "--items" ∷ []) ≡ None
   pub pack_wide : asked_of (codes "pack" ∷ codes "--top" ∷ codes "plain" ∷ codes "--wide" ∷ []) ≡ None

@@ -1,4 +1,5 @@
 //! The command line.
 #![tactic(auto)]
 
+mod command_line;
 pub mod words;

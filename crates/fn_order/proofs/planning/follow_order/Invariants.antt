@@ -4,7 +4,7 @@ use Rattle.fn_cert.specs.declared.rule.Fact.{Fact}
 use Rattle.fn_cert.specs.Kept.{step_limit}
 use Rattle.fn_rules.specs.Plans.{goals_of, is_complete}
 use Rattle.fn_plans.specs.Knowing.{shows, Knows}
-use Rattle.fn_order.specs.Searching.{AreWaiting, AreLearntTo}
+use Rattle.fn_order.specs.Searching.{AreWaiting, AreLeft, AreLearntTo}
 use Rattle.fn_order.proofs.Planned.{SoFar}
 use Rattle.fn_order.proofs.planning.follow_order.Given as goal
 
@@ -12,6 +12,7 @@ abbrev pub invariant-more : goal.invariant-more
 invariant-more l =
     SoFar l.fn.version l.direction l.table l.sizes l.format l.steps l.known
     × AreWaiting (shows l.known) l.format l.possible l.waits.due l.waits.noted None
+    × AreLeft (shows l.known) l.format l.possible l.needs.items
     × AreLearntTo l.direction l.format (shows l.known) l.missing
     × (l.missing < length l.format.fields → (facts : List Fact) → Knows l.known facts → is_complete (goals_of l.direction l.format) facts ≡ false)
 

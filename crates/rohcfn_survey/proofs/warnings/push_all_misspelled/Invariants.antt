@@ -4,4 +4,4 @@ use Rattle.rohcfn_survey.specs.Warnings.{misspelled_lines}
 use Rattle.rohcfn_survey.proofs.warnings.push_all_misspelled.Given as goal
 
 abbrev pub invariant-loop-name : goal.invariant-loop-name
-invariant-loop-name l = string_bytes l.text ++ misspelled_lines l.octets l.methods (drop l.name-index l.found) ≡ string_bytes l.fn.text ++ misspelled_lines l.octets l.methods l.found
+invariant-loop-name l = string_bytes l.text ++ misspelled_lines l.places l.methods (drop l.name-index l.found) ≡ string_bytes l.fn.text ++ misspelled_lines l.places l.methods l.found

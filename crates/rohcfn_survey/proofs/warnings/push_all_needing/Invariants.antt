@@ -4,4 +4,4 @@ use Rattle.rohcfn_survey.specs.Warnings.{needing_lines}
 use Rattle.rohcfn_survey.proofs.warnings.push_all_needing.Given as goal
 
 abbrev pub invariant-loop-needing : goal.invariant-loop-needing
-invariant-loop-needing l = string_bytes l.text ++ needing_lines l.octets l.methods (drop l.needing-index l.found) ≡ string_bytes l.fn.text ++ needing_lines l.octets l.methods l.found
+invariant-loop-needing l = string_bytes l.text ++ needing_lines l.places l.methods (drop l.needing-index l.found) ≡ string_bytes l.fn.text ++ needing_lines l.places l.methods l.found

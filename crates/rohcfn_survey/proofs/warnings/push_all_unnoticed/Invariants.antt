@@ -4,4 +4,4 @@ use Rattle.rohcfn_survey.specs.Warnings.{unnoticed_lines}
 use Rattle.rohcfn_survey.proofs.warnings.push_all_unnoticed.Given as goal
 
 abbrev pub invariant-loop-format : goal.invariant-loop-format
-invariant-loop-format l = string_bytes l.text ++ unnoticed_lines l.octets l.methods (drop l.format-index l.found) ≡ string_bytes l.fn.text ++ unnoticed_lines l.octets l.methods l.found
+invariant-loop-format l = string_bytes l.text ++ unnoticed_lines l.places l.methods (drop l.format-index l.found) ≡ string_bytes l.fn.text ++ unnoticed_lines l.places l.methods l.found

@@ -1,11 +1,10 @@
 use Rattle.std.proofs.Common.{refl, subst}
 use Rattle.rohcfn_tool.specs.Line.{Lined}
 use Rattle.rohcfn_tool.specs.declared.stats.Survey.TheVariants as survey
-use Rattle.rohcfn_tool.specs.Printed.{Answered, AnsweredRun, no_profile, shown, linted, drawn, checked, proved, check_explained, prove_explained, ran, told, explained, lined, stated, lost_told, robust_packed, robust_explained, robust_stated, robust_told, Stated}
+use Rattle.rohcfn_tool.specs.Printed.{Answered, AnsweredRun, LintedWith, no_profile, shown, linted, drawn, checked, proved, check_explained, prove_explained, ran, told, explained, lined, stated, lost_told, advice_told, avoided_told, robust_packed, robust_explained, robust_stated, robust_told, Stated}
 use Rattle.rohcfn_tool.specs.declared.packets.Shape.TheVariants.{Line, Tree, Why}
 use Rattle.rohcfn_report.specs.Explained.{Explained}
 use Rattle.rohcfn_report.specs.Surveys.{DrawnBy}
-use Rattle.rohcfn_report.specs.Surveys.{LintedBy}
 use Rattle.rohcfn_report.specs.Reports.{CheckedOctets, ProvedOctets, ShownBy}
 use Rattle.rohcfn_input.proofs.RefusalsHeld.{passed_on, refusal_is}
 use Rattle.rohcfn_tool.proofs.answers.answer.Goals as goal
@@ -19,7 +18,7 @@ returns-in-Show c =
 
 pub returns-in-Lint : goal.returns-in-Lint
 returns-in-Lint c =
-    passed_on (LintedBy c.args.order.now.top.now c.in-Some.profile.now c.args.parts.now.context) (Answered c.args.order.now c.args.parts.now) c.answer_lint.result (λ s out h. linted c.in-Some.profile c.in-Some.is c.in-Lint.is h) c.answer_lint.ensures
+    passed_on (LintedWith c.args.order.now c.in-Some.profile.now c.args.parts.now) (Answered c.args.order.now c.args.parts.now) c.lint_by.result (λ s out h. linted c.in-Some.profile c.in-Some.is c.in-Lint.is h) c.lint_by.ensures
 
 pub returns-in-Draw : goal.returns-in-Draw
 returns-in-Draw c =
@@ -61,7 +60,7 @@ returns-in-Line c =
 
 pub returns-in-Stats : goal.returns-in-Stats
 returns-in-Stats c =
-    passed_on (Stated survey.Stats c.args.order.now c.in-Some.profile.now c.args.parts.now) (Answered c.args.order.now c.args.parts.now) c.answer_stats.result (λ s out h. stated c.in-Some.profile c.in-Some.is c.in-Stats.is h) c.answer_stats.ensures
+    passed_on (Stated (survey.Stats c.in-Stats.counting) c.args.order.now c.in-Some.profile.now c.args.parts.now) (Answered c.args.order.now c.args.parts.now) c.answer_stats.result (λ s out h. stated c.in-Some.profile c.in-Stats.counting c.in-Some.is c.in-Stats.is h) c.answer_stats.ensures
 
 pub returns-in-Loss : goal.returns-in-Loss
 returns-in-Loss c =
@@ -73,7 +72,7 @@ returns-in-RobustPack c =
 
 pub returns-in-RobustStats : goal.returns-in-RobustStats
 returns-in-RobustStats c =
-    passed_on (Stated (survey.RobustStats c.in-RobustStats.lost) c.args.order.now c.in-Some.profile.now c.args.parts.now) (Answered c.args.order.now c.args.parts.now) c.answer_stats-in-RobustStats.result (λ s out h. robust_stated c.in-Some.profile c.in-RobustStats.lost c.in-Some.is c.in-RobustStats.is h) c.answer_stats-in-RobustStats.ensures
+    passed_on (Stated (survey.RobustStats c.in-RobustStats.lost c.in-RobustStats.counting) c.args.order.now c.in-Some.profile.now c.args.parts.now) (Answered c.args.order.now c.args.parts.now) c.answer_stats-in-RobustStats.result (λ s out h. robust_stated c.in-Some.profile c.in-RobustStats.lost c.in-RobustStats.counting c.in-Some.is c.in-RobustStats.is h) c.answer_stats-in-RobustStats.ensures
 
 pub returns-in-RobustLoss : goal.returns-in-RobustLoss
 returns-in-RobustLoss c =
@@ -82,3 +81,11 @@ returns-in-RobustLoss c =
 pub returns-in-RobustWhy : goal.returns-in-RobustWhy
 returns-in-RobustWhy c =
     passed_on (Stated (survey.RobustPack (Why c.in-Some.profile) c.args.order.now.shows_context c.in-RobustWhy.lost) c.args.order.now c.in-Some.profile.now c.args.parts.now) (Answered c.args.order.now c.args.parts.now) c.answer_stats-in-RobustWhy.result (λ s out h. robust_explained c.in-Some.profile c.in-RobustWhy.lost c.in-Some.is c.in-RobustWhy.is h) c.answer_stats-in-RobustWhy.ensures
+
+pub returns-in-WhyNot : goal.returns-in-WhyNot
+returns-in-WhyNot c =
+    passed_on (Stated (survey.Avoid c.in-Some.profile c.args.order.now.avoided) c.args.order.now c.in-Some.profile.now c.args.parts.now) (Answered c.args.order.now c.args.parts.now) c.answer_stats-in-WhyNot.result (λ s out h. avoided_told c.in-Some.profile c.in-Some.is c.in-WhyNot.is h) c.answer_stats-in-WhyNot.ensures
+
+pub returns-in-Advise : goal.returns-in-Advise
+returns-in-Advise c =
+    passed_on (Stated (survey.Advise c.in-Advise.lost) c.args.order.now c.in-Some.profile.now c.args.parts.now) (Answered c.args.order.now c.args.parts.now) c.answer_stats-in-Advise.result (λ s out h. advice_told c.in-Some.profile c.in-Advise.lost c.in-Some.is c.in-Advise.is h) c.answer_stats-in-Advise.ensures

@@ -2,4 +2,4 @@ use Rattle.rohcfn_tool.proofs.PrintedTallying.{counts_printed}
 use Rattle.rohcfn_tool.proofs.stats.print_counts.Goals as goal
 
 pub returns : goal.returns
-returns c = counts_printed c.args.accepted.now _ _ _ c.args.sums.now _ c.args.refused.now c.push_line.new.output c.profile-profile.ensures c.methods.ensures c.top.ensures (λ fs are. c.in_ok-output.ensures fs are) c.in_ok-push_line.ensures
+returns c = counts_printed c.args.accepted.now c.args.counting c.args.told.now _ _ _ _ c.push_line.new.output c.as_str.ensures.value c.as_str-2.ensures.value c.counted_status.ensures c.in_ok-output.ensures c.in_ok-push_line.ensures

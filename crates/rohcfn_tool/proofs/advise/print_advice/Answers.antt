@@ -1,0 +1,5 @@
+use Rattle.rohcfn_tool.proofs.PrintedAdvising.{advice_printed}
+use Rattle.rohcfn_tool.proofs.advise.print_advice.Goals as goal
+
+pub returns : goal.returns
+returns c = advice_printed c.args.trends.now _ c.args.refused.now c.push_line.new.output c.in_ok-output.ensures c.in_ok-push_line.ensures

@@ -1,0 +1,177 @@
+"""Takes items and packets of any size: what is more than a bundle holds goes through the program in pieces, each from the context that the one before left. What is
+printed is what one call would print."""
+import itertools
+import re
+import subprocess
+import sys
+import time
+
+from . import parts, sums, terminal
+
+PIECED = ("pack", "unpack", "stats")
+BLOCK = 1 << 20  # octets of lines that go into a call, and that are read at a time
+CONTEXT = b"=== context\n"
+NUMBERED = re.compile(rb"^(item|packet) (\d+)(?=: )|^(items|packets):(\d+)(?=: )")
+REFUSED = re.compile(rb"^item (\d+): ")
+SHOWN = 2  # seconds between two lines of progress
+
+
+class Stopped(Exception):
+    """The call ends here, with this status."""
+
+
+def is_pieced(order):
+    """Whether the command takes pieces. A sender whose packets survive losses keeps more than a context."""
+    return order.command in PIECED and not order.has("robust")
+
+
+def blocks(read, name, part):
+    """Blocks of whole lines of a file, up to a line `=== context` among packets. A line that is longer than a bundle is the last block."""
+    rest, above = b"", 0
+    while True:
+        octets = rest + (more := read(BLOCK))
+        end = len(octets) if not more else octets.rfind(b"\n") + 1
+        whole, rest = octets[:end], octets[end:]
+        if part == "packets" and (found := parts.CONTEXT.search(whole)):
+            whole, more = whole[:found.start()], b""
+        if len(rest) > parts.BUNDLE:
+            whole, more = whole + rest, b""
+        parts.refuse_heading(whole, name, above)
+        if whole:
+            yield parts.ended(whole), above
+        above += whole.count(b"\n")
+        if not more:
+            return
+
+
+def grouped(given):
+    """Blocks of whole lines of about the same length, of blocks of whole lines."""
+    waiting = b""
+    for it in itertools.chain(given, [b""]):
+        waiting += it
+        while waiting and (len(waiting) > BLOCK or not it):
+            end = len(waiting) if len(waiting) <= BLOCK else waiting.rfind(b"\n", 0, BLOCK) + 1 or waiting.find(b"\n") + 1 or len(waiting)
+            yield waiting[:end]
+            waiting = waiting[end:]
+
+
+class Pieces:
+    """A command whose lines go through the program in pieces. `parts` are the other parts of its bundle."""
+
+    def __init__(self, filter_path, order, top, given, profile):
+        self.path, self.order, self.top = filter_path, order, top
+        self.given, self.profile, self.part = dict(given), profile, "packets" if order.command == "unpack" else "items"
+        self.lines = self.count = self.calls = 0  # lines and items before the piece
+        self.flags = [it for it in order.flags() if it != "--context"]
+        self.printed = b""  # by the last call
+        self.sums, self.told, self.rows = sums.Sums(), [], order.has("by-item")
+        self.shown = time.monotonic()
+
+    def answer(self, given):
+        """Runs the command on blocks of lines; its status."""
+        try:
+            for it in given:
+                (self.count_piece if self.order.command == "stats" else self.pass_piece)(it)
+                self.lines += it.count(b"\n")
+                self.count += items_in(it)
+                self.show()
+            return self.last()
+        except Stopped as why:
+            return why.args[0]
+
+    def call(self, command, flags, lines):
+        """What the program prints of a piece, with its status. All but the first call say nothing beside, unless they fail."""
+        words = [self.path, "--", command, "--top", self.top, *flags]
+        bundle = parts.bundle({**self.given, self.part: lines}, self.profile)
+        ran = subprocess.run(words, input=bundle, stdout=subprocess.PIPE, stderr=subprocess.PIPE if self.calls else None, check=False)
+        self.calls, self.printed = self.calls + 1, ran.stdout
+        if ran.returncode not in (0, 1) and ran.stderr:
+            terminal.writes(ran.stderr.decode(errors="replace"))
+        return ran.stdout, ran.returncode
+
+    def pass_piece(self, lines):
+        """Prints what the program prints of a piece, and keeps the context."""
+        printed, status = self.call(self.order.command, [*self.flags, "--context"], lines)
+        if status != 0:
+            whole, _, fault = printed.rstrip(b"\n").rpartition(b"\n")
+            self.writes((whole + b"\n" if whole else b"") + (self.renumbered(fault) + b"\n" if printed else b""))
+            raise Stopped(status)
+        begin = 0 if printed.startswith(CONTEXT) else printed.rfind(b"\n" + CONTEXT) + 1
+        self.writes(printed[:begin])
+        self.given["context"] = printed[begin + len(CONTEXT):]
+
+    def count_piece(self, lines):
+        """Adds what the program counts of a piece, or prints its rows, and keeps the context that the items which aren't refused leave."""
+        printed, status = self.call("stats", [it for it in self.flags if it != "--all" and not it.startswith("--at-most")], lines)
+        if status != 0:
+            self.writes(self.renumbered(printed.rstrip(b"\n")) + b"\n" if printed else b"")
+            raise Stopped(status)
+        every = printed.splitlines()
+        refused = [it for it in every if REFUSED.match(it)]
+        self.told += map(self.renumbered, refused)
+        (self.pass_rows if self.rows else self.sums.add)([it for it in every if not REFUSED.match(it)])
+        left = without(lines, {int(REFUSED.match(it).group(1)) for it in refused}) if refused else lines
+        context, status = self.call("pack", [it for it in self.flags if it == "--v2"] + ["--context"], left)
+        if status != 0:
+            raise Stopped(status)
+        self.given["context"] = context[(context.rfind(b"\n" + CONTEXT) + 1) + len(CONTEXT):]
+
+    def pass_rows(self, every):
+        """Prints the rows of a piece with the numbers of the whole."""
+        rows = [it.split(b"\t") for it in every[1:]]
+        self.sums.items += len(rows)
+        self.sums.bits += sum(int(it[2]) for it in rows)
+        head = [every[0]] if not self.lines else []
+        self.writes(b"".join(it + b"\n" for it in head + [b"\t".join([b"%d" % (int(it[0]) + self.count), *it[1:]]) for it in rows]))
+
+    def last(self):
+        """Prints what comes last; the status."""
+        if self.order.command != "stats":
+            if self.order.has("context"):
+                self.writes(CONTEXT + self.given.get("context", b""))
+            return 0
+        table = [] if self.rows else self.table()
+        self.writes(b"".join(it + b"\n" for it in table + self.told))
+        above = self.order.has("at-most") and self.sums.bits > int(self.order.get("at-most")) * self.sums.items
+        return 1 if above or self.order.has("all") and self.told else 0
+
+    def table(self):
+        """The lines of what is counted of all pieces."""
+        unsure = self.sums.complete(sums.methods_of(self.call("show", [], b"")[0].decode()))
+        if unsure:
+            terminal.says("below %s formats without bits are counted only in pieces in which the field has bits" % ", ".join(unsure))
+        return [it.encode() for it in self.sums.lines()]
+
+    def renumbered(self, line):
+        """A fault line with the numbers of the whole."""
+        def whole(found):
+            if found.group(1):
+                return b"%s %d" % (found.group(1), int(found.group(2)) + self.count)
+            return b"%s:%d" % (found.group(3), int(found.group(4)) + self.lines)
+        return NUMBERED.sub(whole, line)
+
+    def writes(self, octets):
+        """Prints octets; where that can't be, the call ends, as the program does."""
+        from .diagnosis import fault_in
+        fault = fault_in(octets) if sys.stdout is not None else OSError()
+        if fault is not None:
+            if not isinstance(fault, BrokenPipeError):
+                terminal.writes("error: writing the output failed\n")
+            raise Stopped(3)
+
+    def show(self):
+        """Says on a terminal how far the call is."""
+        if sys.stderr is not None and sys.stderr.isatty() and time.monotonic() - self.shown >= SHOWN:
+            self.shown = time.monotonic()
+            terminal.says("%d %s are done" % (self.count, self.part))
+
+
+def items_in(lines):
+    """How many of the lines aren't empty."""
+    return sum(1 for it in lines.split(b"\n") if it and it != b"\r")
+
+
+def without(lines, numbers):
+    """The lines without the items of these numbers."""
+    every = [it for it in lines.split(b"\n") if it and it != b"\r"]
+    return b"".join(it + b"\n" for at, it in enumerate(every, 1) if at not in numbers)
