@@ -29,12 +29,16 @@ FIELDS = "i [32]; n [32];"
 BIDI, SHOWN = "a\u202eb\x1b[2J\u2066c\u061c", "a\\u{202e}b\\u{1b}[2J\\u{2066}c\\u{61c}"
 MIB, LISTED, COUNTED = 1 << 20, 32, 65_536
 LONGEST = 60  # seconds after which a call is ended
+# Seconds are due of a processor that does this work in so many of them. A slower one, or one that is shared, has as many times longer.
+WORK, PACE = "t = {}\nfor n in range(600_000): t[n % 997] = t.get(n % 991, 0) + len(str(n))\nprint(sum(t.values()))", 0.4
 ESP4 = bytes.fromhex("4500003000074000403200007f0000017f0000020000abcd00010007ffff")
 RT = '#!/bin/sh\necho "$1" >>"$0.calls"\n[ "$1" = try ] || exit 0\ncat\necho "checked: ended status=0" >&2\necho "run=ended status=0 runners=1" >&2\n'
 
 # A call in bash, where "$0" is bin/rohcfn: its name, the call, the status, what is printed and said (texts that stand there, or None), and at most how many
 # seconds of the processor, MiB and lines it takes.
 Row = collections.namedtuple("Row", "name call status printed said seconds mib lines", defaults=(None, None, 2, 100, 12))
+# How a call ended, what it printed and said, and what it took.
+Seen = collections.namedtuple("Seen", "status printed said seconds mib")
 
 
 def profile(fields=FIELDS, more="", front=""):
@@ -247,9 +251,9 @@ def terminal():
     yield Row("shown: the text at a fault", '"$0" show bidi.fn --diagnose', 1, "profile:1:29: E01", "1 | q { UNCOMPRESSED { x [8]; } ???[31m", lines=20)
 
 
-def used(command, folder, environment, call):
-    """How a call ended, what it printed and said, and what it took."""
-    with subprocess.Popen(["bash", "-c", call, command], cwd=folder, env=environment, stdin=subprocess.DEVNULL, stdout=subprocess.PIPE, stderr=subprocess.PIPE, start_new_session=True) as running:
+def ended(words, **how):
+    """What is seen of a process that reads nothing."""
+    with subprocess.Popen(words, stdin=subprocess.DEVNULL, stdout=subprocess.PIPE, stderr=subprocess.PIPE, start_new_session=True, **how) as running:
         ending = threading.Timer(LONGEST, os.killpg, (running.pid, signal.SIGKILL))
         ending.start()
         with concurrent.futures.ThreadPoolExecutor(max_workers=2) as pool:
@@ -257,22 +261,40 @@ def used(command, folder, environment, call):
         ending.cancel()
         _, status, took = os.wait4(running.pid, 0)
         running.returncode = os.waitstatus_to_exitcode(status)
-    return running.returncode, printed.decode(errors="replace"), said.decode(errors="replace"), took.ru_utime + took.ru_stime, took.ru_maxrss / 1024
+    return Seen(running.returncode, printed.decode(errors="replace"), said.decode(errors="replace"), took.ru_utime + took.ru_stime, took.ru_maxrss / 1024)
 
 
-def wrong_with(place, row):
-    """What is wrong with a row, or None."""
-    status, printed, said, seconds, mib = used(place.command, place.files, place.environment, row.call)
-    faults = [] if status == row.status else ["status %d, and not %d" % (status, row.status)]
-    for due, seen in ((row.printed, printed), (row.said, said)):
-        if due is not None and (due not in seen if due else seen):
-            faults.append("%.400r, and not %.200r" % (seen, due))
-    if "Traceback" in said or "\x1b" in said or "\u202e" in said:
-        faults.append("said %.400r" % said)
-    if seconds > row.seconds or mib > row.mib:
-        faults.append("%.1f seconds and %d MiB, and at most %.1f and %d are due" % (seconds, mib, row.seconds, row.mib))
-    if said.count("\n") + (printed.count("\n") if row.lines == 1 else 0) > row.lines:
-        faults.append("%d lines" % said.count("\n"))
+def called(place, row):
+    """What is seen of the call of a row."""
+    return ended(["bash", "-c", row.call, place.command], cwd=place.files, env=place.environment)
+
+
+def slower():
+    """How many times slower than it is reckoned with the processor is now, and 1 where it is faster."""
+    return max(1, ended([sys.executable, "-S", "-c", WORK]).seconds / PACE)
+
+
+def alone(place, row):
+    """What is seen of a call while no other one runs, with the seconds that it takes where the processor does WORK in PACE: the least of three."""
+    tries = []
+    while len(tries) < 3 and not (tries and tries[-1].seconds <= row.seconds):
+        before, seen = slower(), called(place, row)
+        tries.append(seen._replace(seconds=seen.seconds / min(before, slower())))
+    return min(tries, key=lambda it: it.seconds)
+
+
+def wrong_with(row, seen):
+    """What is wrong with what is seen of a row, or None."""
+    faults = [] if seen.status == row.status else ["status %d, and not %d" % (seen.status, row.status)]
+    for due, it in ((row.printed, seen.printed), (row.said, seen.said)):
+        if due is not None and (due not in it if due else it):
+            faults.append("%.400r, and not %.200r" % (it, due))
+    if "Traceback" in seen.said or "\x1b" in seen.said or "\u202e" in seen.said:
+        faults.append("said %.400r" % seen.said)
+    if seen.seconds > row.seconds or seen.mib > row.mib:
+        faults.append("%.1f seconds and %d MiB, and at most %.1f and %d are due" % (seen.seconds, seen.mib, row.seconds, row.mib))
+    if seen.said.count("\n") + (seen.printed.count("\n") if row.lines == 1 else 0) > row.lines:
+        faults.append("%d lines" % seen.said.count("\n"))
     return "%s: %s" % (row.name, "; ".join(faults)) if faults else None
 
 
@@ -318,8 +340,10 @@ def main():
         rows = [(it, at["told"]) for part in (smuggled, bounded) for it in part()]
         rows += [(it, at["built"]) for part in (endless, streams, terminal) for it in part()] + list(odd_folder(folder))
         with concurrent.futures.ThreadPoolExecutor(max_workers=4) as pool:
-            wrong = list(pool.map(lambda it: wrong_with(it[1], it[0]), rows))
-        wrong += [wrong_with(at["bare"], it) for it in unproved()]
+            seen = list(pool.map(lambda it: called(it[1], it[0]), rows))
+        seen = [alone(place, row) if it.seconds > row.seconds else it for (row, place), it in zip(rows, seen)]
+        wrong = [wrong_with(row, it) for (row, _), it in zip(rows, seen)]
+        wrong += [wrong_with(it, called(at["bare"], it)) for it in unproved()]
         wrong += [None if holds else "%s: %.300r" % (name, seen) for name, holds, seen in in_terminal(at["built"])]
     for it in filter(None, wrong):
         print("hostile: " + it)
