@@ -115,6 +115,15 @@ def reads(subject, context, part, line, told):
     return reading.wrong
 
 
+def reads_inside(subject, context, path, header, told):
+    """What is wrong with those of the method that is called at a path, of which a filling has this header."""
+    profile, dead = profile_of(subject.profile, subject.name, subject.version)
+    reading = reasons.Reading(profile, context, header, "U", {}, dead, path)
+    for it in told:
+        reading.line(it)
+    return reading.wrong
+
+
 def is_told(subject, lines, there):
     """Whether the lines are those of the formats of the top, of which none that is blamed has a filling; and how many are blamed."""
     found = [LINE.fullmatch(it) for it in lines]

@@ -170,10 +170,10 @@ class Seen:
 
 
 class Reading:
-    """Goes over the lines of one refusal."""
+    """Goes over the lines of one refusal, of the top or of the method that is called at a path."""
 
-    def __init__(self, profile, context, bits, side, asked, dead):
-        self.profile, self.context, self.bits, self.side, self.asked, self.dead = profile, context, bits, side, asked, dead
+    def __init__(self, profile, context, bits, side, asked, dead, path=""):
+        self.profile, self.context, self.bits, self.side, self.asked, self.dead, self.path = profile, context, bits, side, asked, dead, path
         self.wrong, self.checked, self.inside = [], 0, []
 
     def line(self, line):
@@ -183,7 +183,7 @@ class Reading:
             self.wrong.append(line)
             return
         depth = len(found[3]) // 2
-        path, bits = ("", self.bits) if depth == 0 else self.inside[depth - 1][1:] if depth <= len(self.inside) else (None, None)
+        path, bits = (self.path, self.bits) if depth == 0 else self.inside[depth - 1][1:] if depth <= len(self.inside) else (None, None)
         method = self.profile.by_name.get(found[4])
         form = next((it for it in method.formats if it.shown() == found[5]), None) if method else None
         if form is None or path is None or depth and self.inside[depth - 1][0] != found[4]:

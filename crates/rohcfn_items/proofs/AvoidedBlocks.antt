@@ -4,7 +4,7 @@ use Rattle.std.specs.Prelude.{slice_get}
 use Rattle.std.proofs.lemmas.List.{append-nil}
 use Rattle.fn_filling.specs.declared.filling.Item.{Item}
 use Rattle.fn_profile.specs.Resolved.{Resolved}
-use Rattle.rohcfn_items.specs.Avoided.{AreBlocks, IsAvoidedText, a_block, block_text, head_text, no_blocks}
+use Rattle.rohcfn_items.specs.Avoided.{AreBlocks, IsAvoidedText, a_block, block_text, count_line, no_blocks}
 use Rattle.rohcfn_items.specs.declared.avoided.Verdict.{Verdict}
 use Rattle.rohcfn_items.specs.declared.avoided.Verdicts.{Verdicts}
 
@@ -27,7 +27,7 @@ module _ (octets : List ℕ) (p : Resolved) (items : List Item) (kept : List Ver
         goes_on = λ rest are. subst (AreBlocks octets p items kept) (sym (append_assoc so.blocks block rest)) (so.goes_on (block ++ rest) (a_block place count v at are));
       }
 
-pub blocks_end : (octets : List ℕ) (p : Resolved) (items : List Item) (name text : List ℕ) (vs : Verdicts) → BlocksSoFar octets p items vs.kept (head_text name vs.taken vs.others vs.refused) text → IsAvoidedText octets p name items vs text
+pub blocks_end : (octets : List ℕ) (p : Resolved) (items : List Item) (name text : List ℕ) (vs : Verdicts) → BlocksSoFar octets p items vs.kept (count_line name vs) text → IsAvoidedText octets p name items vs text
 blocks_end octets p items name text vs so = record {
   blocks = so.blocks;
   blocks_are = subst (AreBlocks octets p items vs.kept) (append-nil so.blocks) (so.goes_on [] no_blocks);

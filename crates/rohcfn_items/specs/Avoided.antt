@@ -4,7 +4,7 @@ use Rattle.fn_filling.specs.declared.filling.AskedValue.{AskedValue}
 use Rattle.fn_filling.specs.declared.filling.Item.{Item}
 use Rattle.fn_profile.specs.Resolved.{Resolved}
 use Rattle.rohcfn_items.specs.declared.avoided.Fate.{Fate}
-use Rattle.rohcfn_items.specs.declared.avoided.Fate.TheVariants.{Refused, Taken, Against, Later}
+use Rattle.rohcfn_items.specs.declared.avoided.Fate.TheVariants.{Refused, Absent, Taken, Against, Later}
 use Rattle.rohcfn_items.specs.declared.avoided.Verdict.{Verdict}
 use Rattle.rohcfn_items.specs.declared.avoided.Verdicts.{Verdicts}
 use Rattle.rohcfn_items.specs.Why.{reasons_text}
@@ -13,6 +13,17 @@ use Rattle.rohcfn_names.specs.Names.{format_name}
 -- how many items are packed by the format, by others, and not at all
 abbrev pub head_text : List ℕ → ℕ → ℕ → ℕ → List ℕ
 head_text name taken others refused = codes "format " ++ name ++ codes " items " ++ decimal taken ++ codes " others " ++ decimal others ++ codes " refused " ++ decimal refused
+
+-- how many packets have no method with the format
+abbrev pub counted_without : ℕ → List ℕ
+counted_without n = codes " without " ++ decimal n
+
+abbrev pub without_words : ℕ → List ℕ
+without_words n = if n == 0 then [] else counted_without n
+
+-- the first line
+abbrev pub count_line : List ℕ → Verdicts → List ℕ
+count_line name vs = head_text name vs.taken vs.others vs.refused ++ without_words vs.without
 
 -- how many items are of a kind, and which is the first
 abbrev pub block_head : ℕ → ℕ → List ℕ
@@ -32,9 +43,10 @@ asked_of items n = if n == 0 then [] else asked_in (slice_get items (n - 1))
 -- by which format the item is packed, and what stands against the other one, or that it comes later
 abbrev pub fate_text : List ℕ → Resolved → List AskedValue → Fate → List ℕ
 fate_text octets p asked Refused = []
+fate_text octets p asked Absent = []
 fate_text octets p asked Taken = []
-fate_text octets p asked (Against taken lines) = codes " by " ++ format_name p.methods p.top taken ++ reasons_text octets p asked lines
-fate_text octets p asked (Later taken bits) = codes " by " ++ format_name p.methods p.top taken ++ later_words bits
+fate_text octets p asked (Against method taken lines) = codes " by " ++ format_name p.methods method taken ++ reasons_text octets p asked lines
+fate_text octets p asked (Later method taken bits) = codes " by " ++ format_name p.methods method taken ++ later_words bits
 
 abbrev pub block_text : List ℕ → Resolved → List Item → ℕ → Verdict → List ℕ
 block_text octets p items count v = block_head count v.number ++ fate_text octets p (asked_of items v.number) v.fate
@@ -47,7 +59,7 @@ pub data AreBlocks (octets : List ℕ) (p : Resolved) (items : List Item) (kept 
 pub record IsAvoidedText (octets : List ℕ) (p : Resolved) (name : List ℕ) (items : List Item) (vs : Verdicts) (text : List ℕ) : Type 0 where
   pub blocks : List ℕ
   pub blocks_are : AreBlocks octets p items vs.kept blocks
-  pub text_is : text ≡ head_text name vs.taken vs.others vs.refused ++ blocks
+  pub text_is : text ≡ count_line name vs ++ blocks
 
 -- what is kept stays as it is, or this verdict is kept, too
 pub data Keeps (n : ℕ) (fate : Fate) (old new : List Verdict) : Type 0 where

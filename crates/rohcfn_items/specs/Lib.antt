@@ -9,3 +9,4 @@ pub mod Step
 pub mod Loss
 pub mod Reach
 pub mod Avoided
+pub mod Inside

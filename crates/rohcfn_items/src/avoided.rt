@@ -1,4 +1,4 @@
-//! What `why --not` prints: what stands against a format for the items that are packed by others.
+//! What `why --not` prints: what stands against a format, of the top or of a method that is called inside, for the items that are packed by others.
 
 ghost use Rattle.std.specs.Prelude.{◌≡◌, ◌++◌, [], IfOk, OnOk, codes, decimal, string_bytes};
 ghost use Rattle.rohcfn_items.specs.Avoided as spec;
@@ -19,12 +19,22 @@ use std::alloc::{AllocError, Global};
 pub enum Fate {
     /// The item is refused.
     Refused,
+    /// The item is packed, and no method that has the format is called at the path.
+    Absent,
     /// The item is packed by the format.
     Taken,
-    /// It is packed by another one, the first number, and this stands against the format.
-    Against { taken: usize, lines: Items<Line> },
-    /// It is packed by another one, which comes first; the format fits, too, with so many bits.
-    Later { taken: usize, bits: usize },
+    /// It is packed by another one of the method, both by their numbers, and this stands against the format.
+    Against {
+        method: usize,
+        taken: usize,
+        lines: Items<Line>,
+    },
+    /// It is packed by another one of the method, which comes first; the format fits, too, with so many bits of the whole packet.
+    Later {
+        method: usize,
+        taken: usize,
+        bits: usize,
+    },
 }
 
 /// What becomes of the format for the item of that number, counted from 1.
@@ -34,13 +44,14 @@ pub struct Verdict {
     pub fate: Fate,
 }
 
-/// What becomes of a format for items: how many are packed by it, by others and not at all, and of the others one verdict for each kind of reasons. Verdicts are of
-/// one kind where the same is found at the same fields, whatever the bits there are; for each kind stands how many there are.
+/// What becomes of a format for items: how many are packed by it, by others, not at all, and without its method; and of the others one verdict for each kind of
+/// reasons. Verdicts are of one kind where the same is found at the same fields, whatever the bits there are; for each kind stands how many there are.
 #[derive(Drop)]
 pub struct Verdicts {
     pub taken: usize,
     pub others: usize,
     pub refused: usize,
+    pub without: usize,
     pub kept: Items<Verdict>,
     counts: Vec<usize>,
     places: IndexMap<String, usize>,
@@ -55,6 +66,7 @@ impl Verdicts {
             taken: 0,
             others: 0,
             refused: 0,
+            without: 0,
             kept: Items::new(alloc),
             counts: Vec::new(alloc),
             places: IndexMap::new(alloc),
@@ -68,6 +80,10 @@ impl Verdicts {
         match &fate {
             Fate::Refused => {
                 self.refused = more(self.refused)?;
+                return Ok(());
+            }
+            Fate::Absent => {
+                self.without = more(self.without)?;
                 return Ok(());
             }
             Fate::Taken => {
@@ -127,6 +143,7 @@ pub fn avoided_text(
         verdicts.others,
         verdicts.refused,
     )?;
+    push_without(alloc, &mut text, verdicts.without)?;
     let order = verdicts.order(alloc)?;
     for place in order.as_slice() {
         let Some(verdict) = verdicts.kept.get(*place) else {
@@ -155,6 +172,23 @@ fn head_text(
     ensures { IfOk result (λ text. string_bytes text ≡ spec.head_text name.now taken others refused) }
 {
     format!(in alloc; "format {name} items {taken} others {others} refused {refused}")
+}
+
+/// Adds how many packets have no method with the format, where there are any.
+fn push_without(alloc: Global, output: &mut String, without: usize) -> Result<(), AllocError>
+    ensures { OnOk result (string_bytes output.new ≡ string_bytes output.old ++ spec.without_words without) }
+{
+    if without == 0 {
+        return Ok(());
+    }
+    let words = without_words(alloc, without)?;
+    output.push_str(words.as_str())
+}
+
+fn without_words(alloc: Global, without: usize) -> Result<String, AllocError>
+    ensures { IfOk result (λ text. string_bytes text ≡ spec.counted_without without) }
+{
+    format!(in alloc; " without {without}")
 }
 
 /// Adds what is told of one kind, after a line feed.
@@ -192,14 +226,22 @@ fn push_fate(
     ensures { OnOk result (string_bytes output.new ≡ string_bytes output.old ++ spec.fate_text octets.now profile.now (spec.asked_of items.now verdict.now.number) verdict.now.fate) }
 {
     match &verdict.fate {
-        Fate::Refused | Fate::Taken => Ok(()),
-        Fate::Against { taken, lines } => {
-            push_taken(alloc, output, profile, *taken)?;
+        Fate::Refused | Fate::Absent | Fate::Taken => Ok(()),
+        Fate::Against {
+            method,
+            taken,
+            lines,
+        } => {
+            push_taken(output, profile, *method, *taken)?;
             let asked = asked_of(items, verdict.number);
             push_reasons(alloc, output, octets, profile, asked, lines.as_slice())
         }
-        Fate::Later { taken, bits } => {
-            push_taken(alloc, output, profile, *taken)?;
+        Fate::Later {
+            method,
+            taken,
+            bits,
+        } => {
+            push_taken(output, profile, *method, *taken)?;
             push_later(alloc, output, *bits)
         }
     }
@@ -219,15 +261,15 @@ fn asked_of(items: &[Item], number: usize) -> &[AskedValue]
 }
 
 fn push_taken(
-    alloc: Global,
     output: &mut String,
     profile: &Profile,
+    method: usize,
     taken: usize,
 ) -> Result<(), AllocError>
-    ensures { OnOk result (string_bytes output.new ≡ string_bytes output.old ++ codes " by " ++ name_of profile.now.methods profile.now.top taken) }
+    ensures { OnOk result (string_bytes output.new ≡ string_bytes output.old ++ codes " by " ++ name_of profile.now.methods method taken) }
 {
     output.push_str(" by ")?;
-    output.push_str(format_name(profile.methods(), profile.top(), taken))
+    output.push_str(format_name(profile.methods(), method, taken))
 }
 
 fn push_later(alloc: Global, output: &mut String, bits: usize) -> Result<(), AllocError>

@@ -5,6 +5,7 @@ pub mod advise;
 mod asked;
 pub mod avoided;
 pub mod fields;
+pub mod inside;
 pub mod loss;
 pub mod reach;
 pub mod stats;

@@ -1,6 +1,6 @@
 -- Warnings that are meant: a comment at the end of a profile's line silences what is warned of there (docs/FORMATS.md, `lint`).
-use Rattle.std.specs.Prelude.{ℕ, ◌+◌, ◌-◌, ◌*◌, ◌<◌, ◌==◌, ◌≤◌, nat_eq, nat_lt, nat_le, ◌&&◌, ◌||◌, not, if◌then◌else◌, Bool, true, false, List, [], ◌∷◌, ◌++◌, codes, decimal, flat_map, fold, length, map, replicate, slice_get, Option, unwrap_or}
-use Rattle.std.specs.List.{enumerate_from, range_with_len, slice_split, ends_with, slice_set}
+use Rattle.std.specs.Prelude.{◌≡◌, ℕ, ◌+◌, ◌-◌, ◌*◌, ◌<◌, ◌==◌, nat_eq, nat_lt, nat_le, ◌&&◌, ◌||◌, not, if◌then◌else◌, Bool, true, false, List, [], ◌∷◌, ◌++◌, codes, decimal, flat_map, length, map, slice_get, Option, unwrap_or}
+use Rattle.std.specs.List.{enumerate_from, list_any, slice_split, ends_with}
 
 -- the lines of a text, parted by line feeds
 abbrev pub lines_of : List ℕ → List (List ℕ)
@@ -10,13 +10,9 @@ lines_of text = slice_split (λ octet. octet == 10) text
 abbrev pub is_meant : List ℕ → Bool
 is_meant line = ends_with nat_eq line (codes "// lint: meant") || ends_with nat_eq line (codes "// lint: meant\r")
 
--- of each line of a text whether it does, where the first line begins with the piece before the text
-unfoldable pub meant_from : List ℕ → List ℕ → List Bool
-meant_from piece [] = is_meant piece ∷ []
-meant_from piece (c ∷ cs) = if c == 10 then is_meant piece ∷ meant_from [] cs else meant_from (piece ++ c ∷ []) cs
-
+-- of each line of a text whether it does
 abbrev pub meant_lines : List ℕ → List Bool
-meant_lines octets = meant_from [] octets
+meant_lines octets = map is_meant (lines_of octets)
 
 abbrev pub is_digit : ℕ → Bool
 is_digit c = nat_le 48 c && nat_le c 57
@@ -39,23 +35,29 @@ is_marked meant n = if n == 0 then false else at meant (n - 1)
 abbrev pub shown_line : List Bool → List ℕ → List ℕ
 shown_line meant line = if nat_eq (length line) 0 || is_marked meant (number_of line) then [] else line ++ 10 ∷ []
 
--- which lines of the profile are warned of, after one line more
-abbrev pub used_after : List Bool → List ℕ → List Bool
-used_after used line = if number_of line == 0 then used else (if nat_lt (number_of line - 1) (length used) then slice_set used (number_of line - 1) true else used)
+-- one of these lines begins with the number
+abbrev pub is_told : List (List ℕ) → ℕ → Bool
+is_told lines n = list_any (λ line. nat_eq (number_of line) n) lines
 
-abbrev pub used_by : ℕ → List (List ℕ) → List Bool
-used_by count lines = fold used_after (replicate count false) lines
+-- Marks of which that of the line's number, counted from 1, is set, and no other changes.
+pub record Notes (line : List ℕ) (old new : List Bool) : Type 0 where
+  pub count : length new ≡ length old
+  pub marks : (i : ℕ) → i < length old → at new i ≡ (at old i || nat_eq (number_of line) (i + 1))
 
 abbrev pub unused_words : ℕ → List ℕ
 unused_words n = decimal n ++ codes ":1: warning: nothing is warned of on this line, which says that it is meant\n"
 
-abbrev pub unused_line : List Bool → ℕ → Bool → List ℕ
-unused_line used i is_meant = if not is_meant || at used i then [] else unused_words (i + 1)
+-- for a marked line, counted from 0, of which nothing is warned
+abbrev pub unused_line : Bool → ℕ → Bool → List ℕ
+unused_line is_warned i is_meant = if not is_meant || is_warned then [] else unused_words (i + 1)
 
-abbrev pub unused_lines : List Bool → List Bool → List ℕ
-unused_lines meant used = flat_map (λ p. unused_line used p.0 p.1) (enumerate_from 0 meant)
+-- the same for all marked lines: where these lines begin with the numbers of those that are warned of, and where these marks say so
+abbrev pub unused_lines : List (List ℕ) → List Bool → List ℕ
+unused_lines lines meant = flat_map (λ p. unused_line (is_told lines (p.0 + 1)) p.0 p.1) (enumerate_from 0 meant)
+
+abbrev pub unused_by : List Bool → List Bool → List ℕ
+unused_by used meant = flat_map (λ p. unused_line (at used p.0) p.0 p.1) (enumerate_from 0 meant)
 
 -- The lines of what is printed but for those of marked lines, and then a line for each marked one of which nothing is warned.
 abbrev pub silenced : List ℕ → List ℕ → List ℕ
-silenced octets text =
-    flat_map (shown_line (meant_lines octets)) (lines_of text) ++ unused_lines (meant_lines octets) (used_by (length (meant_lines octets)) (lines_of text))
+silenced octets text = flat_map (shown_line (meant_lines octets)) (lines_of text) ++ unused_lines (lines_of text) (meant_lines octets)

@@ -111,7 +111,7 @@ fn push_shown(shown: &mut String, meant: &[bool], line: &str) -> Result<(), Allo
 
 /// Notes that a line of the text begins with its number.
 fn note_used(used: &mut Vec<bool>, line: &str)
-    ensures { used.new.items ≡ spec.used_after used.old.items line.now }
+    ensures { spec.Notes line.now used.old.items used.new.items }
 {
     let number = number_of(line);
     if number == 0 {
@@ -129,7 +129,7 @@ fn push_unused(
     meant: &[bool],
     used: &[bool],
 ) -> Result<(), AllocError>
-    ensures { OnOk result (string_bytes shown.new ≡ string_bytes shown.old ++ spec.unused_lines meant.now used.now) }
+    ensures { OnOk result (string_bytes shown.new ≡ string_bytes shown.old ++ spec.unused_by used.now meant.now) }
 {
     for (index, is_meant) in meant.iter().enumerate() {
         push_unused_at(alloc, shown, used, index, *is_meant)?;
@@ -144,7 +144,7 @@ fn push_unused_at(
     index: usize,
     is_meant: bool,
 ) -> Result<(), AllocError>
-    ensures { OnOk result (string_bytes shown.new ≡ string_bytes shown.old ++ spec.unused_line used.now index is_meant) }
+    ensures { OnOk result (string_bytes shown.new ≡ string_bytes shown.old ++ spec.unused_line (spec.at used.now index) index is_meant) }
 {
     if !is_meant || at(used, index) {
         return Ok(());

@@ -21,7 +21,7 @@ use Rattle.fn_engine.specs.declared.writer.PackFault.TheVariants.{HeaderLength, 
 use Rattle.rohcfn_input.specs.declared.status.Answer.{Answer}
 use Rattle.rohcfn_input.specs.declared.status.Status.TheVariants as status
 use Rattle.rohcfn_items.specs.Avoided.{IsAvoidedText}
-use Rattle.rohcfn_tool.specs.Avoiding.{AddsItem, AnswersAvoided, AreJudged, AvoidedBy, FitsBy, HasNoFormat, IsFate, IsFateOf, IsFormat, IsJudged, IsUnknown, Leads, avoided, format_of, leads_nowhere, leads_packed, leads_refused, no_format}
+use Rattle.rohcfn_tool.specs.Avoiding.{AddsItem, AnswersAvoided, AreJudged, AvoidedBy, FitsBy, GoesBy, HasNoFormat, IsFate, IsFateOf, IsJudged, IsNamed, IsUnknown, Leads, Wanted, asking, avoided, leads_nowhere, leads_packed, leads_refused, no_format, wanted}
 use Rattle.rohcfn_tool.specs.declared.avoiding.Sought.{Sought}
 
 -- items that lead somewhere, and others that lead on from there
@@ -42,12 +42,12 @@ split_at : {A : Type 0} (xs : List A) (i : ℕ) (d x : A) → i < length xs → 
 split_at xs i d x h e = sym (take-append-drop i xs) ∙ ap (λ z. take i xs ++ z) (drop_more xs i d h) ∙ ap (λ z. take i xs ++ z ∷ drop (i + 1) xs) (sym e)
 
 -- what is told so far: the context that is reached, and the verdicts that are kept
-pub record JudgedSoFar (a : Accepting) (start : Entries) (items : List Item) (n i : ℕ) (ctx : Entries) (kept : List Verdict) : Type 0 where
+pub record JudgedSoFar (a : Accepting) (start : Entries) (items : List Item) (w : Wanted) (i : ℕ) (ctx : Entries) (kept : List Verdict) : Type 0 where
   pub leads : Leads a start (take i items) ctx
-  pub judged : AreJudged a start items n kept
+  pub judged : AreJudged a start items w kept
 
-module _ (a : Accepting) (start : Entries) (items : List Item) (n : ℕ) where
-  pub judged_start : (kept : List Verdict) → kept ≡ [] → JudgedSoFar a start items n 0 start kept
+module _ (a : Accepting) (start : Entries) (items : List Item) (w : Wanted) where
+  pub judged_start : (kept : List Verdict) → kept ≡ [] → JudgedSoFar a start items w 0 start kept
   judged_start kept none = record {
     leads = leads_nowhere;
     judged = λ place v at. let wrong : slice_get [] place ≡ Some v = subst (λ vs. slice_get vs place ≡ Some v) none at in absurd (nothing_there place v wrong);
@@ -56,14 +56,14 @@ module _ (a : Accepting) (start : Entries) (items : List Item) (n : ℕ) where
       nothing_there : (place : ℕ) (v : Verdict) → slice_get [] place ≡ Some v → ⊥
       nothing_there place v wrong = cc
 
-  pub judged_on : (s : Sought) (i : ℕ) (d x : Item) (ctx reached : Entries) (before after : Verdicts) → s.accepted.now ≡ a → s.format ≡ n → i < length items → x ≡ get_or items i d → JudgedSoFar a start items n i ctx before.kept → AddsItem s ctx reached before after (i + 1) x
-      → JudgedSoFar a start items n (i + 1) reached after.kept
+  pub judged_on : (s : Sought) (i : ℕ) (d x : Item) (ctx reached : Entries) (before after : Verdicts) → s.accepted.now ≡ a → wanted s.aim ≡ w → i < length items → x ≡ get_or items i d → JudgedSoFar a start items w i ctx before.kept → AddsItem s ctx reached before after (i + 1) x
+      → JudgedSoFar a start items w (i + 1) reached after.kept
   judged_on s i d x ctx reached before after same format h e so adds = record {
     leads = subst (λ xs. Leads a start xs reached) (sym (take_more items i d h ∙ ap (λ z. take i items ++ z ∷ []) (sym e))) (leads_on a start ctx reached (take i items) (x ∷ []) so.leads (subst (λ b. Leads b ctx (x ∷ []) reached) same adds.leads));
     judged = kept_on adds.keeps;
   }
     where
-      here : IsJudged a start items n record { number = i + 1; fate = adds.fate }
+      here : IsJudged a start items w record { number = i + 1; fate = adds.fate }
       here = record {
         before = take i items;
         it = x;
@@ -72,14 +72,14 @@ module _ (a : Accepting) (start : Entries) (items : List Item) (n : ℕ) where
         number_is = ap (λ z. z + 1) (sym (length-take-le i items (omega arith)));
         context = ctx;
         leads = so.leads;
-        fate_is = subst (λ m. IsFate a ctx x m adds.fate) format (subst (λ b. IsFate b ctx x s.format adds.fate) same adds.fate_is);
+        fate_is = subst (λ m. IsFate a ctx x m adds.fate) format (subst (λ b. IsFate b ctx x (wanted s.aim) adds.fate) same adds.fate_is);
       }
 
-      by : (kept : List Verdict) (place : ℕ) (v : Verdict) → ((place : ℕ) (v : Verdict) → slice_get kept place ≡ Some v → IsJudged a start items n v) → (slice_get kept place ≡ Some v) ⊎ (v ≡ record { number = i + 1; fate = adds.fate }) → IsJudged a start items n v
+      by : (kept : List Verdict) (place : ℕ) (v : Verdict) → ((place : ℕ) (v : Verdict) → slice_get kept place ≡ Some v → IsJudged a start items w v) → (slice_get kept place ≡ Some v) ⊎ (v ≡ record { number = i + 1; fate = adds.fate }) → IsJudged a start items w v
       by kept place v judged (inl at) = judged place v at
-      by kept place v judged (inr is) = subst (IsJudged a start items n) (sym is) here
+      by kept place v judged (inr is) = subst (IsJudged a start items w) (sym is) here
 
-      kept_on : Keeps (i + 1) adds.fate before.kept after.kept → AreJudged a start items n after.kept
+      kept_on : Keeps (i + 1) adds.fate before.kept after.kept → AreJudged a start items w after.kept
       kept_on (keeps_same e) place v at = so.judged place v (subst (λ vs. slice_get vs place ≡ Some v) e at)
       kept_on (keeps_more e) place v at = by before.kept place v so.judged (at_end before.kept record { number = i + 1; fate = adds.fate } v place (subst (λ vs. slice_get vs place ≡ Some v) e at))
 
@@ -93,13 +93,13 @@ blames_any a ctx it NoFormat h = record { writable = h.writable; none = λ f fit
 blames_any a ctx it Flow h = h
 blames_any a ctx it OutOfMemory h = tt
 
--- a candidate of the format fits, too
-pub candidate_fits : (a : Accepting) (ctx : Entries) (it : Item) (from n : ℕ) (c : Candidate) → writing.IsPackedFrom a ctx it from c → format_of c.packed.filling ≡ n → FitsBy a ctx it n (length c.packed.packed)
-candidate_fits a ctx it from n c is format = record {
+-- a candidate that has the format fits, too
+pub candidate_fits : (a : Accepting) (ctx : Entries) (it : Item) (from : ℕ) (w : Wanted) (c : Candidate) → writing.IsPackedFrom a ctx it from c → GoesBy a.profile c.packed.filling w → FitsBy a ctx it w (length c.packed.packed)
+candidate_fits a ctx it from w c is goes = record {
   filling = c.packed.filling;
   fits = is.first.fits;
   has = is.first.has;
-  format_is = format;
+  goes_by = goes;
   bits_are = ap length is.first.packed_is;
 }
 
@@ -130,6 +130,6 @@ unknown_is octets name a start items (Err e) none is = tt
 unknown_is octets name a start items (Ok answer) none is =
     subst (λ s. AvoidedBy octets name a start items s (string_bytes answer.output)) (sym is.1) (subst (AvoidedBy octets name a start items status.Refused) (sym is.2) (no_format is.0 none))
 
-pub told_is : (octets name : List ℕ) (a : Accepting) (start : Entries) (items : List Item) (n i : ℕ) (ctx : Entries) (vs : Verdicts) (text : List ℕ) (output : String Global) → IsFormat a.profile name n → JudgedSoFar a start items n i ctx vs.kept → IsAvoidedText octets a.profile name items vs text → string_bytes output ≡ text ++ 10 ∷ []
+pub told_is : (octets name : List ℕ) (a : Accepting) (start : Entries) (items : List Item) (w : Wanted) (i : ℕ) (ctx : Entries) (vs : Verdicts) (text : List ℕ) (output : String Global) → IsNamed a.profile name w → JudgedSoFar a start items w i ctx vs.kept → IsAvoidedText octets a.profile name (asking w items) vs text → string_bytes output ≡ text ++ 10 ∷ []
     → AnswersAvoided octets name a start items record { status = status.Done; output = output }
-told_is octets name a start items n i ctx vs text output format so is grown = subst (AvoidedBy octets name a start items status.Done) (sym grown) (avoided n vs text format so.judged is)
+told_is octets name a start items w i ctx vs text output named so is grown = subst (AvoidedBy octets name a start items status.Done) (sym grown) (avoided w vs text named so.judged is)

@@ -15,3 +15,4 @@ mod reaching;
 mod sender;
 mod sending;
 mod stats;
+mod ways;

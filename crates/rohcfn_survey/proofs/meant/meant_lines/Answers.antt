@@ -1,5 +1,5 @@
 use Rattle.std.proofs.Common.{rules, ◌≡◌, ◌∙◌, ◌+◌, [], ◌∷◌, ◌++◌, ap, refl, sym, subst}
-use Rattle.rohcfn_survey.proofs.MeantLines.{SoFar, all_lines, line_ends, line_goes_on, piece_cut, rest_cut}
+use Rattle.rohcfn_survey.proofs.MeantLines.{SoFar, all_lines, starts, line_ends, line_goes_on, piece_cut, rest_cut}
 use Rattle.rohcfn_survey.proofs.meant.meant_lines.Goals.{then-octets-place-eq10+in_ok-push, else-octets-place-eq10}
 use Rattle.rohcfn_survey.proofs.meant.meant_lines.Goals as goal
 
@@ -17,3 +17,6 @@ loop-place-preserved c = elim c.if-octets-place-eq10.branch [
 
 pub returns : goal.returns
 returns c = c.in_ok-push-2.ensures.items ∙ ap (λ b. c.loop-place.meant.items ++ b ∷ []) c.is_meant-2.ensures ∙ all_lines c.args.octets.now c.loop-place.start c.loop-place.place c.loop-place.meant.items c.loop-place-test.false c.loop-place.invariant _ (rest_cut c.args.octets.now c.loop-place.start)
+
+pub loop-place-init : goal.loop-place-init
+loop-place-init c = starts c.args.octets.now c.new-meant.result.items c.new-meant.ensures.items
