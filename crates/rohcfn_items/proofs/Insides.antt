@@ -26,12 +26,14 @@ module _ (p : Resolved) (sound : IsSound p) (k : ℕ) (args : List ℤ) (path : 
   from_inner : (i : ℕ) (x : FilledField) (s : Standing) (here : StandsInField p path format (assignment_of known) i x s) → slice_get (fields_of f) i ≡ Some x → (o : Option Filling) → inner_of x ≡ o
       → StandsWithin p here.callee here.values (below path here.field.declared.name) o s → StandsBelow p k args path f s
   from_inner i x s here at (Some inner) inner_is stands =
-      let can = (ready_level p sound k args f format known has lies).1 in
-      (by_field format i here.field x here.callee here.arguments here.values inner has.level.place.format_is here.field_is at here.encoding_is
-      (vals_same (assigned format.listing (level f) args) (assignment_of known) here.arguments
-        (λ n e is. sym (can.value_is e (in_encoding i n here.field_is (ap (λ z. slice_get (encoding_exprs z) n) here.encoding_is ∙ is))))
-      ∙ here.values_are)
-      inner_is stands.0, stands.1)
+      let can = (ready_level p sound k args f format known has lies).1 in (
+        by_field format i here.field x here.callee here.arguments here.values inner has.level.place.format_is here.field_is at here.encoding_is
+            (vals_same (assigned format.listing (level f) args) (assignment_of known) here.arguments
+            (λ n e is. sym (can.value_is e (in_encoding i n here.field_is (ap (λ z. slice_get (encoding_exprs z) n) here.encoding_is ∙ is))))
+            ∙ here.values_are)
+            inner_is stands.0,
+        stands.1,
+      )
   from_inner i x s here at None inner_is stands = absurd stands
 
   -- a field of the level that leads down to it does so from the filling
@@ -58,8 +60,8 @@ in_field p path format a i x d k es values s at is values_are stands =
 pub at_end : (p : Resolved) (k : ℕ) (args : List ℤ) (path : Path) (f : Filling) (s : Standing) → ArgumentsLieAt p k args → s.method ≡ k → s.arguments ≡ args → string_bytes s.path ≡ path → s.filling.now ≡ f → StandsBelow p k args path f s
 at_end p k args path f s lie method arguments here filling = (
   subst (λ n. LeadsDown p.methods s.method s.arguments (string_bytes s.path) s.filling.now n args path f) method
-  (subst (λ xs. LeadsDown p.methods s.method s.arguments (string_bytes s.path) s.filling.now s.method xs path f) arguments
-  (subst (λ q. LeadsDown p.methods s.method s.arguments (string_bytes s.path) s.filling.now s.method s.arguments q f) here
-  (subst (λ g. LeadsDown p.methods s.method s.arguments (string_bytes s.path) s.filling.now s.method s.arguments (string_bytes s.path) g) filling at_its_end))),
+      (subst (λ xs. LeadsDown p.methods s.method s.arguments (string_bytes s.path) s.filling.now s.method xs path f) arguments
+      (subst (λ q. LeadsDown p.methods s.method s.arguments (string_bytes s.path) s.filling.now s.method s.arguments q f) here
+      (subst (λ g. LeadsDown p.methods s.method s.arguments (string_bytes s.path) s.filling.now s.method s.arguments (string_bytes s.path) g) filling at_its_end))),
   subst (λ xs. ArgumentsLieAt p s.method xs) (sym arguments) (subst (λ n. ArgumentsLieAt p n args) (sym method) lie),
 )

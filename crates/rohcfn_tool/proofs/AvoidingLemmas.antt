@@ -1,7 +1,12 @@
 -- What becomes of a format for items, one after the other.
-use Rattle.std.proofs.Common.{◌≡◌, ◌∙◌, ap, sym, subst, refl, append_assoc, ℕ, zero, suc, ◌+◌, ◌<◌, ◌≤◌, List, [], ◌∷◌, ◌++◌, Option, Some, None, length, take, drop, get_or, ◌⊎◌, inl, inr, arith}
-use Rattle.std.specs.Prelude.{slice_get, Result, Ok, Err, IfOk, OnOk, String, string_bytes}
-use Rattle.std.proofs.lemmas.List.{drop_more, length-take-le, take-append-drop, take_more}
+use Rattle.std.proofs.Common.{◌≡◌, ◌∙◌, ap, sym, subst, ℕ, zero, suc, ◌+◌, ◌<◌, List, [], ◌∷◌, ◌++◌, Some, length, map, take, drop, get_or, ◌⊎◌, inl, inr, arith}
+use Rattle.std.specs.Int.Signed.{≤ℤ_refl}
+use Rattle.std.proofs.lemmas.Option.{slice_get-map}
+use Rattle.fn_expr.specs.Rules.{IsIn}
+use Rattle.fn_fits.specs.Bounded.{ArgumentsLie}
+use Rattle.std.specs.Prelude.{ℤ, option_map, slice_get, Result, Ok, Err, IfOk, OnOk, String, string_bytes}
+use Rattle.fn_expr.specs.declared.interval.Interval.{Interval}
+use Rattle.std.proofs.lemmas.List.{drop_more, map-append, length-map, length-take-le, take-append-drop, take_more}
 use Rattle.fn_accepted.specs.Accepted.{Accepting}
 use Rattle.fn_context.specs.Entries.{Entries}
 use Rattle.fn_filling.specs.declared.filling.Item.{Item}
@@ -21,7 +26,7 @@ use Rattle.fn_engine.specs.declared.writer.PackFault.TheVariants.{HeaderLength, 
 use Rattle.rohcfn_input.specs.declared.status.Answer.{Answer}
 use Rattle.rohcfn_input.specs.declared.status.Status.TheVariants as status
 use Rattle.rohcfn_items.specs.Avoided.{IsAvoidedText}
-use Rattle.rohcfn_tool.specs.Avoiding.{AddsItem, AnswersAvoided, AreJudged, AvoidedBy, FitsBy, GoesBy, HasNoFormat, IsFate, IsFateOf, IsJudged, IsNamed, IsUnknown, Leads, Wanted, asking, avoided, leads_nowhere, leads_packed, leads_refused, no_format, wanted}
+use Rattle.rohcfn_tool.specs.Avoiding.{AddsItem, AnswersAvoided, AreJudged, AvoidedBy, FitsBy, GoesBy, HasNoFormat, IsFate, IsFateOf, IsJudged, IsNamed, IsUnknown, Leads, Wanted, asking, avoided, leads_nowhere, leads_packed, leads_refused, no_format, point, points, wanted}
 use Rattle.rohcfn_tool.specs.declared.avoiding.Sought.{Sought}
 
 -- items that lead somewhere, and others that lead on from there
@@ -133,3 +138,20 @@ unknown_is octets name a start items (Ok answer) none is =
 pub told_is : (octets name : List ℕ) (a : Accepting) (start : Entries) (items : List Item) (w : Wanted) (i : ℕ) (ctx : Entries) (vs : Verdicts) (text : List ℕ) (output : String Global) → IsNamed a.profile name w → JudgedSoFar a start items w i ctx vs.kept → IsAvoidedText octets a.profile name (asking w items) vs text → string_bytes output ≡ text ++ 10 ∷ []
     → AnswersAvoided octets name a start items record { status = status.Done; output = output }
 told_is octets name a start items w i ctx vs text output named so is grown = subst (AvoidedBy octets name a start items status.Done) (sym grown) (avoided w vs text named so.judged is)
+
+-- ---- arguments
+
+-- each value lies in the range that holds it alone
+pub points_hold : (args : List ℤ) → ArgumentsLie (points args) args
+points_hold args = record {
+  count = sym (length-map args point);
+  each = λ i r v at is.
+      let there : Some r ≡ Some (point v) = sym at ∙ slice_get-map point args i ∙ ap (option_map point) is in
+      let same : r ≡ point v = cc in
+      subst (λ z. IsIn z v) (sym same) (record { above = ≤ℤ_refl v; below = ≤ℤ_refl v });
+}
+
+-- the ranges so far, and one more
+pub points_more : (args : List ℤ) (i : ℕ) (d v : ℤ) (ranges : List Interval) → i < length args → v ≡ get_or args i d → ranges ≡ map point (take i args) → ranges ++ point v ∷ [] ≡ map point (take (i + 1) args)
+points_more args i d v ranges h e so =
+    ap (λ rs. rs ++ point v ∷ []) so ∙ ap (λ z. map point (take i args) ++ point z ∷ []) e ∙ sym (map-append point (take i args) (get_or args i d ∷ [])) ∙ ap (map point) (sym (take_more args i d h))

@@ -1,10 +1,9 @@
 -- Why items that are packed aren't packed by a format of the top, or of a method that is called inside (docs/FORMATS.md).
-use Rattle.std.specs.Prelude.{◌≡◌, ◌≢◌, ℕ, ℤ, ◌+◌, ◌<◌, List, [], ◌∷◌, ◌++◌, length, map, slice_get, Option, Some, None, true, codes, string_bytes}
+use Rattle.std.specs.Prelude.{◌≡◌, ◌≢◌, ℕ, ℤ, ◌+◌, ◌<◌, List, [], ◌∷◌, ◌++◌, length, map, slice_get, Some, true, codes, string_bytes}
 use Rattle.fn_accepted.specs.Accepted.{Accepting}
 use Rattle.fn_context.specs.Entries.{Entries}
 use Rattle.fn_engine.specs.Reading.{Fitting}
 use Rattle.fn_engine.specs.Writing as writing
-use Rattle.fn_engine.specs.declared.search.Candidate.{Candidate}
 use Rattle.fn_engine.specs.declared.search.Packed.{Packed}
 use Rattle.fn_engine.specs.declared.writer.PackFault.{PackFault}
 use Rattle.fn_expr.specs.declared.expr.Side.TheVariants.{Uncompressed}
@@ -19,7 +18,6 @@ use Rattle.fn_reasons.specs.Reasons.{IsVerdict}
 use Rattle.fn_reasons.specs.Settings.{Setting}
 use Rattle.fn_reasons.specs.declared.line.Line.{Line}
 use Rattle.rohcfn_input.specs.Refusals.{Holds}
-use Rattle.rohcfn_input.specs.OneLine.{IsLine}
 use Rattle.rohcfn_input.specs.declared.status.Answer.{Answer}
 use Rattle.rohcfn_input.specs.declared.status.Status.{Status}
 use Rattle.rohcfn_input.specs.declared.status.Status.TheVariants as status

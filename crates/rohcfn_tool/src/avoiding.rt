@@ -164,7 +164,7 @@ fn avoid_format(
 
 /// The items whose asked values are those of the format: none of a called method.
 fn asking_items<'a>(aim: Aim<'_>, items: &'a [Item]) -> &'a [Item]
-    ensures { result.now ≡ spec.asking (spec.wanted aim) items.now }
+    ensures { result.now ≡ spec.asking (spec.wanted aim.entry) items.now }
 {
     match aim {
         Aim::Top(_) => items,
@@ -306,6 +306,7 @@ fn part_at<'a>(
 ) -> Result<Option<Standing<'a>>, AllocError>
     ensures { IfOk result (λ o. IfSome o (spec.IsPart profile.now filling.now path.now)) }
 {
+    profile.keeps();
     match standing_at(alloc, profile, profile.top(), &[], "", filling, path)? {
         Some(part) if part.path.as_str() == path => Ok(Some(part)),
         _ => Ok(None),

@@ -69,27 +69,52 @@ fn add_callee(called: &mut Vec<usize>, field: &Field) -> Result<(), AllocError> 
 
 /// The names that are near one that leads nowhere, parted by blanks, after `, near are`: of formats, where its path leads to a method, else of the fields that call
 /// methods where it leads no further. Nothing where none is near.
-pub(crate) fn near_names(alloc: Global, profile: &Profile, name: &str) -> Result<String, AllocError> {
-    let mut text = String::new(alloc);
+pub(crate) fn near_names(
+    alloc: Global,
+    profile: &Profile,
+    name: &str,
+) -> Result<String, AllocError> {
     let mut methods = Vec::new(alloc);
     methods.push(profile.top())?;
-    let mut path = String::new(alloc);
-    let mut rest = name;
-    while let Some((first, more)) = rest.split_once('.') {
-        let called = called_by(alloc, profile, methods.as_slice(), first)?;
+    match name.rsplit_once('.') {
+        Some((path, format)) => near_inside(alloc, profile, methods, path, format),
+        None => near_formats(alloc, profile, methods.as_slice(), "", name),
+    }
+}
+
+/// The same of a format behind a path, which begins in these methods.
+fn near_inside(
+    alloc: Global,
+    profile: &Profile,
+    top: Vec<usize>,
+    path: &str,
+    format: &str,
+) -> Result<String, AllocError> {
+    let mut methods = top;
+    let mut before = String::new(alloc);
+    for name in path.split('.') {
+        let called = called_by(alloc, profile, methods.as_slice(), name)?;
         if called.is_empty() {
             let fields = callers(alloc, profile, methods.as_slice())?;
-            push_near(alloc, &mut text, path.as_str(), first, fields.as_slice())?;
-            return Ok(text);
+            return near(alloc, before.as_str(), name, fields.as_slice());
         }
         methods = called;
-        path.push_str(first)?;
-        path.push('.')?;
-        rest = more;
+        before.push_str(name)?;
+        before.push('.')?;
     }
-    let formats = formats(alloc, profile, methods.as_slice())?;
-    push_near(alloc, &mut text, path.as_str(), rest, formats.as_slice())?;
-    Ok(text)
+    near_formats(alloc, profile, methods.as_slice(), before.as_str(), format)
+}
+
+/// The same of a format of these methods.
+fn near_formats(
+    alloc: Global,
+    profile: &Profile,
+    methods: &[usize],
+    path: &str,
+    format: &str,
+) -> Result<String, AllocError> {
+    let formats = formats(alloc, profile, methods)?;
+    near(alloc, path, format, formats.as_slice())
 }
 
 /// The names of the fields that call methods in formats of these methods.
@@ -131,24 +156,19 @@ fn formats<'a>(
     Ok(names)
 }
 
-/// Adds those of the names that are near this one, each once, after the path.
-fn push_near(
-    alloc: Global,
-    text: &mut String,
-    path: &str,
-    name: &str,
-    names: &[&str],
-) -> Result<(), AllocError> {
-    let mut near = Vec::new(alloc);
+/// Those of the names that are near this one, each once, after the path.
+fn near(alloc: Global, path: &str, name: &str, names: &[&str]) -> Result<String, AllocError> {
+    let mut text = String::new(alloc);
+    let mut found = Vec::new(alloc);
     for other in names {
-        if damerau_levenshtein(alloc, name, other)? <= NEAR && !is_among(near.as_slice(), other) {
-            text.push_str(if near.is_empty() { ", near are " } else { " " })?;
+        if damerau_levenshtein(alloc, name, other)? <= NEAR && !is_among(found.as_slice(), other) {
+            text.push_str(if found.is_empty() { ", near are " } else { " " })?;
             text.push_str(path)?;
             text.push_str(other)?;
-            near.push(*other)?;
+            found.push(*other)?;
         }
     }
-    Ok(())
+    Ok(text)
 }
 
 fn is_among(names: &[&str], name: &str) -> bool {

@@ -31,5 +31,5 @@ pub loop-line-preserved : goal.loop-line-preserved
 loop-line-preserved c = (
   (search (rules, map-append, flat_map-append)),
   subst (λ xs. ToldSoFar xs (length c.in_ok-meant.meant.items) c.note_used.new.used.items) (sym (map-append (λ x. x.now) c.loop-line.yielded (c.in-Some.line ∷ [])))
-    (told_more (map (λ x. x.now) c.loop-line.yielded) (length c.in_ok-meant.meant.items) c.in-Some.line.now c.loop-line.used.items c.note_used.new.used.items c.loop-line.invariant.1 c.note_used.ensures),
+      (told_more (map (λ x. x.now) c.loop-line.yielded) (length c.in_ok-meant.meant.items) c.in-Some.line.now c.loop-line.used.items c.note_used.new.used.items c.loop-line.invariant.1 c.note_used.ensures),
 )

@@ -16,4 +16,4 @@ loop-i-preserved c =
     judged_on c.args.accepted.now c.args.start c.args.items.now (wanted c.args.aim) _ c.loop-i.i d c.index-items-i.result _ _ c.loop-i.verdicts _ refl refl c.loop-i-test.true x c.loop-i.invariant c.in_ok-add_item.ensures
 
 pub returns : goal.returns
-returns c = told_is c.args.octets.now c.args.name.now c.args.accepted.now c.args.start c.args.items.now (wanted c.args.aim) c.loop-i.i c.loop-i.context c.loop-i.verdicts _ c.push_line.new.output c.requires c.loop-i.invariant (rw c.profile-profile.ensures at c.in_ok-output.ensures) (c.in_ok-push_line.ensures ∙ ap (λ t. t ++ 10 ∷ []) (append-nil (string_bytes c.in_ok-output.output)))
+returns c = told_is c.args.octets.now c.args.name.now c.args.accepted.now c.args.start c.args.items.now (wanted c.args.aim) c.loop-i.i c.loop-i.context c.loop-i.verdicts _ c.push_line.new.output c.requires c.loop-i.invariant (rw (c.profile-profile.ensures, c.asking_items-asking.ensures) at c.in_ok-output.ensures) (c.in_ok-push_line.ensures ∙ ap (λ t. t ++ 10 ∷ []) (append-nil (string_bytes c.in_ok-output.output)))

@@ -1,5 +1,7 @@
-use Rattle.std.proofs.Common.{refl}
 use Rattle.rohcfn_tool.proofs.avoiding.fate_of.Goals as goal
 
-pub returns-in-Some : goal.returns-in-Some
-returns-in-Some c = (c.args.best.now.packed, c.requires.best, refl, c.if-taken-sought.false, rw c.in-Some.is at c.in_ok-bits.ensures)
+pub returns-in-Top : goal.returns-in-Top
+returns-in-Top c = rw (c.in-Top.is) c.fate_at_top.ensures
+
+pub returns-in-Inside : goal.returns-in-Inside
+returns-in-Inside c = rw (c.in-Inside.is) c.fate_inside.ensures
