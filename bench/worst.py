@@ -3,6 +3,7 @@
 Each text is within the limits. It is run once and has to end with status 0, within its bounds of time and memory. With a folder as the second argument what is
 printed is kept there, so that two programs can be compared."""
 import os
+import random
 import subprocess
 import sys
 import tempfile
@@ -148,6 +149,13 @@ def counts(program):
     return whole("stats --top t", profile) + b"=== items\n" + b"0:\n" * 100_000
 
 
+def trends(program):
+    """20,000 items of 64 bits that are drawn, with up to 63 lost: of nearly all 1,280,000 steps each is another one."""
+    draw = random.Random(65)
+    profile = "t {\n  UNCOMPRESSED { x [64]; }\n  COMPRESSED { x =:= irregular(64); }\n}\n"
+    return whole("advise --lost 63 --top t", profile) + b"=== items\n" + b"".join(b"64:%s\n" % draw.randbytes(8).hex().encode() for _ in range(20_000))
+
+
 def encoded(value):
     """`prove` of 64 formats with 126 encodings of DEFAULT of this value."""
     default = " ".join("h%d =:= uncompressed_value(1, %s);" % (it, value) for it in range(126))
@@ -193,7 +201,7 @@ def leaves(program):
 
 
 # seconds and MiB at most: some three times what was measured, or a second
-BOUNDS = {waiting: (1, 36), operands: (1, 45), steps: (1, 45), encodings: (2, 350), brackets: (3, 730), conditions: (30, 60), paths: (1, 60), sites: (1, 100), names: (1, 100), counts: (6, 60), wholes: (1, 40), others: (1, 40), levels: (1, 20), commented: (1, 20), leaves: (2, 20)}
+BOUNDS = {waiting: (1, 36), operands: (1, 45), steps: (1, 45), encodings: (2, 350), brackets: (3, 730), conditions: (30, 60), paths: (1, 60), sites: (1, 100), names: (1, 100), counts: (6, 60), trends: (5, 110), wholes: (1, 40), others: (1, 40), levels: (1, 20), commented: (1, 20), leaves: (2, 20)}
 
 
 def main(words):
