@@ -2,6 +2,7 @@
 
 Each text is within the limits. It is run once and has to end with status 0, within its bounds of time and memory. With a folder as the second argument what is
 printed is kept there, so that two programs can be compared."""
+import itertools
 import os
 import random
 import subprocess
@@ -118,6 +119,42 @@ def paths(program):
     return whole("pack --context --top t", profile) + b"=== context\n" + context.encode() + b"=== items\n8:01\n"
 
 
+MASK, MULTIPLIER, BEGIN = (1 << 64) - 1, 0x9E3779B97F4A7C15, 0x243F6A8885A308D3  # of the kit's hash, which has no seed
+LETTERS = "abcdefghijklmnopqrstuvwxyzABCDEFGHIJKLMNOPQRSTUVWXYZ0123456789_"
+
+
+def folded(a, b):
+    """Both halves of a product, joined."""
+    product = a * b
+    return product & MASK ^ product >> 64
+
+
+def colliding(count, groups):
+    """So many names of seven letters that begin at one of so many groups of a table, and have one tag there: each look-up of one is compared with all before it.
+    The hash takes the length and then letter by letter. (Of 2^15 names one serves, so that 1,024 take ten seconds to find.)"""
+    found, begins = [], [folded(BEGIN ^ 7, MULTIPLIER ^ 16)]
+    for _ in range(6):
+        begins = (folded(state ^ ord(it) * 0x10101, MULTIPLIER ^ 2) for state in begins for it in LETTERS[:52])
+    for front, state in zip(itertools.product(LETTERS[:52], repeat=6), begins):
+        for it in LETTERS:
+            product = (state ^ ord(it) * 0x10101) * (MULTIPLIER ^ 2)
+            hashed = product & MASK ^ product >> 64
+            hashed ^= hashed >> 32
+            if not hashed & groups - 1 and hashed >> 24 & 255 == 65:
+                found.append("".join(front) + it)
+                if len(found) == count:
+                    return found
+
+
+def collisions(program):
+    """1,024 constants whose names all fall on one place of the table of names, and 100,000 uses of eight of them."""
+    every = colliding(1024, 128)
+    value = "+".join(every[-1 - it % 8] for it in range(250))
+    fields = ["x%d" % it for it in range(100)]
+    method = "m%%d {\n  UNCOMPRESSED { %s }\n  COMPRESSED { %s }\n}\n" % (" ".join("%s =:= irregular(8);" % it for it in fields), " ".join("%s [%s];" % (it, value) for it in fields))
+    return whole("show --top t", "".join("%s = 1;\n" % it for it in every) + "".join(method % it for it in range(4)) + "t {\n  UNCOMPRESSED { a [8]; }\n  COMPRESSED { a =:= irregular(8); }\n}\n")
+
+
 def sites(program):
     """64 methods at one path, each of which waits for an entry that the next one leaves."""
     fields = range(120)
@@ -201,7 +238,7 @@ def leaves(program):
 
 
 # seconds and MiB at most: some three times what was measured, or a second
-BOUNDS = {waiting: (1, 36), operands: (1, 45), steps: (1, 45), encodings: (2, 350), brackets: (3, 730), conditions: (30, 60), paths: (1, 60), sites: (1, 100), names: (1, 100), counts: (6, 60), trends: (5, 110), wholes: (1, 40), others: (1, 40), levels: (1, 20), commented: (1, 20), leaves: (2, 20)}
+BOUNDS = {waiting: (1, 36), operands: (1, 45), steps: (1, 45), encodings: (2, 350), brackets: (3, 730), conditions: (30, 60), paths: (1, 60), collisions: (2, 60), sites: (1, 100), names: (1, 100), counts: (6, 60), trends: (5, 110), wholes: (1, 40), others: (1, 40), levels: (1, 20), commented: (1, 20), leaves: (2, 20)}
 
 
 def main(words):
