@@ -26,15 +26,16 @@ echo "examples: $passed passed, $failed failed"
 
 # As many modules run side by side as there are processors, the long ones first; what each prints comes in the order of the second list. hostile runs after them, by
 # itself: its calls have at most so many seconds of the processor, and beside other work each takes up to half as many more.
-longest=(first_call loss refusals 'why drawn' 'why stored' files roundtrip robust lines lint certificates trees traces forged walks cases)
+longest=(first_call loss files 'why stored' refusals traces 'why drawn' robust certificates roundtrip advise trees cases lint lines walks warned)
 ordered=(sentences pages walks left_out editors tuning 'flows line' cases prefixes certificates forged trees roundtrip fields stats advise 'why stored' 'why drawn' avoided
   lint warned lines loss robust refusals ends first_call files traces hostile manual)
 printed=$(mktemp -d)
 trap 'rm -rf "$printed"' EXIT
-export printed
+python=$(python3 -c 'import sys; print(sys.executable)') # (one in the PATH may be a script that takes its time)
+export printed python
 module() {
   # shellcheck disable=SC2086 # (the words of one module)
-  python3 -m tests.$1 >"$printed/$1" 2>&1
+  "$python" -m tests.$1 >"$printed/$1" 2>&1
   echo $? >"$printed/$1.status"
 }
 export -f module

@@ -1,6 +1,7 @@
 """Through the built program: what `fields` prints. Of small profiles each line, for items and for packets in contexts that go on, is compared with the tree of the filling that a slow search over
 all fillings finds best (searching.py). Of the headers of data/ the sides that are printed are joined: those of the header fields are to give the header, and those of the listed fields the packet;
 so for each field that calls a method, too."""
+import functools
 import random
 import re
 import sys
@@ -109,6 +110,7 @@ class Listings:
                 place = after
 
 
+@functools.lru_cache(None)
 def bits_of(side):
     """The bits of a text of bits."""
     count, digits = side.split(":")

@@ -19,6 +19,7 @@ from .reference import normal
 from .reference.searching import Level, number
 
 METHOD = re.compile(r"^(\w+)(?:\(.*\))?$", re.MULTILINE)
+REFUSED = re.compile(r"item (\d+): ")
 VERDICTS = ("right", "refused", "wrong")
 LOST = 8
 SMALL, FEW = 24, 4  # items of a small profile, and lost packets
@@ -226,7 +227,8 @@ def flows(kind, most, text=None, is_short=False):
         items = re.findall(r"^// (\d+:\S*(?: \S+=\S+)*)(?:\n//  )? -> ", profile_of(kind), re.MULTILINE)
         return [Losses(Profile(text), items, {}, most, is_short)]
     every = headers.headers_of(kind, (program.EXAMPLES / "data" / (kind + "-headers.hex")).read_text().splitlines())
-    return [Losses(Profile(text, headers.TOPS[kind]), list(headers.items(kind, flow)), {}, most, is_short) for flow in headers.by_flow(every).values()]
+    profile = Profile(text, headers.TOPS[kind])
+    return [Losses(profile, list(headers.items(kind, flow)), {}, most, is_short) for flow in headers.by_flow(every).values()]
 
 
 def joined(every):
@@ -277,14 +279,12 @@ def drawn():
     draw = random.Random(4997)
     subjects = [(roundtrip.sample(name), start) for name, starts in roundtrip.CONTEXTS.items() for start in starts]
     for subject, start in [*subjects, *list(roundtrip.referring(draw))[::3]]:
-        profile, kept, context = Profile(subject.profile, subject.name, subject.version), [], dict(start)
-        items = [roundtrip.line_of(*it) for it in roundtrip.items(subject, draw)]
-        for item in sorted(items[:2 * SMALL]) if draw.random() < 0.5 else items[:2 * SMALL]:
-            packets, refused = sent(profile, [item], context)
-            if not refused and len(kept) < SMALL:
-                kept.append(item)
-                context.update(packets[0].entries)
-        yield Losses(profile, kept, start, FEW)
+        profile = Profile(subject.profile, subject.name, subject.version)
+        items = [roundtrip.line_of(*it) for it in roundtrip.items(subject, draw)][:2 * SMALL]
+        items = sorted(items) if draw.random() < 0.5 else items
+        counted, _ = profile.answer("stats", start, "items", items)
+        refused = {int(it[1]) for it in map(REFUSED.match, counted) if it}
+        yield Losses(profile, [it for number, it in enumerate(items, 1) if number not in refused][:SMALL], start, FEW)
 
 
 def readme_rows(mended):

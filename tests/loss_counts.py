@@ -2,6 +2,7 @@
 compares them with the page."""
 import collections
 import functools
+import operator
 import random
 import sys
 
@@ -86,7 +87,6 @@ def windows():
 # ---- checksums
 
 
-@functools.cache
 def after_octet(size, register):
     """A register after eight bits that are all zero, by the steps of docs/NOTATION.md."""
     for _ in range(8):
@@ -94,10 +94,14 @@ def after_octet(size, register):
     return register
 
 
+AFTER_OCTET = {size: bytes(after_octet(size, it) for it in range(256)) for size in CRCS}
+
+
 def crc(size, begin, octets):
     """The register after the octets. Its bits and those of an octet meet one by one, and it has at most eight: so both can be put together first."""
+    after = AFTER_OCTET[size]
     for octet in octets:
-        begin = after_octet(size, begin ^ octet)
+        begin = after[begin ^ octet]
     return begin
 
 
@@ -137,16 +141,26 @@ def first(kind):
 
 
 @functools.cache
+def shaped(shape):
+    """The octets of all values."""
+    return [shape(it) for it in range(WORDS)]
+
+
+@functools.cache
 def sums_of(size, shape):
-    """The checksums of all values."""
-    return [crc(size, CRCS[size][1], shape(it)) for it in range(WORDS)]
+    """The checksums of all values, an octet each."""
+    return bytes(crc(size, CRCS[size][1], it) for it in shaped(shape))
+
+
+def alike(one, other):
+    """How many octets of two rows are the same."""
+    return sum(map(operator.eq, one, other))
 
 
 def missed(size, shape, distances):
     """How many of the wrong readings of a value, off by these distances either way, have the checksum of the right one."""
     sums = sums_of(size, shape)
-    pairs = [sums[it] == sums[(it + step) % WORDS] for step in distances for it in range(WORDS)]
-    return sum(pairs), len(pairs)
+    return sum(alike(sums, sums[step:] + sums[:step]) for step in distances), len(distances) * WORDS
 
 
 def aliases(shape):
@@ -176,7 +190,8 @@ def beginning():
     header = in_header(0x90f6)
     sums = [crc(8, it, header) for it in range(256)]
     for power in (4, 5, 6, 7, 8):
-        rows.append(("2^%d" % power, share(WORDS, WORDS), share(sum(sums[it % 256] == sums[(it + (1 << power)) % 256] for it in range(WORDS)), WORDS)))
+        step = (1 << power) % 256
+        rows.append(("2^%d" % power, share(WORDS, WORDS), share(alike(sums, sums[step:] + sums[:step]), 256)))
     return rows
 
 
@@ -270,21 +285,26 @@ def drawn(kind):
     return compared([it.by_lost() for it in found], [[it] for it in found])
 
 
+def unread(losses, start, context):
+    """The places and contexts of the packets from a place on that a receiver with this context can't read right. It keeps its context then. Once that is the sender's, all is right."""
+    for place in range(start, len(losses.packets)):
+        if context == losses.contexts[place]:
+            return
+        if loss.missed(losses.packets[place], context):
+            yield place, tuple(sorted(context.items()))
+        else:
+            context.update(losses.packets[place].entries)
+
+
+@functools.cache
 def heard(losses, lost):
-    """Of each receiver that lost so many packets and hears all others: the place where it begins, and the places and contexts of the packets that it can't read right. It keeps its context then."""
-    for start in range(lost + 1, len(losses.packets)):
-        context, bad = dict(losses.contexts[start - lost]), []
-        for place in range(start, len(losses.packets)):
-            if loss.missed(losses.packets[place], context):
-                bad.append((place, tuple(sorted(context.items()))))
-            else:
-                context.update(losses.packets[place].entries)
-        yield start, bad
+    """Of each receiver that lost so many packets and hears all others: the place where it begins, and the places and contexts of the packets that it can't read right."""
+    return [(start, list(unread(losses, start, dict(losses.contexts[start - lost])))) for start in range(lost + 1, len(losses.packets))]
 
 
 def outcomes(losses, lost):
     """What comes of each of these receivers."""
-    found = list(heard(losses, lost))
+    found = heard(losses, lost)
     asked = sorted({it for _, bad in found for it in bad})
     verdicts = dict(zip(asked, (it.verdict for it in loss.all_read(losses.profile, [(dict(context), losses.packets[place]) for place, context in asked]))))
     for start, bad in found:

@@ -1,6 +1,7 @@
 """Through built programs: worked rows in which memory is refused, each growth in turn.
 
-A library that is loaded before a program stands in for malloc and realloc. In the rows of `rohcfn` a growth is refused alone, and with all that come after it:
+A library that is loaded before a program stands in for malloc and realloc. A row runs once, and nothing is refused to that run; at each growth a copy of the process
+goes on to which it is, so that what stands before it isn't done again for each. In the rows of `rohcfn` a growth is refused alone, and with all that come after it:
 the run must end with status 3, say that memory is out, and have printed no more than a front of the row's output. The rows of crates/fn_refusals/stdin make one
 call each; a growth is refused alone, in the call or before it. Before it the run must end with status 3; in it, the call must leave what it was given as it was
 and give the right answer when it is made again, or say again that memory is out where it is a receiver's. At last no growth is left to refuse, and the row's
@@ -13,16 +14,16 @@ A drawing (fn_sketch) can't answer want of memory: where a growth is refused to 
 drawn up grows one list, that of its fields, and nothing else in the rows of `rohcfn`. So each of these says how many levels are drawn up for it, and just so many
 growths may end so. In the rows of calls that draw, two growths in a row are refused as well: that of a drawing and the first one of the walk after it."""
 import concurrent.futures
-import itertools
 import os
 import pathlib
 import shutil
+import struct
 import subprocess
 import sys
 import tempfile
 
 from . import cases
-from .program import CRATES, EXAMPLES, built, bundle
+from .program import CRATES, EXAMPLES, built, bundle, memory, octets_of
 from .reference.built import PLAIN
 from .reference.samples import CERTIFICATES, MODE, OPT, SEQ, TICK, TURN
 
@@ -37,8 +38,15 @@ extern void *__libc_malloc(size);
 extern void *__libc_realloc(void *, size);
 extern char *getenv(const char *);
 extern long write(int, const void *, size);
+extern long lseek(int, long, int);
+extern long sendfile(int, int, long *, size);
+extern int ftruncate(int, long);
+extern int fork(void);
+extern int waitpid(int, int *, int);
 
-static long growths, refused, first, last;
+enum { FOUND = 3 };
+static long growths, refused, first, last, count;
+static int is_copy;
 
 static long number(const char *digits) {
   long value = 0;
@@ -46,10 +54,38 @@ static long number(const char *digits) {
   return value;
 }
 
+static long here(int stream) { return lseek(stream, 0, 1); }
+
+/* How the copy ended, and what it and the program so far have written, goes to FOUND; the streams are left as they were before the copy. */
+static void note(int copy, long read, const long *written) {
+  long record[3], start;
+  int status = 0, stream;
+  waitpid(copy, &status, 0);
+  record[0] = status;
+  for (stream = 1; stream < 3; stream++) record[stream] = here(stream);
+  write(FOUND, record, sizeof record);
+  for (stream = 1; stream < 3; stream++) {
+    start = 0;
+    if (record[stream] > 0) sendfile(FOUND, stream, &start, record[stream]);
+    ftruncate(stream, written[stream]);
+    lseek(stream, written[stream], 0);
+  }
+  lseek(0, read, 0);
+}
+
+/* At each growth of the program, to which none is refused, a copy of it goes on to which that one is, and so many in all. */
 static int is_refused(void) {
-  if (growths++ == 0) {
-    first = number(getenv("FIRST_REFUSED"));
-    last = number(getenv("LAST_REFUSED"));
+  if (growths++ == 0) count = number(getenv("REFUSED"));
+  if (!is_copy) {
+    long read = here(0), written[3] = {0, here(1), here(2)};
+    int copy = fork();
+    if (copy != 0) {
+      note(copy, read, written);
+      return 0;
+    }
+    is_copy = 1;
+    first = growths;
+    last = first - 1 + count;
   }
   if (growths < first || growths > last) return 0;
   refused++;
@@ -65,6 +101,7 @@ __attribute__((destructor)) static void tell(void) {
   else write(2, "whole\n", 6);
 }
 """
+RECORD = struct.Struct("@3q")  # of a copy: its status as the system has it, and how many octets it wrote to both streams
 
 
 def compilers():
@@ -244,34 +281,40 @@ class Row:
         self.output, self.status, self.drawn, self.refused = output.encode(), status, drawn, refused and refused.encode()
         self.words, self.part, self.suggests, self.said = words, part.encode(), suggests, b""
 
-    def called(self, first, last):
-        """A run in which the growths from the first to the last are refused."""
-        limits = {"LD_PRELOAD": self.library, "FIRST_REFUSED": str(first), "LAST_REFUSED": str(last)}
-        return subprocess.run([self.program, *self.words], input=self.text, capture_output=True, env=limits, check=False)
+    def runs(self, count):
+        """How the row ends where none is refused, and then where so many growths are, from each in turn on: the status, what is printed and what is said."""
+        with memory(self.text) as given, memory() as printed, memory() as said, memory() as found:
+            streams = [(os.POSIX_SPAWN_DUP2, number, place) for place, number in enumerate((given, printed, said, found))]
+            environment = {"LD_PRELOAD": self.library, "REFUSED": str(count)}
+            _, status = os.waitpid(os.posix_spawn(self.program, [self.program, *self.words], environment, file_actions=streams), 0)
+            yield os.waitstatus_to_exitcode(status), octets_of(printed), octets_of(said)
+            rest = octets_of(found)
+        while rest:
+            status, printed, said = RECORD.unpack_from(rest)
+            octets, rest = rest[RECORD.size:RECORD.size + printed + said], rest[RECORD.size + printed + said:]
+            yield os.waitstatus_to_exitcode(status), octets[:printed], octets[printed:]
 
-    def run(self, first, last):
-        """How such a run ended: as ever with none refused, `whole`; `out` of memory; refused to the row's `call`; as ever with some refused, which were those of what is
-        `drawn`, or one of those that look for a word that is `suggested`; `wrong`."""
-        run = self.called(first, last)
-        ends = {
-            (self.status, self.output, self.said + b"whole\n"): "whole",
-            (0, self.refused, b"refused\n"): "call",
-        }
-        if self.drawn != 0 and last - first < 2:
+    def end(self, run, count):
+        """How a run ended in which growths are refused from that place on: `out` of memory; refused to the row's `call`; as ever, where those are refused of what is `drawn`,
+        or one of those that look for a word that is `suggested`; `wrong`."""
+        status, printed, said = run
+        if status == 3 and said == b"error: out of memory\nrefused\n" and self.output.startswith(printed):
+            return "out"
+        ends = {(0, self.refused, b"refused\n"): "call"}
+        if self.drawn != 0 and count < 3:
             ends[(self.status, self.output, b"refused\n")] = "drawn"
-        if self.suggests and first == last:
+        if self.suggests and count == 1:
             ends[(self.status, self.output, self.said + b"refused\n")] = "suggested"
-        is_out = run.returncode == 3 and run.stderr == b"error: out of memory\nrefused\n" and self.output.startswith(run.stdout)
-        return "out" if is_out else ends.get((run.returncode, run.stdout, run.stderr), "wrong")
+        return ends.get(run, "wrong")
 
     def ends(self, count):
         """How each run ended, growth by growth, where so many are refused from that one on."""
+        whole, *refused = self.runs(count)
         if self.part:
-            self.said = self.called(0, 0).stderr.removesuffix(b"whole\n")
-        if self.run(0, 0) != "whole" or self.part not in self.said:
+            self.said = whole[2].removesuffix(b"whole\n")
+        if whole != (self.status, self.output, self.said + b"whole\n") or self.part not in self.said:
             return ["wrong"]
-        places = itertools.count(1)
-        return list(itertools.takewhile(lambda end: end != "whole", (self.run(it, it + count - 1) for it in places)))
+        return [self.end(it, count) for it in refused]
 
     def dues(self, count):
         """The ends of which one must be among those of the runs."""

@@ -1,5 +1,6 @@
 """Through the built program: packs items of small profiles in contexts that go from line to line, and reads each packet back with up to nine bits after it, by certificates of version 1 or of version 2
 where there is none of version 1. What is printed is compared with the best filling that a slow search over all fillings finds (searching.py)."""
+import functools
 import itertools
 import random
 import sys
@@ -35,6 +36,7 @@ def sample(name):
     return Subject(name, samples.TEXTS[name], samples.NORMAL[name], INITIAL[name], 2 if name in OF_TWO else 1)
 
 
+@functools.lru_cache(None)
 def text(bits):
     octets = [bits[start:start + 8].ljust(8, "0") for start in range(0, len(bits), 8)]
     return "%d:%s" % (len(bits), "".join("%02x" % int(it, 2) for it in octets))

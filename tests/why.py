@@ -27,15 +27,14 @@ Filled = collections.namedtuple("Filled", "index header packed entries asked")
 class Quick(Search):
     """The slow search, where the compressed side follows from the other one by the encoding alone."""
 
-    def sides(self, form, field, values, path, upper):
+    def sides(self, form, field, known, path, upper):
         name, *words = field.encoding or ("", "")
         bits = upper[field.name]
         if field.is_called() and field.name not in form.listing:
-            ranges = [range(least, most + 1) for least, most in self.methods[words[0]].parameters.values()]
-            inner = [(it, list(values)) for values in itertools.product(*ranges) for it in self.inside(words[0], values, path, bits)]
+            inner = [(it, list(values)) for values in self.arguments(field, known) for it in self.inside(words[0], values, path, bits)]
             return iter([("", it) for it in inner if not it[0].packed])
         if field.name not in form.listing or name not in ("irregular", "static", "uncompressed_value", "lsb", "compressed_value") or not all(isinstance(it, int) for it in words):
-            return super().sides(form, field, values, path, upper)
+            return super().sides(form, field, known, path, upper)
         if name == "compressed_value":
             try:
                 return iter([(spelled(*words), None)])

@@ -4,6 +4,8 @@ Bits are texts of 0 and 1. Only small profiles end in time, of which each side t
 import functools
 import itertools
 
+from .reading import Field
+
 
 class NoValue(Exception):
     pass
@@ -111,21 +113,45 @@ class Level:
         return spelled(bits, register)
 
 
+@functools.lru_cache(None)
 def texts(least, most):
-    for count in range(least, min(most, 9) + 1):
-        for bits in itertools.product("01", repeat=count):
-            yield "".join(bits)
+    """All texts of bits of these lengths, of up to 9 bits."""
+    return ["".join(bits) for count in range(least, min(most, 9) + 1) for bits in itertools.product("01", repeat=count)]
 
 
-def splits(bits, count):
-    """The ways to part bits into so many texts."""
-    if count == 0:
+def splits(bits, bounds):
+    """The ways to part bits into texts whose lengths are within bounds."""
+    if not bounds:
         if bits == "":
             yield []
         return
-    for end in range(len(bits) + 1):
-        for rest in splits(bits[end:], count - 1):
+    (least, most), *others = bounds
+    for end in range(least, min(most, len(bits)) + 1):
+        for rest in splits(bits[end:], others):
             yield [bits[:end]] + rest
+
+
+def is_early(e):
+    """Whether an expression, a condition or a list of lengths has a value by the uncompressed sides alone."""
+    if isinstance(e, (int, bool)) or e[0] == "parameter":
+        return True
+    if len(e) == 2 and isinstance(e[1], str):
+        return e[1][0] == "U"
+    return all(map(is_early, e[1:]))
+
+
+@functools.lru_cache(None)
+def parted(form):
+    """The constraints of a format that hang on uncompressed sides alone, and the others."""
+    early = [it for it in form.constraints if (it[2] == "U" and all(map(is_early, it[3])) if it[0] == "bracket" else is_early(it[1]))]
+    return early, [it for it in form.constraints if it not in early]
+
+
+@functools.lru_cache(None)
+def lower_sides(encoding, upper, bounds, reference):
+    """The compressed sides that a field can have, where its encoding has numbers alone, so that this hangs on no other field."""
+    field = Field("", "local", encoding)
+    return [bits for bits in texts(*bounds) if Level(None, {"": (upper, bits)}, {}).fits(field, reference)]
 
 
 class Filling:
@@ -165,23 +191,28 @@ class Search:
         for index, form in enumerate(method.formats):
             heads = [it for it in form.fields if it.part == "header"]
             others = [it for it in form.fields if it.part != "header"]
-            for parts in splits(header, len(heads)):
-                if all(it.u[0] <= len(bits) <= it.u[1] for it, bits in zip(heads, parts)):
-                    upper = dict(zip([it.name for it in heads], parts))
-                    for free in itertools.product(*([asked[it.name]] if it.asked else texts(*it.u) for it in others)):
-                        yield from self.lower(index, form, values, path, {**upper, **dict(zip([it.name for it in others], free))})
+            for parts in splits(header, [it.u for it in heads]):
+                upper = dict(zip([it.name for it in heads], parts))
+                for free in itertools.product(*([asked[it.name]] if it.asked else texts(*it.u) for it in others)):
+                    yield from self.lower(index, form, values, path, {**upper, **dict(zip([it.name for it in others], free))})
 
     def lower(self, index, form, values, path, upper):
         """The compressed sides, field by field: each that may be, and the whole tested at the end."""
         inner_path = lambda name: path + "." + name if path else name
-        names = [it.name for it in form.fields]
-        choices = [list(self.sides(form, it, values, inner_path(it.name), upper)) for it in form.fields]
+        names, choices, (early, late) = [it.name for it in form.fields], [], parted(form)
+        known = Level(form, {name: (bits, None) for name, bits in upper.items()}, values)
+        if not all(map(known.holds, early)):
+            return
+        for it in form.fields:
+            choices.append(list(self.sides(form, it, known, inner_path(it.name), upper)))
+            if not choices[-1]:
+                return
         for chosen in itertools.product(*choices):
             sides = {name: (upper[name], it[0]) for name, it in zip(names, chosen)}
             level = Level(form, sides, values)
             called = {name: it[1] for name, it in zip(names, chosen) if it[1]}
             inner = {name: it[0] for name, it in called.items()}
-            if self.agrees(form, level, called, inner_path):
+            if self.agrees(form, level, called, inner_path) and all(map(level.holds, late)):
                 entries = []
                 for field in form.fields:
                     if field.part != "local":
@@ -190,21 +221,27 @@ class Search:
                         entries += inner[field.name].entries
                 yield Filling(index, level, inner, entries)
 
-    def sides(self, form, field, values, path, upper):
+    def sides(self, form, field, known, path, upper):
         if field.name not in form.listing:
             yield "", None
         elif field.is_called():
-            # the values of the arguments may hang on what is not known yet: all that small parameters can be
-            callee = self.methods[field.encoding[1]]
-            for arguments in itertools.product(*(range(least, most + 1) for least, most in callee.parameters.values())):
+            for arguments in self.arguments(field, known):
                 for it in self.inside(field.encoding[1], arguments, path, upper[field.name]):
                     yield it.packed, (it, list(arguments))
         else:
-            # where the encoding's words are numbers, whether the sides fit hangs on no other field
             is_alone = all(isinstance(it, int) for it in field.encoding[1:])
-            for bits in texts(*field.c):
-                if not is_alone or Level(form, {field.name: (upper[field.name], bits)}, values).fits(field, self.reference(field, path)):
-                    yield bits, None
+            for bits in lower_sides(field.encoding, upper[field.name], field.c, self.reference(field, path)) if is_alone else texts(*field.c):
+                yield bits, None
+
+    def arguments(self, field, known):
+        """The values that the arguments of a call may have: where they hang on what is not known yet, all that small parameters can be."""
+        _, callee, arguments = field.encoding
+        ranges = [range(least, most + 1) for least, most in self.methods[callee].parameters.values()]
+        try:
+            values = [known.value(it) if is_early(it) else None for it in arguments]
+        except NoValue:
+            return []
+        return [it for it in itertools.product(*ranges) if all(due in (None, value) for due, value in zip(values, it))]
 
     def agrees(self, form, level, called, inner_path):
         for field in form.fields:
@@ -213,4 +250,4 @@ class Search:
                     return False
             elif not level.fits(field, self.reference(field, inner_path(field.name))):
                 return False
-        return all(level.holds(it) for it in form.constraints)
+        return True
