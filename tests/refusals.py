@@ -38,7 +38,8 @@ extern void *__libc_malloc(size);
 extern void *__libc_realloc(void *, size);
 extern char *getenv(const char *);
 extern long write(int, const void *, size);
-extern long lseek(int, long, int);
+extern long lseek64(int, long, int);
+extern int *__errno_location(void);
 extern long sendfile(int, int, long *, size);
 extern int ftruncate(int, long);
 extern int fork(void);
@@ -54,7 +55,13 @@ static long number(const char *digits) {
   return value;
 }
 
-static long here(int stream) { return lseek(stream, 0, 1); }
+static long here(int stream) { return lseek64(stream, 0, 1); }
+
+/* To the program its input is a pipe, as it mostly is: it can't be asked for its length, which would save growths. */
+long lseek(int stream, long by, int from) {
+  *__errno_location() = 29;
+  return -1;
+}
 
 /* How the copy ended, and what it and the program so far have written, goes to FOUND; the streams are left as they were before the copy. */
 static void note(int copy, long read, const long *written) {
@@ -68,9 +75,9 @@ static void note(int copy, long read, const long *written) {
     start = 0;
     if (record[stream] > 0) sendfile(FOUND, stream, &start, record[stream]);
     ftruncate(stream, written[stream]);
-    lseek(stream, written[stream], 0);
+    lseek64(stream, written[stream], 0);
   }
-  lseek(0, read, 0);
+  lseek64(0, read, 0);
 }
 
 /* At each growth of the program, to which none is refused, a copy of it goes on to which that one is, and so many in all. */
