@@ -6,9 +6,7 @@ import signal
 import sys
 
 from . import parts, terminal
-from .bundles import FILTER, call_of, call_on_bundle
 from .orders import Usage, order_of
-from .pieces import Pieces
 
 
 def is_shown(order):
@@ -30,6 +28,8 @@ def file_of(octets):
 
 def answer(order):
     """Runs the program; its status. Where nothing is to be shown besides, the program takes the place of this one."""
+    from .bundles import FILTER, call_of, call_on_bundle  # (these two take as long to load as all the rest, and words that are at fault need neither)
+    from .pieces import Pieces
     words, bundle, profile = call_on_bundle(order) if order.takes_bundle() else call_of(order)
     if isinstance(words, Pieces):
         status = words.answer(bundle)

@@ -116,7 +116,7 @@ def refusals(path):
     except captures.BadCapture as why:
         raise parts.BadInput("%s: %s" % (shown(path), why), 3) from None
     except TooLong as why:
-        raise parts.BadInput("%s: the headers make more than 4 MiB, about %d of them, and no such call takes more: pack and stats take any number, in pieces, without --robust"
+        raise parts.BadInput("%s: the headers make more than 4 MiB, about %d of them, and no such call takes more: pack, stats and loss take any number, in pieces, without --robust"
                              % (shown(path), why.args[0]), 2) from None
     except (inferred.NotInferred, cutting.BadSpan) as why:
         raise parts.BadInput(str(why), 2) from None

@@ -2,13 +2,13 @@
 printed is what one call would print."""
 import itertools
 import re
-import subprocess
 import sys
 import time
 
-from . import parts, sums, terminal
+from . import losses, parts, sums, terminal
 
-PIECED = ("pack", "unpack", "stats")
+PIECED = ("pack", "unpack", "stats", "loss")
+LOST = "8"  # packets in a row, where none is said
 BLOCK = 1 << 20  # octets of lines that go into a call, and that are read at a time
 CONTEXT = b"=== context\n"
 NUMBERED = re.compile(rb"^(item|packet) (\d+)(?=: )|^(items|packets):(\d+)(?=: )")
@@ -65,13 +65,16 @@ class Pieces:
         self.flags = [it for it in order.flags() if it != "--context"]
         self.printed = b""  # by the last call
         self.sums, self.told, self.rows = sums.Sums(), [], order.has("by-item")
+        self.losses = losses.Losses(int(order.get("lost") or LOST)) if order.command == "loss" else None
+        self.earlier = b""  # the items that stand before the next piece of `loss`
         self.shown = time.monotonic()
 
     def answer(self, given):
         """Runs the command on blocks of lines; its status."""
+        take = {"stats": self.count_piece, "loss": self.lose_piece}.get(self.order.command, self.pass_piece)
         try:
             for it in given:
-                (self.count_piece if self.order.command == "stats" else self.pass_piece)(it)
+                take(it)
                 self.lines += it.count(b"\n")
                 self.count += items_in(it)
                 self.show()
@@ -81,6 +84,7 @@ class Pieces:
 
     def call(self, command, flags, lines):
         """What the program prints of a piece, with its status. All but the first call say nothing beside, unless they fail."""
+        import subprocess  # (it takes a while to load, and most calls need no pieces)
         words = [self.path, "--", command, "--top", self.top, *flags]
         bundle = parts.bundle({**self.given, self.part: lines}, self.profile)
         ran = subprocess.run(words, input=bundle, stdout=subprocess.PIPE, stderr=subprocess.PIPE if self.calls else None, check=False)
@@ -110,8 +114,27 @@ class Pieces:
         refused = [it for it in every if REFUSED.match(it)]
         self.told += map(self.renumbered, refused)
         (self.pass_rows if self.rows else self.sums.add)([it for it in every if not REFUSED.match(it)])
-        left = without(lines, {int(REFUSED.match(it).group(1)) for it in refused}) if refused else lines
-        context, status = self.call("pack", [it for it in self.flags if it == "--v2"] + ["--context"], left)
+        self.go_on(without(lines, {int(REFUSED.match(it).group(1)) for it in refused}) if refused else lines)
+
+    def lose_piece(self, lines):
+        """Adds what the program counts of a piece, behind the items before it that may be lost, and keeps the context in which those of the next one are packed."""
+        printed, status = self.call("loss", self.flags, self.earlier + lines)
+        back = items_in(self.earlier)
+        if status != 0:
+            self.writes(self.renumbered(printed.rstrip(b"\n"), back) + b"\n" if printed else b"")
+            raise Stopped(status)
+        earlier, status = self.call("loss", self.flags, self.earlier) if back else (b"", 0)
+        if status != 0:
+            raise Stopped(status)
+        self.losses.add(printed.decode().splitlines(), earlier.decode().splitlines(), self.count - back)
+        every = [it for it in (self.earlier + lines).split(b"\n") if it and it != b"\r"]
+        end = max(0, len(every) - self.losses.lost - losses.BEFORE)
+        self.go_on(joined(every[:end]))
+        self.earlier = joined(every[end:])
+
+    def go_on(self, lines):
+        """Keeps the context that items leave, none of which is refused."""
+        context, status = self.call("pack", [it for it in self.flags if it == "--v2"] + ["--context"], lines)
         if status != 0:
             raise Stopped(status)
         self.given["context"] = context[(context.rfind(b"\n" + CONTEXT) + 1) + len(CONTEXT):]
@@ -126,6 +149,9 @@ class Pieces:
 
     def last(self):
         """Prints what comes last; the status."""
+        if self.losses:
+            self.writes(b"".join(it.encode() + b"\n" for it in self.losses.lines(self.methods()[self.top])))
+            return 0
         if self.order.command != "stats":
             if self.order.has("context"):
                 self.writes(CONTEXT + self.given.get("context", b""))
@@ -137,17 +163,21 @@ class Pieces:
 
     def table(self):
         """The lines of what is counted of all pieces."""
-        unsure = self.sums.complete(sums.methods_of(self.call("show", [], b"")[0].decode()))
+        unsure = self.sums.complete(self.methods())
         if unsure:
             terminal.says("below %s formats without bits are counted only in pieces in which the field has bits" % ", ".join(unsure))
         return [it.encode() for it in self.sums.lines()]
 
-    def renumbered(self, line):
-        """A fault line with the numbers of the whole."""
+    def methods(self):
+        """The formats of each method."""
+        return sums.methods_of(self.call("show", [], b"")[0].decode())
+
+    def renumbered(self, line, back=0):
+        """A fault line with the numbers of the whole, of a piece that stands behind so many items of those before it."""
         def whole(found):
             if found.group(1):
-                return b"%s %d" % (found.group(1), int(found.group(2)) + self.count)
-            return b"%s:%d" % (found.group(3), int(found.group(4)) + self.lines)
+                return b"%s %d" % (found.group(1), int(found.group(2)) + self.count - back)
+            return b"%s:%d" % (found.group(3), int(found.group(4)) + self.lines - back)
         return NUMBERED.sub(whole, line)
 
     def writes(self, octets):
@@ -174,4 +204,9 @@ def items_in(lines):
 def without(lines, numbers):
     """The lines without the items of these numbers."""
     every = [it for it in lines.split(b"\n") if it and it != b"\r"]
-    return b"".join(it + b"\n" for at, it in enumerate(every, 1) if at not in numbers)
+    return joined([it for at, it in enumerate(every, 1) if at not in numbers])
+
+
+def joined(lines):
+    """Lines as a text."""
+    return b"".join(it + b"\n" for it in lines)

@@ -39,7 +39,6 @@ class Row:
             done.append((name, self.below[name]))
         return done
 
-
     def complete(self, methods, unsure):
         """Adds to the rows below this format what they lack. The fields of which that can't be told are noted."""
         for name, field in self.below.items():
@@ -93,15 +92,20 @@ class Sums:
         """The lines as the program prints them."""
         rows = [("  format", "items", "bits", "mean")]
         self.collect(rows, self.top, 1)
-        widths = [max(len(it[at]) for it in rows) for at in range(3)]
         yield "items %d bits %d mean %s" % (self.items, self.bits, mean(self.bits, self.items))
-        for it in rows:
-            yield "  ".join([*[word.ljust(width) for word, width in zip(it, widths)], it[3]])
+        yield from set_out(rows)
 
     def collect(self, rows, above, depth):
         for name, row in above.ordered():
             rows.append(("  " * depth + name, str(row.items), str(row.bits), mean(row.bits, row.items)))
             self.collect(rows, row, depth + 1)
+
+
+def set_out(rows):
+    """The lines of a table: all columns but the last are as wide as their longest word."""
+    widths = [max(map(len, column)) for column in zip(*rows)]
+    for *words, last in rows:
+        yield "  ".join([*[word.ljust(width) for word, width in zip(words, widths)], last])
 
 
 def mean(bits, items):

@@ -157,6 +157,7 @@ def pieces(place):
     good = "".join((EXAMPLES / "data" / "tcp-client.items").read_text().splitlines(keepends=True)[:110])
     place.write("good", "\n" + good.replace("\n", "\r\n\n", 30))
     place.write("damaged", "\n\n".join(["480:" + "00" * 60 if at in (17, 50, 51, 90) else it for at, it in enumerate(good.splitlines())]))
+    place.write("late", "\n".join(["480:" + "00" * 60 if at == 100 else it for at, it in enumerate(good.splitlines())]))
     place.write("bad", good + "no item\n" + good)
     place.write("first", good.split("\n")[0] + "\n")
     shutil.copy(EXAMPLES / "profiles" / "tcp.profile", place.files)
@@ -168,6 +169,8 @@ def pieces(place):
     place.write("short packets", packets[:half] + "\n\n3:00" + packets[half:])
     shutil.copy(EXAMPLES / "tutorial" / "probe6.fn", place.files)  # (in the first pieces a field has no bits, and is without them in one format of its method)
     place.write("jumps", "".join("24:01%02x%02x\n" % (0x40 if at < 1500 else 0x41 + at % 2, at * 20 % 256) for at in range(2000)))
+    shutil.copy(EXAMPLES / "probe.fn", place.files)  # (it has no checksum: after some losses packets are read wrong)
+    place.write("threes", "".join("24:01%02x%02x\n" % (0x40 + (at == 1701), (at // 900 * 2 + 1) * at % 256) for at in range(2600)))
     udp = [bytes.fromhex(it) for it in (EXAMPLES / "data" / "udp-headers.hex").read_text().split()]
     shutil.copy(EXAMPLES / "profiles" / "udp.profile", place.files)
     place.write("udp", capture(1, [ETHERNET + it + b"\x00 body" for it in udp]))
@@ -176,9 +179,11 @@ def pieces(place):
              ["stats", "--items", "good"], ["stats", "--items", "damaged", "--items", "good"], ["stats", "--items", "damaged", "--all"], ["stats", "--items", "good", "--all"],
              ["stats", "--items", "damaged", "--by-item"], ["stats", "--items", "good", "--at-most", "77"], ["stats", "--items", "good", "--at-most", "78"],
              ["stats", "--items", "bad"], ["stats", "--items", "good", "--from-context", "context", "--v2"]]
-    every = [[it[0], "tcp.profile", *it[1:]] for it in calls] + [[it, "udp.profile", "--pcap", "udp", "--flow", flow] for it in ("pack", "stats") for flow in ("0", "3", "4")]
+    calls += [["loss", "--items", it, *more] for it, more in (("good", []), ("good", ["--lost", "0"]), ("good", ["--lost=1", "--v2"]), ("good", ["--lost", "63", "--from-context", "context"]), ("damaged", []), ("late", []), ("bad", []))]
+    every = [[it[0], "tcp.profile", *it[1:]] for it in calls] + [[it, "udp.profile", "--pcap", "udp", "--flow", flow] for it in ("pack", "stats", "loss") for flow in ("0", "3", "4")]
     place.write("slip.fn", (EXAMPLES / "profiles" / "tcp.profile").read_text().replace("irregular", "iregular"))
     every += [[it, "slip.fn", "--items", "good", "--diagnose"] for it in ("pack", "stats")]
+    every += [["loss", it, "--items", name, *more] for it in ("probe.fn", "probe6.fn") for name, more in (("threes", []), ("threes", ["--lost", "2"]), ("jumps", ["--lost=40"]))]
     every += [["stats", "probe6.fn", "--items", "jumps"], ["pack", "udp.profile", "--pcap", "udp"], ["pack", "udp.profile", "--pcap", "udp", "--flow", "9"]]
     with concurrent.futures.ThreadPoolExecutor(max_workers=4) as pool:
         whole = pool.map(lambda words: place.call(*words), every)
@@ -192,7 +197,7 @@ def pieces(place):
     seen = place.on_terminal("pack", "tcp.profile", "--items", "good")
     said = [int(it) for it in re.findall(r"^rohcfn: (\d+) items are done$", seen[1], re.MULTILINE)]
     check("a terminal is told how far the call is", seen[0] == 0 and len(said) > 2 and said == sorted(said) and said[-1] == good.count("\n"), said)
-    for words in (["loss", "--items", "good"], ["pack", "--items", "good", "--robust", "1"]):
+    for words in (["loss", "--items", "good", "--robust", "1"], ["pack", "--items", "good", "--robust", "1"], ["advise", "--items", "good"]):
         seen = place.call(words[0], "tcp.profile", *words[1:], command=small / "bin" / "rohcfn")
         check("no pieces: %s" % words, seen[0] in (0, 1), seen)
 
