@@ -22,6 +22,7 @@ METHOD = re.compile(r"^(\w+)(?:\(.*\))?$", re.MULTILINE)
 REFUSED = re.compile(r"item (\d+): ")
 VERDICTS = ("right", "refused", "wrong")
 LOST = 8
+READ = {}  # what `unpack` made of packets so far, by the profile, the context, the item and the packet
 SMALL, FEW = 24, 4  # items of a small profile, and lost packets
 
 # a field that a filling encodes by `static` or `lsb`: its path, the method, the values of its arguments, its uncompressed side and its value of INITIAL
@@ -102,9 +103,12 @@ def read(profile, context, packet):
 
 
 def all_read(profile, asked):
-    """What `unpack` makes of packets, each in a context of its own."""
+    """What `unpack` makes of packets, each in a context of its own. (Receivers that begin with other losses often come to the same context.)"""
+    keys = [(profile.words, profile.text, frozenset(context.items()), packet.item, packet.packet) for context, packet in asked]
+    new = {key: it for key, it in zip(keys, asked) if key not in READ}
     with concurrent.futures.ThreadPoolExecutor(max_workers=4) as pool:
-        return list(pool.map(lambda it: read(profile, *it), asked))
+        READ.update(zip(new, pool.map(lambda it: read(profile, *it), new.values())))
+    return [READ[it] for it in keys]
 
 
 def serves(use, given):

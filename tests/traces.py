@@ -186,8 +186,8 @@ def pieces(place):
     every += [["loss", it, "--items", name, *more] for it in ("probe.fn", "probe6.fn") for name, more in (("threes", []), ("threes", ["--lost", "2"]), ("jumps", ["--lost=40"]))]
     every += [["stats", "probe6.fn", "--items", "jumps"], ["pack", "udp.profile", "--pcap", "udp"], ["pack", "udp.profile", "--pcap", "udp", "--flow", "9"]]
     with concurrent.futures.ThreadPoolExecutor(max_workers=4) as pool:
-        whole = pool.map(lambda words: place.call(*words), every)
-        parted = pool.map(lambda words: place.call(*words, command=small / "bin" / "rohcfn"), every)
+        whole = pool.map(lambda words: place.call(*words, timeout=120), every)
+        parted = pool.map(lambda words: place.call(*words, command=small / "bin" / "rohcfn", timeout=120), every)
         for words, due, seen in zip(every, whole, parted):
             check("in pieces: %s" % words, seen == due, (seen, due))
     seen = place.call("pack", "tcp.profile", "--items", "bad", command=small / "bin" / "rohcfn")
