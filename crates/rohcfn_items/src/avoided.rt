@@ -9,10 +9,10 @@ use fn_expr::Side;
 use fn_filling::{AskedValue, Item};
 use fn_profile::Profile;
 use fn_reasons::{Line, Reason};
-use indexmap::IndexMap;
 use rohcfn_names::names::format_name;
 use sqlite_items::Items;
 use std::alloc::{AllocError, Global};
+use std::collections::BTreeMap;
 
 /// What becomes of a format for an item.
 #[derive(Drop)]
@@ -54,7 +54,8 @@ pub struct Verdicts {
     pub without: usize,
     pub kept: Items<Verdict>,
     counts: Vec<usize>,
-    places: IndexMap<String, usize>,
+    /// The place of each kind. A look-up goes by the order of the kinds' texts, so no choice of items makes it slow.
+    places: BTreeMap<String, usize>,
 }
 
 impl Verdicts {
@@ -69,7 +70,7 @@ impl Verdicts {
             without: 0,
             kept: Items::new(alloc),
             counts: Vec::new(alloc),
-            places: IndexMap::new(alloc),
+            places: BTreeMap::new(alloc),
         }
     }
 
@@ -93,7 +94,7 @@ impl Verdicts {
             Fate::Against { .. } | Fate::Later { .. } => self.others = more(self.others)?,
         }
         let kind = kind_of(alloc, &fate)?;
-        if let Some(place) = self.places.get(&kind) {
+        if let Some(place) = self.places.get(kind.as_str()) {
             let place = *place;
             if place < self.counts.len() {
                 self.counts[place] = more(self.counts[place])?;
