@@ -184,7 +184,7 @@ def call_of(order):
     if order.has("pcap"):
         found = captured(order, profile, top)
         if not isinstance(found.get("items", b""), bytes):
-            more = pieces.grouped(found.pop("items"))
+            more = pieces.grouped(found.pop("items"), order)
     elif pieces.is_pieced(order):
         found, more = lines_or_pieces(order, bare_of(order, profile, top), len(text))
     else:
@@ -205,8 +205,8 @@ def lines_or_pieces(order, bare, octets):
     for it in given:
         first.append(it)
         octets += len(it)
-        if octets > parts.BUNDLE:
-            return {}, pieces.grouped(itertools.chain(first, given))
+        if octets > pieces.most(order):
+            return {}, pieces.grouped(itertools.chain(first, given), order)
     return {LINES[order.lines[0][0]]: b"".join(first)}, None
 
 

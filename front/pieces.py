@@ -6,12 +6,15 @@ import sys
 import time
 
 from . import losses, parts, sums, terminal
+from .orders import LINES
 
-PIECED = ("pack", "unpack", "stats", "loss")
+PIECED = ("pack", "unpack", "fields", "stats", "loss")
 LOST = "8"  # packets in a row, where none is said
 BLOCK = 1 << 20  # octets of lines that go into a call, and that are read at a time
+SHORT = 1 << 17  # octets of lines that go into a call of `fields`, which prints many for each
 CONTEXT = b"=== context\n"
 NUMBERED = re.compile(rb"^(item|packet) (\d+)(?=: )|^(items|packets):(\d+)(?=: )")
+HEAD = re.compile(rb"^(item|packet) (\d+)(?= \S+ \d+ bits$)", re.MULTILINE)
 REFUSED = re.compile(rb"^item (\d+): ")
 SHOWN = 2  # seconds between two lines of progress
 
@@ -23,6 +26,11 @@ class Stopped(Exception):
 def is_pieced(order):
     """Whether the command takes pieces. A sender whose packets survive losses keeps more than a context."""
     return order.command in PIECED and not order.has("robust")
+
+
+def most(order):
+    """How many octets go in one call: what is more goes in pieces."""
+    return SHORT if order.command == "fields" else parts.BUNDLE
 
 
 def blocks(read, name, part):
@@ -44,13 +52,13 @@ def blocks(read, name, part):
             return
 
 
-def grouped(given):
+def grouped(given, order):
     """Blocks of whole lines of about the same length, of blocks of whole lines."""
-    waiting = b""
+    waiting, size = b"", min(BLOCK, most(order))
     for it in itertools.chain(given, [b""]):
         waiting += it
-        while waiting and (len(waiting) > BLOCK or not it):
-            end = len(waiting) if len(waiting) <= BLOCK else waiting.rfind(b"\n", 0, BLOCK) + 1 or waiting.find(b"\n") + 1 or len(waiting)
+        while waiting and (len(waiting) > size or not it):
+            end = len(waiting) if len(waiting) <= size else waiting.rfind(b"\n", 0, size) + 1 or waiting.find(b"\n") + 1 or len(waiting)
             yield waiting[:end]
             waiting = waiting[end:]
 
@@ -60,7 +68,7 @@ class Pieces:
 
     def __init__(self, filter_path, order, top, given, profile):
         self.path, self.order, self.top = filter_path, order, top
-        self.given, self.profile, self.part = dict(given), profile, "packets" if order.command == "unpack" else "items"
+        self.given, self.profile, self.part = dict(given), profile, LINES[order.lines[0][0]] if order.lines else "items"
         self.lines = self.count = self.calls = 0  # lines and items before the piece
         self.flags = [it for it in order.flags() if it != "--context"]
         self.printed = b""  # by the last call
@@ -98,10 +106,10 @@ class Pieces:
         printed, status = self.call(self.order.command, [*self.flags, "--context"], lines)
         if status != 0:
             whole, _, fault = printed.rstrip(b"\n").rpartition(b"\n")
-            self.writes((whole + b"\n" if whole else b"") + (self.renumbered(fault) + b"\n" if printed else b""))
+            self.writes((self.headed(whole) + b"\n" if whole else b"") + (self.renumbered(fault) + b"\n" if printed else b""))
             raise Stopped(status)
         begin = 0 if printed.startswith(CONTEXT) else printed.rfind(b"\n" + CONTEXT) + 1
-        self.writes(printed[:begin])
+        self.writes(self.headed(printed[:begin]))
         self.given["context"] = printed[begin + len(CONTEXT):]
 
     def count_piece(self, lines):
@@ -171,6 +179,12 @@ class Pieces:
     def methods(self):
         """The formats of each method."""
         return sums.methods_of(self.call("show", [], b"")[0].decode())
+
+    def headed(self, printed):
+        """What is printed of a piece, with the numbers of the whole in the head lines of `fields`."""
+        if self.order.command != "fields" or not self.count:
+            return printed
+        return HEAD.sub(lambda it: b"%s %d" % (it[1], int(it[2]) + self.count), printed)
 
     def renumbered(self, line, back=0):
         """A fault line with the numbers of the whole, of a piece that stands behind so many items of those before it."""

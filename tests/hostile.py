@@ -158,14 +158,14 @@ def bounded():
     yield Row("100,000 flows", '"$0" pack esp.fn --pcap flows', 2, "", "\nand more than %d flows\n" % (COUNTED - LISTED), 3, lines=LISTED + 2)
     yield Row("100,000 flows on a line", '"$0" line esp.fn --pcap flows', 2, "", "rohcfn: flows: more than %d flows, and a line has 16\n" % COUNTED, 3, lines=LISTED + 2)
     yield Row("the flow 20,000 of 100,000", '"$0" pack esp.fn --pcap flows --flow 20000', 7, "64:", "", 3)
-    for it in ("fields", "line"):
+    for it in ("why", "line"):
         yield Row("250,000 headers of a flow, %s" % it, '"$0" %s esp.fn --pcap "same flow"' % it, 2, "", "rohcfn: same flow: the headers make more than 4 MiB, about ", 4, 100)
     yield Row("250,000 headers of a flow, in pieces", '"$0" pack esp.fn --pcap "same flow"', 7, "[pack][--top][top][--context]\n=== items\n64:0000abcd00010007\n", "", 10, 100)
 
 
 def endless():
     """/dev/zero for each file, to the built program."""
-    for name, call, status in (("PROFILE", "check /dev/zero", 1), ("--items", "pack p.fn --items /dev/zero", 1), ("--packets", "fields p.fn --packets /dev/zero", 2), ("--packets of unpack", "unpack p.fn --packets /dev/zero", 1), ("--events", "line p.fn --events /dev/zero", 1),
+    for name, call, status in (("PROFILE", "check /dev/zero", 1), ("--items", "pack p.fn --items /dev/zero", 1), ("--packets", "why p.fn --packets /dev/zero", 2), ("--packets of unpack", "unpack p.fn --packets /dev/zero", 1), ("--packets of fields", "fields p.fn --packets /dev/zero", 1), ("--events", "line p.fn --events /dev/zero", 1),
                                ("--octets", "line p.fn --octets /dev/zero", 2), ("--certificate", "check p.fn --certificate /dev/zero", 1), ("--from-context", "pack p.fn --item 24:014007 --from-context /dev/zero", 2)):
         printed = "bundle: I6 above 4 MiB\n" if status == 1 else ""
         yield Row("/dev/zero as %s" % name, '"$0" ' + call, status, printed, "" if printed else "rohcfn: /dev/zero: it has more octets, and", 2, 220, 1)

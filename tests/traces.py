@@ -150,7 +150,7 @@ def pieces(place):
         shutil.copytree(place.root / it, small / it)
     (small / "crates" / "rohcfn" / "out").mkdir(parents=True)
     (small / "crates" / "rohcfn" / "out" / "rohcfn").symlink_to(built().resolve())
-    for path, old, new in (("front/parts.py", "BUNDLE = 4_194_304", "BUNDLE = 12_000"), ("front/pieces.py", "BLOCK = 1 << 20", "BLOCK = 6_000"), ("front/bundles.py", "BLOCK = 4096", "BLOCK = 5"), ("front/pieces.py", "SHOWN = 2", "SHOWN = 0")):
+    for path, old, new in (("front/parts.py", "BUNDLE = 4_194_304", "BUNDLE = 12_000"), ("front/pieces.py", "BLOCK = 1 << 20", "BLOCK = 6_000"), ("front/pieces.py", "SHORT = 1 << 17", "SHORT = 5_000"), ("front/bundles.py", "BLOCK = 4096", "BLOCK = 5"), ("front/pieces.py", "SHOWN = 2", "SHOWN = 0")):
         text = (small / path).read_text()
         check("the limits of the copy", text.count(old) == 1)
         (small / path).write_text(text.replace(old, new))
@@ -179,8 +179,10 @@ def pieces(place):
              ["stats", "--items", "good"], ["stats", "--items", "damaged", "--items", "good"], ["stats", "--items", "damaged", "--all"], ["stats", "--items", "good", "--all"],
              ["stats", "--items", "damaged", "--by-item"], ["stats", "--items", "good", "--at-most", "77"], ["stats", "--items", "good", "--at-most", "78"],
              ["stats", "--items", "bad"], ["stats", "--items", "good", "--from-context", "context", "--v2"]]
+    calls += [["fields", *more] for more in (["--items", "good", "--context"], ["--items", "damaged"], ["--items", "good", "--from-context", "context"], ["--packets", "packed"],
+                                             ["--packets", "short packets", "--context", "--v2"])]
     calls += [["loss", "--items", it, *more] for it, more in (("good", []), ("good", ["--lost", "0"]), ("good", ["--lost=1", "--v2"]), ("good", ["--lost", "63", "--from-context", "context"]), ("damaged", []), ("late", []), ("bad", []))]
-    every = [[it[0], "tcp.profile", *it[1:]] for it in calls] + [[it, "udp.profile", "--pcap", "udp", "--flow", flow] for it in ("pack", "stats", "loss") for flow in ("0", "3", "4")]
+    every = [[it[0], "tcp.profile", *it[1:]] for it in calls] + [[it, "udp.profile", "--pcap", "udp", "--flow", flow] for it in ("pack", "fields", "stats", "loss") for flow in ("0", "3", "4")]
     place.write("slip.fn", (EXAMPLES / "profiles" / "tcp.profile").read_text().replace("irregular", "iregular"))
     every += [[it, "slip.fn", "--items", "good", "--diagnose"] for it in ("pack", "stats")]
     every += [["loss", it, "--items", name, *more] for it in ("probe.fn", "probe6.fn") for name, more in (("threes", []), ("threes", ["--lost", "2"]), ("jumps", ["--lost=40"]))]
