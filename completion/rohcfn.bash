@@ -34,7 +34,7 @@ _rohcfn() {
     COMP_WORDS=("${COMP_WORDS[0]}" "${COMP_WORDS[@]:2}") COMP_CWORD=$((COMP_CWORD - 1))
   fi
   local word=${COMP_WORDS[COMP_CWORD]} before=${COMP_WORDS[COMP_CWORD - 1]} options=''
-  local commands='pack unpack fields why stats loss advise show lint draw check prove line help'
+  local commands='pack unpack fields why stats loss advise show lint draw check prove line help lsp'
   COMPREPLY=()
   if [[ $before == = ]]; then before=${COMP_WORDS[COMP_CWORD - 2]}; fi
   case $word in

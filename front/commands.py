@@ -39,6 +39,11 @@ class Table:
         return [it for it in (self.files if files else self.flags) if command in it.commands]
 
 
+    def apart(self):
+        """The words in the place of a command that bin/rohcfn answers itself, but `help` and the options."""
+        return {it: does for it, does in self.own.items() if not it.startswith("-") and it != "help"}
+
+
 def table():
     with open(PATH, encoding="utf-8") as file:
         return Table(file.read())

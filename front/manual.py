@@ -226,21 +226,22 @@ def told(option, commands):
     return ".TP\n%s%s\n%s%s" % (names, value, roff(option.text()), of)
 
 
-def synopsis(known):
-    """The calls: by files, of each command by a bundle, and the others."""
+def synopsis(known, apart):
+    """The calls: by files, of each command by a bundle, those of words that bin/rohcfn answers itself, and the others."""
     calls = USAGE.findall(known.texts["files"])[:1]
     calls = [re.sub(r"  +.*", "", it) for it in calls]
     calls += ["%s <BUNDLE" % USAGE.search(known.texts[it])[1].replace("<NAME>", "NAME") for it in known.kept]
+    calls += ["rohcfn " + it for it in apart]
     return "\n.br\n".join(map(roff, [*calls, "rohcfn [COMMAND --top NAME] --diagnose <BUNDLE", "rohcfn help [COMMAND]", "rohcfn --version"]))
 
 
-def page(known, formats):
+def page(known, apart, formats):
     """The man page."""
     statuses = formats.partition("| Status | When |\n")[2].partition("\n\n")[0]
     sections = [
         ("NAME", ["rohcfn \\- %s" % roff(known.summary[0].lower() + known.summary[1:])]),
-        ("SYNOPSIS", [synopsis(known)]),
-        ("COMMANDS", [".TP\n%s\n%s." % (bold(it), roff(text)) for it, text in known.commands.items()]),
+        ("SYNOPSIS", [synopsis(known, apart)]),
+        ("COMMANDS", [".TP\n%s\n%s." % (bold(it), roff(text)) for it, text in {**known.commands, **apart}.items()]),
         ("OPTIONS", [told(known.options[it], known.kept) for it in known.plain]),
         ("BUNDLES", paragraphs(known.texts["each"])),
         ("FILES", paragraphs(known.texts["files"])),
@@ -255,7 +256,7 @@ def page(known, formats):
 def bash(known, table):
     """The completion for bash."""
     cases = ["    %s)\n      options='%s'\n      ;;" % (it, textwrap.fill(" ".join(option.long for option in known.of(it)), 140, break_on_hyphens=False)) for it in known.kept]
-    words = {"commands": " ".join(known.commands), "cases": "\n".join(cases), "first": " ".join(it for it in table.own if it.startswith("-"))}
+    words = {"commands": " ".join([*known.commands, *table.apart()]), "cases": "\n".join(cases), "first": " ".join(it for it in table.own if it.startswith("-"))}
     words |= {"files": " | ".join(known.valued("FILE")), "others": " | ".join(known.valued("FILE", other=True))}
     return BASH.format(source=SOURCE, valued=patterns(known.valued("", other=True)), **words)
 
@@ -278,7 +279,7 @@ def spec(option):
 
 def zsh(known, table):
     """The completion for zsh."""
-    words = ["    '%s:%s'" % (it, quoted(text)) for it, text in known.commands.items()]
+    words = ["    '%s:%s'" % (it, quoted(text).replace(":", "\\:")) for it, text in {**known.commands, **table.apart()}.items()]
     cases = []
     for it in known.kept:
         specs = [*map(spec, known.of(it)), "'1:PROFILE:_files'"]
@@ -292,7 +293,7 @@ def made():
     table = commands.table()
     text = helped(table, (ROOT / "front" / "prose.txt").read_text())
     known, formats = Help(text), (ROOT / "docs" / "FORMATS.md").read_text()
-    return {"front/help.txt": text, "man/rohcfn.1": page(known, formats), "completion/rohcfn.bash": bash(known, table), "completion/_rohcfn": zsh(known, table)}
+    return {"front/help.txt": text, "man/rohcfn.1": page(known, table.apart(), formats), "completion/rohcfn.bash": bash(known, table), "completion/_rohcfn": zsh(known, table)}
 
 
 def main():

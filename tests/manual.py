@@ -17,6 +17,7 @@ from .program import ROOT
 PAGE, BASH, ZSH = (ROOT / it for it in ("man/rohcfn.1", "completion/rohcfn.bash", "completion/_rohcfn"))
 TABLE = commands.table()
 COMMANDS = [*TABLE.commands, "help"]
+WORDS = [*COMMANDS, *TABLE.apart()]  # all that may stand in the place of a command, but options
 FIRST = [it for it in TABLE.own if it.startswith("-")]  # options in the place of a command
 HERE = ["a file", "folder", "probe.fn"]
 MACRO = re.compile(r'\.(TH ROHCFN 1 "" Tuxabelo "User Commands"|SH [A-Z ]+|TP|PP|nf|fi|br|\\".*)')
@@ -77,6 +78,8 @@ def page():
     check("the man page", slip(text) is None, slip(text))
     for old, new in ((".TP\n", ".TQ\n"), (".fi\n", ""), ("\\fR", "\\f"), ("\\-\\-top", "--top"), (".SH NAME", ".SH"), ("Packs", "'Packs")):
         check("a slip: %r" % new, slip(text.replace(old, new, 1)) is not None)
+    for it in WORDS:
+        check("the man page on the word %s" % it, "\n.TP\n\\fB%s\\fR\n" % it in text)
     for it in {it for command in TABLE.commands for it in options_of(command)}:
         told = 2 if it == "--items" else 1  # (of `fields` it is also a flag without a file)
         check("the man page on %s" % it, text.count("\\fB%s\\fR" % it.replace("-", "\\-")) == told)
@@ -105,7 +108,7 @@ def offered(folder, every):
 
 def in_bash(folder):
     """Bash offers commands, the options of each command, and files where one is due."""
-    due = [([""], COMMANDS), (["p"], ["pack", "prove"]), (["-"], FIRST), (["--as-built", "un"], ["unpack"]), (["--as-built", "show", "pro"], ["probe.fn"]), (["help", ""], COMMANDS), (["help", "un"], ["unpack"])]
+    due = [([""], WORDS), (["l"], ["line", "lint", "loss", "lsp"]), (["lsp", ""], []), (["lsp", "-"], []), (["p"], ["pack", "prove"]), (["-"], FIRST), (["--as-built", "un"], ["unpack"]), (["--as-built", "show", "pro"], ["probe.fn"]), (["help", ""], WORDS), (["help", "un"], ["unpack"])]
     due += [(["help", "pack", ""], []), (["foo", ""], []), (["foo", "-"], []), (["--version", ""], []), (["--d"], ["--diagnose"]), (["--diagnose", ""], []), (["--diagnose", "<", ""], HERE)]
     for it in TABLE.commands:
         due += [([it, "-"], options_of(it)), ([it, "probe.fn", ""], options_of(it)), ([it, ""], HERE), ([it, "pro"], ["probe.fn"])]
@@ -132,6 +135,8 @@ def in_zsh():
     head, *cases = re.split(r"^        (\w+)\)\n", ZSH.read_text(), flags=re.MULTILINE)
     check("zsh offers at first", re.findall(r"^    '(?:\(- \*\))?'?\{?(?:-h,)?(--[\w-]+)", head, re.MULTILINE) == FIRST, head)
     check("zsh has the commands", cases[::2] == [*TABLE.commands], cases[::2])
+    seen = re.findall(r"^    '([a-z]+):", head, re.MULTILINE)
+    check("zsh tells all words", seen == WORDS, seen)
     for command, text in zip(cases[::2], cases[1::2]):
         seen = sorted(re.findall(r"^            '.*?(--[\w-]+)[=}\[]", text, re.MULTILINE))
         check("zsh offers for %s" % command, seen == options_of(command), seen)
