@@ -26,9 +26,9 @@ echo "examples: $passed passed, $failed failed"
 
 # As many modules run side by side as there are processors, the long ones first; what each prints comes in the order of the second list. hostile runs after them, by
 # itself: its calls have at most so many seconds of the processor, and beside other work each takes up to half as many more.
-longest=(first_call loss files 'why stored' refusals traces 'why drawn' server robust certificates roundtrip advise trees cases lint lines walks warned session)
+longest=(first_call loss library files 'why stored' refusals traces 'why drawn' server robust certificates roundtrip advise trees cases lint lines walks warned session)
 ordered=(sentences pages walks left_out editors tuning 'flows line' cases prefixes certificates forged trees roundtrip fields stats advise 'why stored' 'why drawn' avoided
-  lint warned lines loss robust refusals ends first_call files server session traces hostile manual)
+  lint warned lines loss robust refusals ends first_call files server session traces hostile library manual)
 printed=$(mktemp -d)
 trap 'rm -rf "$printed"' EXIT
 python=$(python3 -c 'import sys; print(sys.executable)') # (one in the PATH may be a script that takes its time)

@@ -1,0 +1,5 @@
+mod Writing
+mod Values
+mod Bounds
+mod Steps
+mod ReadingBack

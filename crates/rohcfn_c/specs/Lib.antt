@@ -1,0 +1,6 @@
+pub mod Told
+pub mod Lines
+pub mod Opening
+pub mod Steps
+pub mod Calls
+pub mod Held

@@ -1,0 +1,103 @@
+//! Opening a session by the octets of a profile.
+
+ghost use Rattle.std.specs.Prelude.{◌≡◌, IfOk};
+ghost use Rattle.std.specs.declared.option.Option.TheVariants.{None};
+ghost use Rattle.rohcfn_c.specs.Opening as spec;
+
+use crate::handle::Handle;
+use crate::line::cut;
+use crate::opened::{Last, Opened};
+use crate::told::Told;
+use fn_accepted::Accepted;
+use fn_cert::Version;
+use fn_session::Session;
+use rohcfn_report::profile_and_certificate::{Judged, Origin, accept};
+use std::alloc::{AllocError, Global};
+
+/// The greatest count of flows of a session.
+const FLOW_LIMIT: usize = 64;
+
+/// Closes what the handle held, and opens a session of so many flows by the profile with this top and its certificate; with no octets for that it is made.
+pub(crate) fn open(
+    alloc: Global,
+    top: &[u8],
+    profile: &[u8],
+    certificate: &[u8],
+    flows: usize,
+    handle: &mut Handle,
+    line: &mut [u8],
+    said: &mut usize,
+) -> Told
+    ensures { spec.Opens top.now profile.now certificate.now flows result handle.new.session line.old line.new said.new }
+{
+    drop(handle.take(alloc));
+    *said = 0;
+    if flows == 0 || flows > FLOW_LIMIT {
+        return Told::NoSuch;
+    }
+    match judge(alloc, top, profile, certificate, line, said) {
+        Ok(Some(accepted)) => put(alloc, accepted, flows as u8, handle),
+        Ok(None) => Told::Refused,
+        Err(_) => Told::NoMemory,
+    }
+}
+
+/// The profile with its certificate, where it is accepted; else the line of why it isn't is written.
+fn judge(
+    alloc: Global,
+    top: &[u8],
+    profile: &[u8],
+    certificate: &[u8],
+    line: &mut [u8],
+    said: &mut usize,
+) -> Result<Option<Accepted>, AllocError>
+    ensures { spec.Judges top.now profile.now certificate.now result line.old line.new said.old said.new }
+{
+    let Ok(top) = str::from_utf8(top) else {
+        return Ok(None);
+    };
+    match accept(alloc, top, profile, origin_of(certificate))? {
+        Judged::Accepted(accepted) => Ok(Some(accepted)),
+        Judged::Refused(text) => {
+            cut(text.as_str().as_bytes(), line, said);
+            Ok(None)
+        }
+    }
+}
+
+/// Where the certificate comes from: no octets stand for one of version 2 that is made.
+fn origin_of(certificate: &[u8]) -> Origin<'_>
+    ensures { spec.IsOrigin certificate.now result }
+{
+    if certificate.is_empty() {
+        Origin::Made(Version::Two)
+    } else {
+        Origin::Given(certificate)
+    }
+}
+
+/// Puts a new session into the handle.
+fn put(alloc: Global, accepted: Accepted, flows: u8, handle: &mut Handle) -> Told
+    requires { handle.old.session ≡ None }
+    ensures { spec.IsPutIn accepted flows result handle.new.session }
+{
+    match opened(alloc, accepted, flows) {
+        Ok(opened) => {
+            handle.put(opened);
+            Told::Done
+        }
+        Err(_) => Told::NoMemory,
+    }
+}
+
+/// A new session on the heap.
+fn opened(alloc: Global, accepted: Accepted, flows: u8) -> Result<Box<Opened>, AllocError>
+    ensures { IfOk result (λ b. b.value ≡ spec.new_session accepted flows) }
+{
+    let session = Session::new(alloc, accepted, flows)?;
+    let last = Last::Nothing;
+    match Box::new(alloc, Opened { session, last }) {
+        Ok(opened) => Ok(opened),
+        Err(_) => Err(AllocError),
+    }
+}

@@ -1,0 +1,209 @@
+//! The steps of an open session.
+
+ghost use Rattle.std.specs.Prelude.{◌≡◌};
+ghost use Rattle.rohcfn_c.specs.Steps as spec;
+
+use crate::line::{cut, why_text};
+use crate::opened::{Last, Opened};
+use crate::told::Told;
+use fn_profile::AskedField;
+use fn_session::most::{most_header, most_packet};
+use fn_session::{PackRefusal, Taken, UnpackRefusal};
+use std::alloc::{AllocError, Global};
+
+/// Packs one item of a flow.
+pub(crate) fn pack(
+    alloc: Global,
+    opened: &mut Opened,
+    flow: usize,
+    header: &[u8],
+    header_bits: usize,
+    asked: &[u8],
+    packed: &mut [u8],
+    packed_bits: &mut usize,
+) -> Told
+    ensures { spec.PackTold opened.old opened.new flow header.now header_bits asked.now packed.old packed.new packed_bits.old packed_bits.new result }
+{
+    match opened
+        .session
+        .pack(alloc, flow, header, header_bits, asked, packed)
+    {
+        Ok(bits) => {
+            *packed_bits = bits;
+            Told::Done
+        }
+        Err(refusal) => {
+            *packed_bits = bits_of(refusal, *packed_bits);
+            opened.last = Last::Pack(refusal);
+            Told::of_pack(refusal)
+        }
+    }
+}
+
+/// How many bits a packet has for which there is no room, or else what was told before.
+fn bits_of(refusal: PackRefusal, before: usize) -> usize
+    ensures { result ≡ spec.bits_of refusal before }
+{
+    match refusal {
+        PackRefusal::NoRoom(bits) => bits,
+        PackRefusal::OutOfMemory => before,
+        PackRefusal::Flow => before,
+        PackRefusal::BadBits => before,
+        PackRefusal::Asked => before,
+        PackRefusal::HeaderLength => before,
+        PackRefusal::NoFormat => before,
+        PackRefusal::NoReach => before,
+        PackRefusal::Contexts => before,
+    }
+}
+
+/// How much an item is, and how many bits its packet took. C reads it as three counts.
+#[repr(C)]
+#[derive(Clone, Copy)]
+pub struct Counts {
+    pub header_bits: usize,
+    pub asked_octets: usize,
+    pub taken_bits: usize,
+}
+
+/// Unpacks one packet of a flow.
+pub(crate) fn unpack(
+    alloc: Global,
+    opened: &mut Opened,
+    flow: usize,
+    packed: &[u8],
+    packed_bits: usize,
+    header: &mut [u8],
+    asked: &mut [u8],
+    counts: &mut Counts,
+) -> Told
+    ensures { spec.UnpackTold opened.old opened.new flow packed.now packed_bits header.old header.new asked.old asked.new counts.old counts.new result }
+{
+    match opened
+        .session
+        .unpack(alloc, flow, packed, packed_bits, header, asked)
+    {
+        Ok(taken) => {
+            *counts = counts_of(taken);
+            Told::Done
+        }
+        Err(refusal) => {
+            *counts = counts_told(refusal, *counts);
+            opened.last = Last::Unpack(refusal);
+            Told::of_unpack(refusal)
+        }
+    }
+}
+
+fn counts_of(taken: Taken) -> Counts
+    ensures { result ≡ spec.counts_of taken }
+{
+    Counts {
+        header_bits: taken.header_bits,
+        asked_octets: taken.asked_octets,
+        taken_bits: taken.bits,
+    }
+}
+
+/// The counts of an item for which there is no room, or else those that were told before.
+fn counts_told(refusal: UnpackRefusal, before: Counts) -> Counts
+    ensures { result ≡ spec.counts_told refusal before }
+{
+    match refusal {
+        UnpackRefusal::NoRoom(taken) => counts_of(taken),
+        UnpackRefusal::OutOfMemory => before,
+        UnpackRefusal::Flow => before,
+        UnpackRefusal::BadBits => before,
+        UnpackRefusal::Truncated => before,
+        UnpackRefusal::Refused(_) => before,
+    }
+}
+
+/// Both ends of a flow begin anew.
+pub(crate) fn reset(alloc: Global, opened: &mut Opened, flow: usize) -> Told
+    ensures { spec.ResetTold opened.old opened.new flow result }
+{
+    if opened.session.reset(alloc, flow) {
+        Told::Done
+    } else {
+        Told::NoSuch
+    }
+}
+
+/// From here on so many packets of a flow may be lost in a row.
+pub(crate) fn robust(alloc: Global, opened: &mut Opened, flow: usize, lost: u8) -> Told
+    ensures { spec.RobustTold opened.old opened.new flow lost result }
+{
+    match opened.session.endure(alloc, flow, lost) {
+        Ok(true) => Told::Done,
+        Ok(false) => Told::NoSuch,
+        Err(_) => Told::NoMemory,
+    }
+}
+
+/// How many contexts a receiver of a flow may hold.
+pub(crate) fn contexts(opened: &Opened, flow: usize, count: &mut usize) -> Told
+    ensures { spec.ContextsTold opened.now flow count.old count.new result }
+{
+    match opened.session.held(flow) {
+        Some(held) => {
+            *count = held;
+            Told::Done
+        }
+        None => Told::NoSuch,
+    }
+}
+
+/// The most bits of a header and of a packet.
+pub(crate) fn most(opened: &Opened, header: &mut usize, packet: &mut usize)
+    ensures { spec.AreMost opened.now header.new packet.new }
+{
+    *header = most_header(opened.session.accepted());
+    *packet = most_packet(opened.session.accepted());
+}
+
+/// The name of an asked field, by its place among them, and how many bits its values have.
+pub(crate) fn asked(
+    opened: &Opened,
+    index: usize,
+    name: &mut [u8],
+    said: &mut usize,
+    bits: &mut usize,
+) -> Told
+    ensures { spec.AskedTold opened.now index name.old name.new said.old said.new bits.old bits.new result }
+{
+    match opened.session.accepted().profile().asked().get(index) {
+        Some(field) => {
+            cut(field.name.as_str().as_bytes(), name, said);
+            *bits = length_of(field);
+            Told::Done
+        }
+        None => Told::NoSuch,
+    }
+}
+
+/// How many bits the values of an asked field have; 0 where no value can have its length.
+fn length_of(field: &AskedField) -> usize
+    ensures { spec.IsLengthOf field.now result }
+{
+    if field.length >= 0 && field.length < 2_147_483_648 {
+        field.length as usize
+    } else {
+        0
+    }
+}
+
+/// The line of the last refusal.
+pub(crate) fn why(
+    alloc: Global,
+    opened: &Opened,
+    line: &mut [u8],
+    said: &mut usize,
+) -> Result<(), AllocError>
+    ensures { spec.SaysWhy opened.now line.old line.new said.old said.new result }
+{
+    let methods = opened.session.accepted().profile().methods();
+    let text = why_text(alloc, methods, opened.last)?;
+    cut(text.as_str().as_bytes(), line, said);
+    Ok(())
+}
