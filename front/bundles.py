@@ -184,9 +184,9 @@ def call_of(order):
     if order.has("pcap"):
         found = captured(order, profile, top)
         if not isinstance(found.get("items", b""), bytes):
-            more = pieces.grouped(found.pop("items"), order)
+            more = pieces.grouped(found.pop("items"))
     elif pieces.is_pieced(order):
-        found, more = lines_or_pieces(order, bare_of(order, profile, top), len(text))
+        found, more = lines_or_pieces(order, bare_of(order, profile, top), pieces.room(order, len(text)))
     else:
         found = lines_given(order, bare_of(order, profile, top))
     for name in ONE:
@@ -199,14 +199,13 @@ def call_of(order):
     return ["--", order.command, "--top", top, *order.flags()], parts.bundle(found, text), where
 
 
-def lines_or_pieces(order, bare, octets):
-    """The part of items or packets; or nothing, and blocks of it, where that and so many octets are more than a bundle takes."""
+def lines_or_pieces(order, bare, room):
+    """The part of items or packets; or nothing, and blocks of it, where it has more octets than there is room for in one call."""
     given, first = blocks_given(order, bare), []
     for it in given:
         first.append(it)
-        octets += len(it)
-        if octets > pieces.most(order):
-            return {}, pieces.grouped(itertools.chain(first, given), order)
+        if sum(map(len, first)) > room:
+            return {}, pieces.grouped(itertools.chain(first, given))
     return {LINES[order.lines[0][0]]: b"".join(first)}, None
 
 

@@ -11,10 +11,10 @@ from .orders import LINES
 PIECED = ("pack", "unpack", "fields", "stats", "loss")
 LOST = "8"  # packets in a row, where none is said
 BLOCK = 1 << 20  # octets of lines that go into a call, and that are read at a time
-SHORT = 1 << 17  # octets of lines that go into a call of `fields`, which prints many for each
+FIRST = 1 << 8  # octets of lines that go into the first call of `fields`, which prints many for each
+PRINTED = 1 << 22  # octets that each of its further calls is to print, by what the one before printed
 CONTEXT = b"=== context\n"
 NUMBERED = re.compile(rb"^(item|packet) (\d+)(?=: )|^(items|packets):(\d+)(?=: )")
-HEAD = re.compile(rb"^(item|packet) (\d+)(?= \S+ \d+ bits$)", re.MULTILINE)
 REFUSED = re.compile(rb"^item (\d+): ")
 SHOWN = 2  # seconds between two lines of progress
 
@@ -28,9 +28,9 @@ def is_pieced(order):
     return order.command in PIECED and not order.has("robust")
 
 
-def most(order):
-    """How many octets go in one call: what is more goes in pieces."""
-    return SHORT if order.command == "fields" else parts.BUNDLE
+def room(order, text):
+    """How many octets of lines go in one call, beside a profile of so many: what is more goes in pieces."""
+    return FIRST if order.command == "fields" else parts.BUNDLE - text
 
 
 def blocks(read, name, part):
@@ -52,15 +52,20 @@ def blocks(read, name, part):
             return
 
 
-def grouped(given, order):
+def grouped(given):
     """Blocks of whole lines of about the same length, of blocks of whole lines."""
-    waiting, size = b"", min(BLOCK, most(order))
+    waiting = b""
     for it in itertools.chain(given, [b""]):
         waiting += it
-        while waiting and (len(waiting) > size or not it):
-            end = len(waiting) if len(waiting) <= size else waiting.rfind(b"\n", 0, size) + 1 or waiting.find(b"\n") + 1 or len(waiting)
+        while waiting and (len(waiting) > BLOCK or not it):
+            end = end_of(waiting, BLOCK)
             yield waiting[:end]
             waiting = waiting[end:]
+
+
+def end_of(lines, size):
+    """Where the last of the whole lines ends that have so many octets; of a longer line, its end."""
+    return len(lines) if len(lines) <= size else lines.rfind(b"\n", 0, size) + 1 or lines.find(b"\n") + 1 or len(lines)
 
 
 class Pieces:
@@ -71,7 +76,7 @@ class Pieces:
         self.given, self.profile, self.part = dict(given), profile, LINES[order.lines[0][0]] if order.lines else "items"
         self.lines = self.count = self.calls = 0  # lines and items before the piece
         self.flags = [it for it in order.flags() if it != "--context"]
-        self.printed = b""  # by the last call
+        self.printed, self.size = b"", FIRST if order.command == "fields" else BLOCK  # what the last call printed, and octets of lines that go into the next
         self.sums, self.told, self.rows = sums.Sums(), [], order.has("by-item")
         self.losses = losses.Losses(int(order.get("lost") or LOST)) if order.command == "loss" else None
         self.earlier = b""  # the items that stand before the next piece of `loss`
@@ -81,7 +86,7 @@ class Pieces:
         """Runs the command on blocks of lines; its status."""
         take = {"stats": self.count_piece, "loss": self.lose_piece}.get(self.order.command, self.pass_piece)
         try:
-            for it in given:
+            for it in itertools.chain.from_iterable(map(self.parted, given)):
                 take(it)
                 self.lines += it.count(b"\n")
                 self.count += items_in(it)
@@ -89,6 +94,15 @@ class Pieces:
             return self.last()
         except Stopped as why:
             return why.args[0]
+
+    def parted(self, lines):
+        """The pieces of a block. Those of `fields` are as long as makes what is printed of each about the same."""
+        while lines:
+            end = end_of(lines, self.size)
+            piece, lines = lines[:end], lines[end:]
+            yield piece
+            if self.order.command == "fields":
+                self.size = max(1, min(BLOCK, PRINTED * len(piece) // max(1, len(self.printed))))
 
     def call(self, command, flags, lines):
         """What the program prints of a piece, with its status. All but the first call say nothing beside, unless they fail."""
@@ -184,7 +198,10 @@ class Pieces:
         """What is printed of a piece, with the numbers of the whole in the head lines of `fields`."""
         if self.order.command != "fields" or not self.count:
             return printed
-        return HEAD.sub(lambda it: b"%s %d" % (it[1], int(it[2]) + self.count), printed)
+        mark = b"\nitem " if self.part == "items" else b"\npacket "  # (all other lines begin with blanks)
+        first, *heads = (b"\n" + printed).split(mark)
+        numbered = (it.partition(b" ") for it in heads)
+        return b"".join([first, *[b"%s%d %s" % (mark, int(number) + self.count, rest) for number, _, rest in numbered]])[1:]
 
     def renumbered(self, line, back=0):
         """A fault line with the numbers of the whole, of a piece that stands behind so many items of those before it."""
