@@ -1,6 +1,6 @@
 #!/usr/bin/env bash
 # Builds the shared library, the C programs and their tests into clients/out, with the machine's C compiler: build.sh [OUT]
-# CC is the compiler, CFLAGS are more of its words, ROHCFN_ARCHIVE is the library that `rt lib` or `rt ci` made. Status 3: there is none; 4: there is no C compiler.
+# CC is the compiler, CFLAGS are more of its words, ROHCFN_ARCHIVE is the library that `rt lib` made. Status 3: there is none; 4: there is no C compiler.
 set -eu
 here=$(cd "$(dirname "$0")" && pwd)
 out=${1:-$here/out}

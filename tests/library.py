@@ -6,7 +6,7 @@
 * Where they are installed these also run with AddressSanitizer, and under valgrind, which counts what leaks.
 * A profile of a mebibyte is refused or opened as the program does it.
 
-It prints `skipped` and ends with 0 where no library was built, or where there is no C compiler."""
+It prints `skipped` and ends with 0 where no library was built, as after the gate's own proofs (docs/LIBRARY.md), or where there is no C compiler."""
 import importlib
 import os
 import pathlib
