@@ -143,6 +143,23 @@ def bare(place):
     check("--bare needs items", seen[0] == 2 and seen[2].startswith("error: --bare goes with --item or --items\n"), seen)
 
 
+def in_pieces():
+    """Calls on these traces, each of which takes pieces."""
+    calls = [["pack", "--items", "good"], ["pack", "--items", "good", "--context", "--v2"], ["pack", "--items", "damaged"], ["pack", "--items", "good", "--from-context", "context"],
+             ["unpack", "--packets", "packets", "--context"], ["unpack", "--packets", "packed", "--context"], ["unpack", "--packets", "short packets"],
+             ["stats", "--items", "good"], ["stats", "--items", "damaged", "--items", "good"], ["stats", "--items", "damaged", "--all"], ["stats", "--items", "good", "--all"],
+             ["stats", "--items", "damaged", "--by-item"], ["stats", "--items", "good", "--at-most", "77"], ["stats", "--items", "good", "--at-most", "78"],
+             ["stats", "--items", "bad"], ["stats", "--items", "good", "--from-context", "context", "--v2"]]
+    calls += [["fields", *more] for more in (["--items", "good", "--context"], ["--items", "damaged"], ["--items", "good", "--from-context", "context"], ["--packets", "packed"],
+                                             ["--packets", "short packets", "--context", "--v2"])]
+    calls += [["loss", "--items", it, *more] for it, more in (("good", []), ("good", ["--lost", "0"]), ("good", ["--lost=1", "--v2"]), ("good", ["--lost", "63", "--from-context", "context"]), ("damaged", []), ("late", []), ("bad", []))]
+    every = [[it[0], "tcp.profile", *it[1:]] for it in calls] + [[it, "udp.profile", "--pcap", "udp", "--flow", flow] for it in ("pack", "fields", "stats", "loss") for flow in ("0", "3", "4")]
+    every += [[it, "slip.fn", "--items", "good", "--diagnose"] for it in ("pack", "stats")]
+    every += [["loss", it, "--items", name, *more] for it in ("probe.fn", "probe6.fn") for name, more in (("threes", []), ("threes", ["--lost", "2"]), ("jumps", ["--lost=40"]))]
+    every += [["stats", "probe6.fn", "--items", "jumps"], ["pack", "udp.profile", "--pcap", "udp"], ["pack", "udp.profile", "--pcap", "udp", "--flow", "9"]]
+    return every
+
+
 def pieces(place):
     """Traces that are longer than a bundle, in a copy that takes less: what is printed is what one call prints, which is tried by another copy."""
     small = place.root / "small"
@@ -174,19 +191,8 @@ def pieces(place):
     udp = [bytes.fromhex(it) for it in (EXAMPLES / "data" / "udp-headers.hex").read_text().split()]
     shutil.copy(EXAMPLES / "profiles" / "udp.profile", place.files)
     place.write("udp", capture(1, [ETHERNET + it + b"\x00 body" for it in udp]))
-    calls = [["pack", "--items", "good"], ["pack", "--items", "good", "--context", "--v2"], ["pack", "--items", "damaged"], ["pack", "--items", "good", "--from-context", "context"],
-             ["unpack", "--packets", "packets", "--context"], ["unpack", "--packets", "packed", "--context"], ["unpack", "--packets", "short packets"],
-             ["stats", "--items", "good"], ["stats", "--items", "damaged", "--items", "good"], ["stats", "--items", "damaged", "--all"], ["stats", "--items", "good", "--all"],
-             ["stats", "--items", "damaged", "--by-item"], ["stats", "--items", "good", "--at-most", "77"], ["stats", "--items", "good", "--at-most", "78"],
-             ["stats", "--items", "bad"], ["stats", "--items", "good", "--from-context", "context", "--v2"]]
-    calls += [["fields", *more] for more in (["--items", "good", "--context"], ["--items", "damaged"], ["--items", "good", "--from-context", "context"], ["--packets", "packed"],
-                                             ["--packets", "short packets", "--context", "--v2"])]
-    calls += [["loss", "--items", it, *more] for it, more in (("good", []), ("good", ["--lost", "0"]), ("good", ["--lost=1", "--v2"]), ("good", ["--lost", "63", "--from-context", "context"]), ("damaged", []), ("late", []), ("bad", []))]
-    every = [[it[0], "tcp.profile", *it[1:]] for it in calls] + [[it, "udp.profile", "--pcap", "udp", "--flow", flow] for it in ("pack", "fields", "stats", "loss") for flow in ("0", "3", "4")]
     place.write("slip.fn", (EXAMPLES / "profiles" / "tcp.profile").read_text().replace("irregular", "iregular"))
-    every += [[it, "slip.fn", "--items", "good", "--diagnose"] for it in ("pack", "stats")]
-    every += [["loss", it, "--items", name, *more] for it in ("probe.fn", "probe6.fn") for name, more in (("threes", []), ("threes", ["--lost", "2"]), ("jumps", ["--lost=40"]))]
-    every += [["stats", "probe6.fn", "--items", "jumps"], ["pack", "udp.profile", "--pcap", "udp"], ["pack", "udp.profile", "--pcap", "udp", "--flow", "9"]]
+    every = in_pieces()
     with concurrent.futures.ThreadPoolExecutor(max_workers=4) as pool:
         whole = pool.map(lambda words: place.call(*words, timeout=120), every)
         parted = pool.map(lambda words: place.call(*words, command=small / "bin" / "rohcfn", timeout=120), every)
