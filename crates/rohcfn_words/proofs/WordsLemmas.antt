@@ -10,9 +10,10 @@ use Rattle.clap.specs.declared.parser.matches.ArgMatches.TheViews.{out-SubComman
 use Rattle.clap.specs.declared.parser.matches.SubCommand.{SubCommand}
 use Rattle.fn_cert.specs.declared.certificate.Version.{Version}
 use Rattle.rohcfn_words.specs.declared.words.Command.{Command}
+use Rattle.rohcfn_words.specs.declared.words.Form.{Form}
 use Rattle.rohcfn_words.specs.declared.words.WordsError.{WordsError}
 use Rattle.rohcfn_words.specs.declared.words.WordsError.TheVariants as error
-use Rattle.rohcfn_words.specs.Words.{AskHelp, AskJustHelp, Asked, RefusesError, RefusesWords, asked_by, asked_in, asked_of, asked_unless, command_in, is_set, program, text_or_empty, version_asked}
+use Rattle.rohcfn_words.specs.Words.{AskHelp, AskJustHelp, Asked, RefusesError, RefusesWords, asked_by, asked_in, asked_of, asked_unless, command_in, form_asked, is_set, program, text_or_empty, version_asked}
 
 program_is_simple : is_simple program ≡ true
 unfolding program
@@ -33,12 +34,12 @@ subcommand_read (Some b) (Some p) name rows =
     ap Some (λ i. (sym n i, sym r i))
 
 -- what a command's name and the values of its flags ask for
-pub asked_whole : (met : Option (List ℕ × List Row)) (name : List ℕ) (rows : List Row) (command : Command) (top : List ℕ) (context : Bool) (version : Version) (wide strict : Bool) (avoided : List ℕ) → met ≡ Some (name, rows)
+pub asked_whole : (met : Option (List ℕ × List Row)) (name : List ℕ) (rows : List Row) (command : Command) (top : List ℕ) (context : Bool) (version : Version) (wide strict : Bool) (form : Form) (avoided : List ℕ) → met ≡ Some (name, rows)
     → Some command ≡ command_in name rows → Some top ≡ first_of (codes "top") rows → context ≡ is_set (first_of (codes "context") rows) → version ≡ version_asked (is_set (first_of (codes "v2") rows))
-    → wide ≡ is_set (first_of (codes "wide") rows) → strict ≡ is_set (first_of (codes "strict") rows) → avoided ≡ text_or_empty (first_of (codes "not") rows)
-    → Some (record { command = command; top = top; shows_context = context; version = version; is_wide = wide; is_strict = strict; avoided = avoided }) ≡ asked_in met
-asked_whole met name rows command top context version wide strict avoided m c t x v w s a =
-    (λ i. Some (record { command = command; top = top; shows_context = x i; version = v i; is_wide = w i; is_strict = s i; avoided = a i })) ∙ (λ i. asked_by (c i) (t i) rows) ∙ sym (ap asked_in m)
+    → wide ≡ is_set (first_of (codes "wide") rows) → strict ≡ is_set (first_of (codes "strict") rows) → form ≡ form_asked (is_set (first_of (codes "json") rows)) → avoided ≡ text_or_empty (first_of (codes "not") rows)
+    → Some (record { command = command; top = top; shows_context = context; version = version; is_wide = wide; is_strict = strict; form = form; avoided = avoided }) ≡ asked_in met
+asked_whole met name rows command top context version wide strict form avoided m c t x v w s o a =
+    (λ i. Some (record { command = command; top = top; shows_context = x i; version = v i; is_wide = w i; is_strict = s i; form = o i; avoided = a i })) ∙ (λ i. asked_by (c i) (t i) rows) ∙ sym (ap asked_in m)
 
 pub asked_found : (app : App) (words : List (List ℕ)) (met : Option (List ℕ × List Row)) (x : Option Asked) → app ≡ program → (is_simple_and_free app ≡ true → fault_of app words ≡ []) → (is_simple app ≡ true → met ≡ subcommand_of app words) → x ≡ asked_in met → asked_of words ≡ x
 unfolding asked_of

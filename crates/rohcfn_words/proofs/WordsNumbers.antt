@@ -11,7 +11,7 @@ use Rattle.rohcfn_words.specs.declared.words.Command.{Command}
 use Rattle.rohcfn_words.specs.declared.words.Command.TheVariants.{Run, Stats, Loss, Why, RobustPack, RobustStats, RobustLoss, RobustWhy}
 use Rattle.rohcfn_words.specs.declared.words.Direction.TheVariants.{Pack}
 use Rattle.rohcfn_words.specs.declared.words.Counting.{Counting}
-use Rattle.rohcfn_words.specs.Words.{Asked, ReadsLost, ReadsMost, ReadsRobust, asked_by, asked_in, bits_spelled, command_asked, command_named, counting_in, counting_of, is_set, lost_in, lost_spelled, robust_by, robust_command, why_named}
+use Rattle.rohcfn_words.specs.Words.{Asked, ReadsLost, ReadsMost, ReadsRobust, asked_by, asked_in, bits_spelled, command_asked, command_named, counting_in, counting_of, form_asked, is_set, lost_in, lost_spelled, robust_by, robust_command, why_named}
 
 both_true : (a b : Bool) → (a && b) ≡ true → (a ≡ true) × (b ≡ true)
 both_true true b h = (refl, h)
@@ -133,19 +133,21 @@ robust_is_read = record {
 -- ---- of the greatest mean
 
 most_asked : (rows : List Row) (n : ℕ) (top : List ℕ) → n < 65537 → first_of (codes "at-most") rows ≡ Some (decimal n) → first_of (codes "robust") rows ≡ None → first_of (codes "top") rows ≡ Some top
-    → command_asked (codes "stats") rows ≡ Some (Stats (record { lists_items = is_set (first_of (codes "by-item") rows); needs_all = is_set (first_of (codes "all") rows); most = Some n }))
+    → command_asked (codes "stats") rows ≡ Some (Stats (record { lists_items = is_set (first_of (codes "by-item") rows); needs_all = is_set (first_of (codes "all") rows); most = Some n; form = form_asked (is_set (first_of (codes "json") rows)) }))
 most_asked rows n top below m plain t =
     let list = is_set (first_of (codes "by-item") rows) in
     let all = is_set (first_of (codes "all") rows) in
-    let wants : counting_in rows ≡ Some (record { lists_items = list; needs_all = all; most = Some n }) =
-    ap (counting_of list all) m ∙ ap (option_map (λ bits. record { lists_items = list; needs_all = all; most = Some bits })) (bits_some n (decimal n) below refl) in
+    let form = form_asked (is_set (first_of (codes "json") rows)) in
+    let wants : counting_in rows ≡ Some (record { lists_items = list; needs_all = all; most = Some n; form = form }) =
+    ap (counting_of form list all) m ∙ ap (option_map (λ bits. record { lists_items = list; needs_all = all; most = Some bits; form = form })) (bits_some n (decimal n) below refl) in
     λ i. option_map (λ (a : Asked). a.command) (asked_by (option_and_then (robust_by (plain i)) (option_map Stats (wants i))) (t i) rows)
 
 most_refused : (rows : List Row) (text : List ℕ) → first_of (codes "at-most") rows ≡ Some text → ((n : ℕ) → n < 65537 → text ≢ decimal n) → asked_in (Some (codes "stats", rows)) ≡ None
 most_refused rows text m other =
     let list = is_set (first_of (codes "by-item") rows) in
     let all = is_set (first_of (codes "all") rows) in
-    let wants : counting_in rows ≡ None = ap (counting_of list all) m ∙ ap (option_map (λ bits. record { lists_items = list; needs_all = all; most = Some bits })) (bits_none text other) in
+    let form = form_asked (is_set (first_of (codes "json") rows)) in
+    let wants : counting_in rows ≡ None = ap (counting_of form list all) m ∙ ap (option_map (λ bits. record { lists_items = list; needs_all = all; most = Some bits; form = form })) (bits_none text other) in
     λ i. asked_by (option_and_then (robust_by (first_of (codes "robust") rows)) (option_map Stats (wants i))) (first_of (codes "top") rows) rows
 
 pub most_is_read : ReadsMost

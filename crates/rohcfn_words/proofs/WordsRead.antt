@@ -6,41 +6,42 @@ use Rattle.fn_cert.specs.declared.certificate.Version.TheVariants.{One, Two}
 use Rattle.rohcfn_words.specs.declared.words.Command.TheVariants.{Show, Lint, Draw, Check, Prove, ExplainCheck, ExplainProve, Run, Fields, Why, WhyNot, Stats, Loss, Advise, RobustPack, RobustStats, RobustLoss, RobustWhy, Line}
 use Rattle.rohcfn_words.specs.declared.words.Direction.TheVariants.{Pack, Unpack}
 use Rattle.rohcfn_words.specs.declared.words.End.TheVariants.{Sending, Receiving}
+use Rattle.rohcfn_words.specs.declared.words.Form.TheVariants.{Text, Json}
 use Rattle.rohcfn_words.specs.Words.{AskHelp, AskJustHelp, ReadsWords, asked_of, plain_counting, program}
 
-pub pack_read : asked_of (codes "pack" ∷ codes "--top" ∷ codes "plain" ∷ []) ≡ Some (record { command = Run Pack; top = codes "plain"; shows_context = false; version = One; is_wide = false; is_strict = false; avoided = [] })
+pub pack_read : asked_of (codes "pack" ∷ codes "--top" ∷ codes "plain" ∷ []) ≡ Some (record { command = Run Pack; top = codes "plain"; shows_context = false; version = One; is_wide = false; is_strict = false; form = Text; avoided = [] })
 unfolding asked_of program clap_on_literals
 pack_read = refl
 
-pub unpack_read : asked_of (codes "unpack" ∷ codes "--top=plain" ∷ []) ≡ Some (record { command = Run Unpack; top = codes "plain"; shows_context = false; version = One; is_wide = false; is_strict = false; avoided = [] })
+pub unpack_read : asked_of (codes "unpack" ∷ codes "--top=plain" ∷ []) ≡ Some (record { command = Run Unpack; top = codes "plain"; shows_context = false; version = One; is_wide = false; is_strict = false; form = Text; avoided = [] })
 unfolding asked_of program clap_on_literals
 unpack_read = refl
 
-pub show_read : asked_of (codes "show" ∷ codes "--top" ∷ codes "plain" ∷ []) ≡ Some (record { command = Show; top = codes "plain"; shows_context = false; version = One; is_wide = false; is_strict = false; avoided = [] })
+pub show_read : asked_of (codes "show" ∷ codes "--top" ∷ codes "plain" ∷ []) ≡ Some (record { command = Show; top = codes "plain"; shows_context = false; version = One; is_wide = false; is_strict = false; form = Text; avoided = [] })
 unfolding asked_of program clap_on_literals
 show_read = refl
 
-pub check_read : asked_of (codes "check" ∷ codes "--top" ∷ codes "plain" ∷ []) ≡ Some (record { command = Check; top = codes "plain"; shows_context = false; version = One; is_wide = false; is_strict = false; avoided = [] })
+pub check_read : asked_of (codes "check" ∷ codes "--top" ∷ codes "plain" ∷ []) ≡ Some (record { command = Check; top = codes "plain"; shows_context = false; version = One; is_wide = false; is_strict = false; form = Text; avoided = [] })
 unfolding asked_of program clap_on_literals
 check_read = refl
 
-pub prove_read : asked_of (codes "prove" ∷ codes "--top" ∷ codes "plain" ∷ []) ≡ Some (record { command = Prove; top = codes "plain"; shows_context = false; version = One; is_wide = false; is_strict = false; avoided = [] })
+pub prove_read : asked_of (codes "prove" ∷ codes "--top" ∷ codes "plain" ∷ []) ≡ Some (record { command = Prove; top = codes "plain"; shows_context = false; version = One; is_wide = false; is_strict = false; form = Text; avoided = [] })
 unfolding asked_of program clap_on_literals
 prove_read = refl
 
-pub pack_context_read : asked_of (codes "pack" ∷ codes "--top" ∷ codes "plain" ∷ codes "--context" ∷ []) ≡ Some (record { command = Run Pack; top = codes "plain"; shows_context = true; version = One; is_wide = false; is_strict = false; avoided = [] })
+pub pack_context_read : asked_of (codes "pack" ∷ codes "--top" ∷ codes "plain" ∷ codes "--context" ∷ []) ≡ Some (record { command = Run Pack; top = codes "plain"; shows_context = true; version = One; is_wide = false; is_strict = false; form = Text; avoided = [] })
 unfolding asked_of program clap_on_literals
 pack_context_read = refl
 
-pub pack_second_read : asked_of (codes "pack" ∷ codes "--top" ∷ codes "plain" ∷ codes "--v2" ∷ []) ≡ Some (record { command = Run Pack; top = codes "plain"; shows_context = false; version = Two; is_wide = false; is_strict = false; avoided = [] })
+pub pack_second_read : asked_of (codes "pack" ∷ codes "--top" ∷ codes "plain" ∷ codes "--v2" ∷ []) ≡ Some (record { command = Run Pack; top = codes "plain"; shows_context = false; version = Two; is_wide = false; is_strict = false; form = Text; avoided = [] })
 unfolding asked_of program clap_on_literals
 pack_second_read = refl
 
-pub prove_second_read : asked_of (codes "prove" ∷ codes "--v2" ∷ codes "--top" ∷ codes "plain" ∷ []) ≡ Some (record { command = Prove; top = codes "plain"; shows_context = false; version = Two; is_wide = false; is_strict = false; avoided = [] })
+pub prove_second_read : asked_of (codes "prove" ∷ codes "--v2" ∷ codes "--top" ∷ codes "plain" ∷ []) ≡ Some (record { command = Prove; top = codes "plain"; shows_context = false; version = Two; is_wide = false; is_strict = false; form = Text; avoided = [] })
 unfolding asked_of program clap_on_literals
 prove_second_read = refl
 
-pub line_second_read : asked_of (codes "line" ∷ codes "--top" ∷ codes "plain" ∷ codes "--receive" ∷ codes "--v2" ∷ []) ≡ Some (record { command = Line Receiving; top = codes "plain"; shows_context = false; version = Two; is_wide = false; is_strict = false; avoided = [] })
+pub line_second_read : asked_of (codes "line" ∷ codes "--top" ∷ codes "plain" ∷ codes "--receive" ∷ codes "--v2" ∷ []) ≡ Some (record { command = Line Receiving; top = codes "plain"; shows_context = false; version = Two; is_wide = false; is_strict = false; form = Text; avoided = [] })
 unfolding asked_of program clap_on_literals
 line_second_read = refl
 
@@ -52,39 +53,39 @@ pub show_context_refused : asked_of (codes "show" ∷ codes "--top" ∷ codes "p
 unfolding asked_of program clap_on_literals
 show_context_refused = refl
 
-pub line_read : asked_of (codes "line" ∷ codes "--top" ∷ codes "plain" ∷ []) ≡ Some (record { command = Line Sending; top = codes "plain"; shows_context = false; version = One; is_wide = false; is_strict = false; avoided = [] })
+pub line_read : asked_of (codes "line" ∷ codes "--top" ∷ codes "plain" ∷ []) ≡ Some (record { command = Line Sending; top = codes "plain"; shows_context = false; version = One; is_wide = false; is_strict = false; form = Text; avoided = [] })
 unfolding asked_of program clap_on_literals
 line_read = refl
 
-pub line_receive_read : asked_of (codes "line" ∷ codes "--top" ∷ codes "plain" ∷ codes "--receive" ∷ []) ≡ Some (record { command = Line Receiving; top = codes "plain"; shows_context = false; version = One; is_wide = false; is_strict = false; avoided = [] })
+pub line_receive_read : asked_of (codes "line" ∷ codes "--top" ∷ codes "plain" ∷ codes "--receive" ∷ []) ≡ Some (record { command = Line Receiving; top = codes "plain"; shows_context = false; version = One; is_wide = false; is_strict = false; form = Text; avoided = [] })
 unfolding asked_of program clap_on_literals
 line_receive_read = refl
 
-pub line_wide_read : asked_of (codes "line" ∷ codes "--top" ∷ codes "plain" ∷ codes "--wide" ∷ []) ≡ Some (record { command = Line Sending; top = codes "plain"; shows_context = false; version = One; is_wide = true; is_strict = false; avoided = [] })
+pub line_wide_read : asked_of (codes "line" ∷ codes "--top" ∷ codes "plain" ∷ codes "--wide" ∷ []) ≡ Some (record { command = Line Sending; top = codes "plain"; shows_context = false; version = One; is_wide = true; is_strict = false; form = Text; avoided = [] })
 unfolding asked_of program clap_on_literals
 line_wide_read = refl
 
-pub line_wide_receive_read : asked_of (codes "line" ∷ codes "--wide" ∷ codes "--receive" ∷ codes "--top" ∷ codes "plain" ∷ []) ≡ Some (record { command = Line Receiving; top = codes "plain"; shows_context = false; version = One; is_wide = true; is_strict = false; avoided = [] })
+pub line_wide_receive_read : asked_of (codes "line" ∷ codes "--wide" ∷ codes "--receive" ∷ codes "--top" ∷ codes "plain" ∷ []) ≡ Some (record { command = Line Receiving; top = codes "plain"; shows_context = false; version = One; is_wide = true; is_strict = false; form = Text; avoided = [] })
 unfolding asked_of program clap_on_literals
 line_wide_receive_read = refl
 
-pub fields_read : asked_of (codes "fields" ∷ codes "--top" ∷ codes "plain" ∷ []) ≡ Some (record { command = Fields Unpack; top = codes "plain"; shows_context = false; version = One; is_wide = false; is_strict = false; avoided = [] })
+pub fields_read : asked_of (codes "fields" ∷ codes "--top" ∷ codes "plain" ∷ []) ≡ Some (record { command = Fields Unpack; top = codes "plain"; shows_context = false; version = One; is_wide = false; is_strict = false; form = Text; avoided = [] })
 unfolding asked_of program clap_on_literals
 fields_read = refl
 
-pub fields_items_read : asked_of (codes "fields" ∷ codes "--top" ∷ codes "plain" ∷ codes "--items" ∷ codes "--context" ∷ []) ≡ Some (record { command = Fields Pack; top = codes "plain"; shows_context = true; version = One; is_wide = false; is_strict = false; avoided = [] })
+pub fields_items_read : asked_of (codes "fields" ∷ codes "--top" ∷ codes "plain" ∷ codes "--items" ∷ codes "--context" ∷ []) ≡ Some (record { command = Fields Pack; top = codes "plain"; shows_context = true; version = One; is_wide = false; is_strict = false; form = Text; avoided = [] })
 unfolding asked_of program clap_on_literals
 fields_items_read = refl
 
-pub why_read : asked_of (codes "why" ∷ codes "--top" ∷ codes "plain" ∷ []) ≡ Some (record { command = Why Unpack; top = codes "plain"; shows_context = false; version = One; is_wide = false; is_strict = false; avoided = [] })
+pub why_read : asked_of (codes "why" ∷ codes "--top" ∷ codes "plain" ∷ []) ≡ Some (record { command = Why Unpack; top = codes "plain"; shows_context = false; version = One; is_wide = false; is_strict = false; form = Text; avoided = [] })
 unfolding asked_of program clap_on_literals
 why_read = refl
 
-pub why_items_read : asked_of (codes "why" ∷ codes "--top" ∷ codes "plain" ∷ codes "--items" ∷ []) ≡ Some (record { command = Why Pack; top = codes "plain"; shows_context = false; version = One; is_wide = false; is_strict = false; avoided = [] })
+pub why_items_read : asked_of (codes "why" ∷ codes "--top" ∷ codes "plain" ∷ codes "--items" ∷ []) ≡ Some (record { command = Why Pack; top = codes "plain"; shows_context = false; version = One; is_wide = false; is_strict = false; form = Text; avoided = [] })
 unfolding asked_of program clap_on_literals
 why_items_read = refl
 
-pub stats_read : asked_of (codes "stats" ∷ codes "--top" ∷ codes "plain" ∷ []) ≡ Some (record { command = Stats plain_counting; top = codes "plain"; shows_context = false; version = One; is_wide = false; is_strict = false; avoided = [] })
+pub stats_read : asked_of (codes "stats" ∷ codes "--top" ∷ codes "plain" ∷ []) ≡ Some (record { command = Stats plain_counting; top = codes "plain"; shows_context = false; version = One; is_wide = false; is_strict = false; form = Text; avoided = [] })
 unfolding asked_of program clap_on_literals
 stats_read = refl
 
@@ -92,15 +93,15 @@ pub stats_context_refused : asked_of (codes "stats" ∷ codes "--top" ∷ codes 
 unfolding asked_of program clap_on_literals
 stats_context_refused = refl
 
-pub loss_read : asked_of (codes "loss" ∷ codes "--top" ∷ codes "plain" ∷ []) ≡ Some (record { command = Loss 8; top = codes "plain"; shows_context = false; version = One; is_wide = false; is_strict = false; avoided = [] })
+pub loss_read : asked_of (codes "loss" ∷ codes "--top" ∷ codes "plain" ∷ []) ≡ Some (record { command = Loss 8; top = codes "plain"; shows_context = false; version = One; is_wide = false; is_strict = false; form = Text; avoided = [] })
 unfolding asked_of program clap_on_literals digits
 loss_read = refl
 
-pub loss_none_read : asked_of (codes "loss" ∷ codes "--top" ∷ codes "plain" ∷ codes "--lost" ∷ codes "0" ∷ []) ≡ Some (record { command = Loss 0; top = codes "plain"; shows_context = false; version = One; is_wide = false; is_strict = false; avoided = [] })
+pub loss_none_read : asked_of (codes "loss" ∷ codes "--top" ∷ codes "plain" ∷ codes "--lost" ∷ codes "0" ∷ []) ≡ Some (record { command = Loss 0; top = codes "plain"; shows_context = false; version = One; is_wide = false; is_strict = false; form = Text; avoided = [] })
 unfolding asked_of program clap_on_literals digits
 loss_none_read = refl
 
-pub loss_most_read : asked_of (codes "loss" ∷ codes "--lost=63" ∷ codes "--top" ∷ codes "plain" ∷ codes "--v2" ∷ []) ≡ Some (record { command = Loss 63; top = codes "plain"; shows_context = false; version = Two; is_wide = false; is_strict = false; avoided = [] })
+pub loss_most_read : asked_of (codes "loss" ∷ codes "--lost=63" ∷ codes "--top" ∷ codes "plain" ∷ codes "--v2" ∷ []) ≡ Some (record { command = Loss 63; top = codes "plain"; shows_context = false; version = Two; is_wide = false; is_strict = false; form = Text; avoided = [] })
 unfolding asked_of program clap_on_literals digits
 loss_most_read = refl
 
@@ -140,11 +141,11 @@ pub stats_lost_refused : asked_of (codes "stats" ∷ codes "--top" ∷ codes "pl
 unfolding asked_of program clap_on_literals digits
 stats_lost_refused = refl
 
-pub pack_robust_read : asked_of (codes "pack" ∷ codes "--top" ∷ codes "plain" ∷ codes "--robust" ∷ codes "0" ∷ []) ≡ Some (record { command = RobustPack 0; top = codes "plain"; shows_context = false; version = One; is_wide = false; is_strict = false; avoided = [] })
+pub pack_robust_read : asked_of (codes "pack" ∷ codes "--top" ∷ codes "plain" ∷ codes "--robust" ∷ codes "0" ∷ []) ≡ Some (record { command = RobustPack 0; top = codes "plain"; shows_context = false; version = One; is_wide = false; is_strict = false; form = Text; avoided = [] })
 unfolding asked_of program clap_on_literals digits
 pack_robust_read = refl
 
-pub pack_robust_context_read : asked_of (codes "pack" ∷ codes "--robust=63" ∷ codes "--top" ∷ codes "plain" ∷ codes "--context" ∷ codes "--v2" ∷ []) ≡ Some (record { command = RobustPack 63; top = codes "plain"; shows_context = true; version = Two; is_wide = false; is_strict = false; avoided = [] })
+pub pack_robust_context_read : asked_of (codes "pack" ∷ codes "--robust=63" ∷ codes "--top" ∷ codes "plain" ∷ codes "--context" ∷ codes "--v2" ∷ []) ≡ Some (record { command = RobustPack 63; top = codes "plain"; shows_context = true; version = Two; is_wide = false; is_strict = false; form = Text; avoided = [] })
 unfolding asked_of program clap_on_literals digits
 pack_robust_context_read = refl
 
@@ -160,7 +161,7 @@ pub pack_robust_twice_read : asked_of (codes "pack" ∷ codes "--top" ∷ codes 
 unfolding asked_of program clap_on_literals digits
 pack_robust_twice_read = refl
 
-pub stats_robust_read : asked_of (codes "stats" ∷ codes "--top" ∷ codes "plain" ∷ codes "--robust" ∷ codes "3" ∷ []) ≡ Some (record { command = RobustStats 3 plain_counting; top = codes "plain"; shows_context = false; version = One; is_wide = false; is_strict = false; avoided = [] })
+pub stats_robust_read : asked_of (codes "stats" ∷ codes "--top" ∷ codes "plain" ∷ codes "--robust" ∷ codes "3" ∷ []) ≡ Some (record { command = RobustStats 3 plain_counting; top = codes "plain"; shows_context = false; version = One; is_wide = false; is_strict = false; form = Text; avoided = [] })
 unfolding asked_of program clap_on_literals digits
 stats_robust_read = refl
 
@@ -168,11 +169,11 @@ pub stats_robust_plus_read : asked_of (codes "stats" ∷ codes "--top" ∷ codes
 unfolding asked_of program clap_on_literals digits
 stats_robust_plus_read = refl
 
-pub loss_robust_read : asked_of (codes "loss" ∷ codes "--top" ∷ codes "plain" ∷ codes "--robust" ∷ codes "3" ∷ []) ≡ Some (record { command = RobustLoss 8 3; top = codes "plain"; shows_context = false; version = One; is_wide = false; is_strict = false; avoided = [] })
+pub loss_robust_read : asked_of (codes "loss" ∷ codes "--top" ∷ codes "plain" ∷ codes "--robust" ∷ codes "3" ∷ []) ≡ Some (record { command = RobustLoss 8 3; top = codes "plain"; shows_context = false; version = One; is_wide = false; is_strict = false; form = Text; avoided = [] })
 unfolding asked_of program clap_on_literals digits
 loss_robust_read = refl
 
-pub loss_both_read : asked_of (codes "loss" ∷ codes "--top" ∷ codes "plain" ∷ codes "--robust" ∷ codes "15" ∷ codes "--lost" ∷ codes "2" ∷ []) ≡ Some (record { command = RobustLoss 2 15; top = codes "plain"; shows_context = false; version = One; is_wide = false; is_strict = false; avoided = [] })
+pub loss_both_read : asked_of (codes "loss" ∷ codes "--top" ∷ codes "plain" ∷ codes "--robust" ∷ codes "15" ∷ codes "--lost" ∷ codes "2" ∷ []) ≡ Some (record { command = RobustLoss 2 15; top = codes "plain"; shows_context = false; version = One; is_wide = false; is_strict = false; form = Text; avoided = [] })
 unfolding asked_of program clap_on_literals digits
 loss_both_read = refl
 
@@ -188,7 +189,7 @@ pub fields_robust_read : asked_of (codes "fields" ∷ codes "--top" ∷ codes "p
 unfolding asked_of program clap_on_literals digits
 fields_robust_read = refl
 
-pub why_robust_read : asked_of (codes "why" ∷ codes "--top" ∷ codes "plain" ∷ codes "--items" ∷ codes "--robust" ∷ codes "2" ∷ []) ≡ Some (record { command = RobustWhy 2; top = codes "plain"; shows_context = false; version = One; is_wide = false; is_strict = false; avoided = [] })
+pub why_robust_read : asked_of (codes "why" ∷ codes "--top" ∷ codes "plain" ∷ codes "--items" ∷ codes "--robust" ∷ codes "2" ∷ []) ≡ Some (record { command = RobustWhy 2; top = codes "plain"; shows_context = false; version = One; is_wide = false; is_strict = false; form = Text; avoided = [] })
 unfolding asked_of program clap_on_literals digits
 why_robust_read = refl
 
@@ -196,15 +197,15 @@ pub why_robust_packets_refused : asked_of (codes "why" ∷ codes "--top" ∷ cod
 unfolding asked_of program clap_on_literals digits
 why_robust_packets_refused = refl
 
-pub stats_by_item_read : asked_of (codes "stats" ∷ codes "--top" ∷ codes "plain" ∷ codes "--by-item" ∷ []) ≡ Some (record { command = Stats (record { lists_items = true; needs_all = false; most = None }); top = codes "plain"; shows_context = false; version = One; is_wide = false; is_strict = false; avoided = [] })
+pub stats_by_item_read : asked_of (codes "stats" ∷ codes "--top" ∷ codes "plain" ∷ codes "--by-item" ∷ []) ≡ Some (record { command = Stats (record { lists_items = true; needs_all = false; most = None; form = Text }); top = codes "plain"; shows_context = false; version = One; is_wide = false; is_strict = false; form = Text; avoided = [] })
 unfolding asked_of program clap_on_literals
 stats_by_item_read = refl
 
-pub stats_checks_read : asked_of (codes "stats" ∷ codes "--top" ∷ codes "plain" ∷ codes "--all" ∷ codes "--at-most" ∷ codes "40" ∷ []) ≡ Some (record { command = Stats (record { lists_items = false; needs_all = true; most = Some 40 }); top = codes "plain"; shows_context = false; version = One; is_wide = false; is_strict = false; avoided = [] })
+pub stats_checks_read : asked_of (codes "stats" ∷ codes "--top" ∷ codes "plain" ∷ codes "--all" ∷ codes "--at-most" ∷ codes "40" ∷ []) ≡ Some (record { command = Stats (record { lists_items = false; needs_all = true; most = Some 40; form = Text }); top = codes "plain"; shows_context = false; version = One; is_wide = false; is_strict = false; form = Text; avoided = [] })
 unfolding asked_of program clap_on_literals digits
 stats_checks_read = refl
 
-pub stats_checks_robust_read : asked_of (codes "stats" ∷ codes "--top" ∷ codes "plain" ∷ codes "--robust" ∷ codes "2" ∷ codes "--at-most=65536" ∷ codes "--by-item" ∷ []) ≡ Some (record { command = RobustStats 2 (record { lists_items = true; needs_all = false; most = Some 65536 }); top = codes "plain"; shows_context = false; version = One; is_wide = false; is_strict = false; avoided = [] })
+pub stats_checks_robust_read : asked_of (codes "stats" ∷ codes "--top" ∷ codes "plain" ∷ codes "--robust" ∷ codes "2" ∷ codes "--at-most=65536" ∷ codes "--by-item" ∷ []) ≡ Some (record { command = RobustStats 2 (record { lists_items = true; needs_all = false; most = Some 65536; form = Text }); top = codes "plain"; shows_context = false; version = One; is_wide = false; is_strict = false; form = Text; avoided = [] })
 unfolding asked_of program clap_on_literals digits
 stats_checks_robust_read = refl
 
@@ -220,11 +221,11 @@ pub loss_checks_refused : asked_of (codes "loss" ∷ codes "--top" ∷ codes "pl
 unfolding asked_of program clap_on_literals
 loss_checks_refused = refl
 
-pub why_not_read : asked_of (codes "why" ∷ codes "--top" ∷ codes "plain" ∷ codes "--items" ∷ codes "--not" ∷ codes "short" ∷ []) ≡ Some (record { command = WhyNot; top = codes "plain"; shows_context = false; version = One; is_wide = false; is_strict = false; avoided = codes "short" })
+pub why_not_read : asked_of (codes "why" ∷ codes "--top" ∷ codes "plain" ∷ codes "--items" ∷ codes "--not" ∷ codes "short" ∷ []) ≡ Some (record { command = WhyNot; top = codes "plain"; shows_context = false; version = One; is_wide = false; is_strict = false; form = Text; avoided = codes "short" })
 unfolding asked_of program clap_on_literals
 why_not_read = refl
 
-pub why_not_second_read : asked_of (codes "why" ∷ codes "--not=a.b" ∷ codes "--v2" ∷ codes "--items" ∷ codes "--top" ∷ codes "plain" ∷ []) ≡ Some (record { command = WhyNot; top = codes "plain"; shows_context = false; version = Two; is_wide = false; is_strict = false; avoided = codes "a.b" })
+pub why_not_second_read : asked_of (codes "why" ∷ codes "--not=a.b" ∷ codes "--v2" ∷ codes "--items" ∷ codes "--top" ∷ codes "plain" ∷ []) ≡ Some (record { command = WhyNot; top = codes "plain"; shows_context = false; version = Two; is_wide = false; is_strict = false; form = Text; avoided = codes "a.b" })
 unfolding asked_of program clap_on_literals
 why_not_second_read = refl
 
@@ -240,11 +241,11 @@ pub fields_not_refused : asked_of (codes "fields" ∷ codes "--top" ∷ codes "p
 unfolding asked_of program clap_on_literals
 fields_not_refused = refl
 
-pub advise_read : asked_of (codes "advise" ∷ codes "--top" ∷ codes "plain" ∷ []) ≡ Some (record { command = Advise 8; top = codes "plain"; shows_context = false; version = One; is_wide = false; is_strict = false; avoided = [] })
+pub advise_read : asked_of (codes "advise" ∷ codes "--top" ∷ codes "plain" ∷ []) ≡ Some (record { command = Advise 8; top = codes "plain"; shows_context = false; version = One; is_wide = false; is_strict = false; form = Text; avoided = [] })
 unfolding asked_of program clap_on_literals digits
 advise_read = refl
 
-pub advise_lost_read : asked_of (codes "advise" ∷ codes "--top" ∷ codes "plain" ∷ codes "--lost" ∷ codes "3" ∷ []) ≡ Some (record { command = Advise 3; top = codes "plain"; shows_context = false; version = One; is_wide = false; is_strict = false; avoided = [] })
+pub advise_lost_read : asked_of (codes "advise" ∷ codes "--top" ∷ codes "plain" ∷ codes "--lost" ∷ codes "3" ∷ []) ≡ Some (record { command = Advise 3; top = codes "plain"; shows_context = false; version = One; is_wide = false; is_strict = false; form = Text; avoided = [] })
 unfolding asked_of program clap_on_literals digits
 advise_lost_read = refl
 
@@ -252,7 +253,7 @@ pub advise_robust_refused : asked_of (codes "advise" ∷ codes "--top" ∷ codes
 unfolding asked_of program clap_on_literals digits
 advise_robust_refused = refl
 
-pub lint_strict_read : asked_of (codes "lint" ∷ codes "--top" ∷ codes "plain" ∷ codes "--strict" ∷ []) ≡ Some (record { command = Lint; top = codes "plain"; shows_context = false; version = One; is_wide = false; is_strict = true; avoided = [] })
+pub lint_strict_read : asked_of (codes "lint" ∷ codes "--top" ∷ codes "plain" ∷ codes "--strict" ∷ []) ≡ Some (record { command = Lint; top = codes "plain"; shows_context = false; version = One; is_wide = false; is_strict = true; form = Text; avoided = [] })
 unfolding asked_of program clap_on_literals
 lint_strict_read = refl
 
@@ -260,7 +261,7 @@ pub draw_strict_refused : asked_of (codes "draw" ∷ codes "--top" ∷ codes "pl
 unfolding asked_of program clap_on_literals
 draw_strict_refused = refl
 
-pub lint_read : asked_of (codes "lint" ∷ codes "--top" ∷ codes "plain" ∷ []) ≡ Some (record { command = Lint; top = codes "plain"; shows_context = false; version = One; is_wide = false; is_strict = false; avoided = [] })
+pub lint_read : asked_of (codes "lint" ∷ codes "--top" ∷ codes "plain" ∷ []) ≡ Some (record { command = Lint; top = codes "plain"; shows_context = false; version = One; is_wide = false; is_strict = false; form = Text; avoided = [] })
 unfolding asked_of program clap_on_literals
 lint_read = refl
 
@@ -268,17 +269,29 @@ pub lint_second_refused : asked_of (codes "lint" ∷ codes "--top" ∷ codes "pl
 unfolding asked_of program clap_on_literals
 lint_second_refused = refl
 
-pub draw_read : asked_of (codes "draw" ∷ codes "--top" ∷ codes "plain" ∷ []) ≡ Some (record { command = Draw; top = codes "plain"; shows_context = false; version = One; is_wide = false; is_strict = false; avoided = [] })
+pub draw_read : asked_of (codes "draw" ∷ codes "--top" ∷ codes "plain" ∷ []) ≡ Some (record { command = Draw; top = codes "plain"; shows_context = false; version = One; is_wide = false; is_strict = false; form = Text; avoided = [] })
 unfolding asked_of program clap_on_literals
 draw_read = refl
 
-pub check_explain_read : asked_of (codes "check" ∷ codes "--top" ∷ codes "plain" ∷ codes "--explain" ∷ []) ≡ Some (record { command = ExplainCheck; top = codes "plain"; shows_context = false; version = One; is_wide = false; is_strict = false; avoided = [] })
+pub check_explain_read : asked_of (codes "check" ∷ codes "--top" ∷ codes "plain" ∷ codes "--explain" ∷ []) ≡ Some (record { command = ExplainCheck; top = codes "plain"; shows_context = false; version = One; is_wide = false; is_strict = false; form = Text; avoided = [] })
 unfolding asked_of program clap_on_literals
 check_explain_read = refl
 
-pub prove_explain_read : asked_of (codes "prove" ∷ codes "--explain" ∷ codes "--top" ∷ codes "plain" ∷ []) ≡ Some (record { command = ExplainProve; top = codes "plain"; shows_context = false; version = One; is_wide = false; is_strict = false; avoided = [] })
+pub prove_explain_read : asked_of (codes "prove" ∷ codes "--explain" ∷ codes "--top" ∷ codes "plain" ∷ []) ≡ Some (record { command = ExplainProve; top = codes "plain"; shows_context = false; version = One; is_wide = false; is_strict = false; form = Text; avoided = [] })
 unfolding asked_of program clap_on_literals
 prove_explain_read = refl
+
+pub lint_json_read : asked_of (codes "lint" ∷ codes "--top" ∷ codes "plain" ∷ codes "--json" ∷ []) ≡ Some (record { command = Lint; top = codes "plain"; shows_context = false; version = One; is_wide = false; is_strict = false; form = Json; avoided = [] })
+unfolding asked_of program clap_on_literals
+lint_json_read = refl
+
+pub stats_json_read : asked_of (codes "stats" ∷ codes "--json" ∷ codes "--top" ∷ codes "plain" ∷ []) ≡ Some (record { command = Stats (record { lists_items = false; needs_all = false; most = None; form = Json }); top = codes "plain"; shows_context = false; version = One; is_wide = false; is_strict = false; form = Json; avoided = [] })
+unfolding asked_of program clap_on_literals
+stats_json_read = refl
+
+pub pack_json_refused : asked_of (codes "pack" ∷ codes "--top" ∷ codes "plain" ∷ codes "--json" ∷ []) ≡ None
+unfolding asked_of program clap_on_literals
+pack_json_refused = refl
 
 pub pack_explain_refused : asked_of (codes "pack" ∷ codes "--top" ∷ codes "plain" ∷ codes "--explain" ∷ []) ≡ None
 unfolding asked_of program clap_on_literals
@@ -325,4 +338,4 @@ unfolding AskHelp program clap_on_literals
 help_command_met = inl refl
 
 pub words_are_read : ReadsWords
-words_are_read = record { pack = pack_read; unpack = unpack_read; show = show_read; check = check_read; prove = prove_read; pack_context = pack_context_read; pack_second = pack_second_read; prove_second = prove_second_read; line_second = line_second_read; show_second = show_second_refused; show_context = show_context_refused; line = line_read; line_receive = line_receive_read; line_wide = line_wide_read; line_wide_receive = line_wide_receive_read; fields = fields_read; fields_items = fields_items_read; why = why_read; why_items = why_items_read; stats = stats_read; stats_context = stats_context_refused; loss = loss_read; loss_none = loss_none_read; loss_most = loss_most_read; loss_above = loss_above_refused; loss_plus = loss_plus_refused; loss_minus = loss_minus_refused; loss_zero_first = loss_zero_first_refused; loss_empty = loss_empty_refused; loss_letter = loss_letter_refused; loss_twice = loss_twice_refused; loss_context = loss_context_refused; stats_lost = stats_lost_refused; pack_robust = pack_robust_read; pack_robust_context = pack_robust_context_read; pack_robust_above = pack_robust_above_read; pack_robust_zero_first = pack_robust_zero_first_read; pack_robust_twice = pack_robust_twice_read; stats_robust = stats_robust_read; stats_robust_plus = stats_robust_plus_read; loss_robust = loss_robust_read; loss_both = loss_both_read; loss_robust_empty = loss_robust_empty_read; why_robust = why_robust_read; why_robust_packets = why_robust_packets_refused; unpack_robust = unpack_robust_read; fields_robust = fields_robust_read; stats_by_item = stats_by_item_read; stats_checks = stats_checks_read; stats_checks_robust = stats_checks_robust_read; stats_most_above = stats_most_above_refused; stats_most_letter = stats_most_letter_refused; loss_checks = loss_checks_refused; why_not = why_not_read; why_not_second = why_not_second_read; why_not_packets = why_not_packets_refused; why_not_robust = why_not_robust_refused; fields_not = fields_not_refused; advise = advise_read; advise_lost = advise_lost_read; advise_robust = advise_robust_refused; lint_strict = lint_strict_read; draw_strict = draw_strict_refused; lint = lint_read; lint_second = lint_second_refused; draw = draw_read; check_explain = check_explain_read; prove_explain = prove_explain_read; pack_explain = pack_explain_refused; pack_items = pack_items_refused; pack_wide = pack_wide_refused; pack_receive = pack_receive_refused; line_context = line_context_refused; no_top = top_missing; no_command = command_missing; other_flag = flag_unknown; help = help_wanted; command_help = command_help_wanted; help_command = help_command_met }
+words_are_read = record { pack = pack_read; unpack = unpack_read; show = show_read; check = check_read; prove = prove_read; pack_context = pack_context_read; pack_second = pack_second_read; prove_second = prove_second_read; line_second = line_second_read; show_second = show_second_refused; show_context = show_context_refused; line = line_read; line_receive = line_receive_read; line_wide = line_wide_read; line_wide_receive = line_wide_receive_read; fields = fields_read; fields_items = fields_items_read; why = why_read; why_items = why_items_read; stats = stats_read; stats_context = stats_context_refused; loss = loss_read; loss_none = loss_none_read; loss_most = loss_most_read; loss_above = loss_above_refused; loss_plus = loss_plus_refused; loss_minus = loss_minus_refused; loss_zero_first = loss_zero_first_refused; loss_empty = loss_empty_refused; loss_letter = loss_letter_refused; loss_twice = loss_twice_refused; loss_context = loss_context_refused; stats_lost = stats_lost_refused; pack_robust = pack_robust_read; pack_robust_context = pack_robust_context_read; pack_robust_above = pack_robust_above_read; pack_robust_zero_first = pack_robust_zero_first_read; pack_robust_twice = pack_robust_twice_read; stats_robust = stats_robust_read; stats_robust_plus = stats_robust_plus_read; loss_robust = loss_robust_read; loss_both = loss_both_read; loss_robust_empty = loss_robust_empty_read; why_robust = why_robust_read; why_robust_packets = why_robust_packets_refused; unpack_robust = unpack_robust_read; fields_robust = fields_robust_read; stats_by_item = stats_by_item_read; stats_checks = stats_checks_read; stats_checks_robust = stats_checks_robust_read; stats_most_above = stats_most_above_refused; stats_most_letter = stats_most_letter_refused; loss_checks = loss_checks_refused; why_not = why_not_read; why_not_second = why_not_second_read; why_not_packets = why_not_packets_refused; why_not_robust = why_not_robust_refused; fields_not = fields_not_refused; advise = advise_read; advise_lost = advise_lost_read; advise_robust = advise_robust_refused; lint_strict = lint_strict_read; draw_strict = draw_strict_refused; lint = lint_read; lint_second = lint_second_refused; draw = draw_read; check_explain = check_explain_read; prove_explain = prove_explain_read; lint_json = lint_json_read; stats_json = stats_json_read; pack_json = pack_json_refused; pack_explain = pack_explain_refused; pack_items = pack_items_refused; pack_wide = pack_wide_refused; pack_receive = pack_receive_refused; line_context = line_context_refused; no_top = top_missing; no_command = command_missing; other_flag = flag_unknown; help = help_wanted; command_help = command_help_wanted; help_command = help_command_met }

@@ -16,6 +16,8 @@ use Rattle.rohcfn_words.specs.declared.words.Direction.{Direction}
 use Rattle.rohcfn_words.specs.declared.words.Direction.TheVariants.{Pack, Unpack}
 use Rattle.rohcfn_words.specs.declared.words.End.{End}
 use Rattle.rohcfn_words.specs.declared.words.End.TheVariants.{Sending, Receiving}
+use Rattle.rohcfn_words.specs.declared.words.Form.{Form}
+use Rattle.rohcfn_words.specs.declared.words.Form.TheVariants.{Text, Json}
 use Rattle.rohcfn_words.specs.declared.words.Order.{Order}
 use Rattle.rohcfn_words.specs.declared.words.WordsError.{WordsError}
 use Rattle.rohcfn_words.specs.declared.words.WordsError.TheVariants as error
@@ -35,7 +37,7 @@ context_flag = record (new_rule (codes "context")) {
   action = Some SetTrue;
 }
 
--- `--items`, `--v2`, `--explain`, `--receive` and `--wide`, likewise
+-- `--items`, `--v2`, `--explain`, `--receive`, `--wide` and `--json`, likewise
 abbrev pub items_flag : Rule
 items_flag = record (new_rule (codes "items")) {
   long = Some (codes "items");
@@ -63,6 +65,12 @@ receive_flag = record (new_rule (codes "receive")) {
 abbrev pub wide_flag : Rule
 wide_flag = record (new_rule (codes "wide")) {
   long = Some (codes "wide");
+  action = Some SetTrue;
+}
+
+abbrev pub json_flag : Rule
+json_flag = record (new_rule (codes "json")) {
+  long = Some (codes "json");
   action = Some SetTrue;
 }
 
@@ -121,14 +129,21 @@ with_top name = with_rule (new_app name) top_flag
 abbrev pub with_version : List ℕ → App
 with_version name = with_rule (with_top name) version_flag
 
+-- those whose answers may be objects, with `--json`
+abbrev pub with_json : List ℕ → App
+with_json name = with_rule (with_version name) json_flag
+
+abbrev pub with_drawing : List ℕ → App
+with_drawing name = with_rule (with_top name) json_flag
+
 abbrev pub with_lost : List ℕ → App
-with_lost name = with_rule (with_version name) lost_option
+with_lost name = with_rule (with_json name) lost_option
 
 abbrev pub with_robust : List ℕ → App
-with_robust name = with_rule (with_version name) robust_option
+with_robust name = with_rule (with_json name) robust_option
 
 abbrev pub with_strict : List ℕ → App
-with_strict name = with_rule (with_top name) strict_flag
+with_strict name = with_rule (with_drawing name) strict_flag
 
 abbrev pub with_list : List ℕ → App
 with_list name = with_rule (with_robust name) list_flag
@@ -143,7 +158,7 @@ abbrev pub with_losses : List ℕ → App
 with_losses name = with_rule (with_lost name) robust_option
 
 abbrev pub with_explain : List ℕ → App
-with_explain name = with_rule (with_version name) explain_flag
+with_explain name = with_rule (with_json name) explain_flag
 
 abbrev pub with_flags : List ℕ → App
 with_flags name = with_rule (with_version name) context_flag
@@ -151,8 +166,11 @@ with_flags name = with_rule (with_version name) context_flag
 abbrev pub with_sending : List ℕ → App
 with_sending name = with_rule (with_flags name) robust_option
 
+abbrev pub with_listed : List ℕ → App
+with_listed name = with_rule (with_flags name) json_flag
+
 abbrev pub with_items : List ℕ → App
-with_items name = with_rule (with_flags name) items_flag
+with_items name = with_rule (with_listed name) items_flag
 
 abbrev pub with_avoided : List ℕ → App
 with_avoided name = with_rule (with_items name) avoided_option
@@ -174,10 +192,10 @@ bare_program = on_top (λ top. record top { no_binary_name = true; subcommand_re
 -- with its commands
 unfoldable pub program : App
 program = with_subcommand (with_subcommand (with_subcommand (with_subcommand (with_subcommand (with_subcommand (with_subcommand (with_subcommand (with_subcommand (with_subcommand (with_subcommand (with_subcommand (with_subcommand bare_program (with_sending (codes "pack")).top)
-    (with_flags (codes "unpack")).top) (with_items (codes "fields")).top) (with_reasons (codes "why")).top) (with_checks (codes "stats")).top) (with_losses (codes "loss")).top) (with_lost (codes "advise")).top) (with_top (codes "show")).top) (with_strict (codes "lint")).top) (with_top (codes "draw")).top) (with_explain (codes "check")).top) (with_explain (codes "prove")).top) (with_wide (codes "line")).top
+    (with_flags (codes "unpack")).top) (with_items (codes "fields")).top) (with_reasons (codes "why")).top) (with_checks (codes "stats")).top) (with_losses (codes "loss")).top) (with_lost (codes "advise")).top) (with_top (codes "show")).top) (with_strict (codes "lint")).top) (with_drawing (codes "draw")).top) (with_explain (codes "check")).top) (with_explain (codes "prove")).top) (with_wide (codes "line")).top
 
 -- a command, the name of a method, whether the last context is printed, the version of a certificate that is made, whether the line is the wide one and whether a
--- warning ends with status 1, and the format of `--not`, which is empty where none is given
+-- warning ends with status 1, the form of the answer, and the format of `--not`, which is empty where none is given
 pub record Asked : Type 0 where
   pub command : Command
   pub top : List ℕ
@@ -185,10 +203,11 @@ pub record Asked : Type 0 where
   pub version : Version
   pub is_wide : Bool
   pub is_strict : Bool
+  pub form : Form
   pub avoided : List ℕ
 
 abbrev pub asked : Order → Asked
-asked order = record { command = order.command; top = order.top.now; shows_context = order.shows_context; version = order.version; is_wide = order.is_wide; is_strict = order.is_strict; avoided = order.avoided.now }
+asked order = record { command = order.command; top = order.top.now; shows_context = order.shows_context; version = order.version; is_wide = order.is_wide; is_strict = order.is_strict; form = order.form; avoided = order.avoided.now }
 
 -- the flag was given
 abbrev pub is_set : Option (List ℕ) → Bool
@@ -249,13 +268,17 @@ robust_by (Some text) command = option_and_then (robust_command command) (lost_s
 abbrev pub bits_spelled : List ℕ → Option ℕ
 bits_spelled text = if bytes_eq (decimal (digits_value 10 text)) text && nat_lt (digits_value 10 text) 65537 then Some (digits_value 10 text) else None
 
+-- the form of the answer: objects of JSON where they are asked for, else text
+abbrev pub form_asked : Bool → Form
+form_asked objects = if objects then Json else Text
+
 -- what `stats` lists and wants: the mean may be anything, where `--at-most` is not given
-abbrev pub counting_of : Bool → Bool → Option (List ℕ) → Option Counting
-counting_of list all None = Some (record { lists_items = list; needs_all = all; most = None })
-counting_of list all (Some text) = option_map (λ bits. record { lists_items = list; needs_all = all; most = Some bits }) (bits_spelled text)
+abbrev pub counting_of : Form → Bool → Bool → Option (List ℕ) → Option Counting
+counting_of form list all None = Some (record { lists_items = list; needs_all = all; most = None; form = form })
+counting_of form list all (Some text) = option_map (λ bits. record { lists_items = list; needs_all = all; most = Some bits; form = form }) (bits_spelled text)
 
 abbrev pub counting_in : List Row → Option Counting
-counting_in rows = counting_of (is_set (first_of (codes "by-item") rows)) (is_set (first_of (codes "all") rows)) (first_of (codes "at-most") rows)
+counting_in rows = counting_of (form_asked (is_set (first_of (codes "json") rows))) (is_set (first_of (codes "by-item") rows)) (is_set (first_of (codes "all") rows)) (first_of (codes "at-most") rows)
 
 -- `why`, by whether items are asked for, and the format of `--not`, which goes with items
 abbrev pub why_named : Bool → Option (List ℕ) → Option Command
@@ -296,6 +319,7 @@ asked_by (Some command) (Some top) rows = Some (record {
   version = version_asked (is_set (first_of (codes "v2") rows));
   is_wide = is_set (first_of (codes "wide") rows);
   is_strict = is_set (first_of (codes "strict") rows);
+  form = form_asked (is_set (first_of (codes "json") rows));
   avoided = text_or_empty (first_of (codes "not") rows);
 })
 
@@ -333,7 +357,7 @@ pub record ReadsRobust : Type 0 where
 pub record ReadsMost : Type 0 where
   pub spelled : (text : List ℕ) (n : ℕ) → (bits_spelled text ≡ Some n) ↔ ((text ≡ decimal n) × (n < 65537))
   pub asks : (rows : List Row) (n : ℕ) (top : List ℕ) → n < 65537 → first_of (codes "at-most") rows ≡ Some (decimal n) → first_of (codes "robust") rows ≡ None → first_of (codes "top") rows ≡ Some top
-      → command_asked (codes "stats") rows ≡ Some (Stats (record { lists_items = is_set (first_of (codes "by-item") rows); needs_all = is_set (first_of (codes "all") rows); most = Some n }))
+      → command_asked (codes "stats") rows ≡ Some (Stats (record { lists_items = is_set (first_of (codes "by-item") rows); needs_all = is_set (first_of (codes "all") rows); most = Some n; form = form_asked (is_set (first_of (codes "json") rows)) }))
   pub refuses : (rows : List Row) (text : List ℕ) → first_of (codes "at-most") rows ≡ Some text → ((n : ℕ) → n < 65537 → text ≢ decimal n)
       → asked_in (Some (codes "stats", rows)) ≡ None
 
@@ -368,34 +392,34 @@ RefusesError kind error.OutOfMemory = Unit {0}
 
 -- `stats` that lists no items and wants nothing
 abbrev pub plain_counting : Counting
-plain_counting = record { lists_items = false; needs_all = false; most = None }
+plain_counting = record { lists_items = false; needs_all = false; most = None; form = Text }
 
 -- what some words ask for, written out
 pub record ReadsWords : Type 0 where
-  pub pack : asked_of (codes "pack" ∷ codes "--top" ∷ codes "plain" ∷ []) ≡ Some (record { command = Run Pack; top = codes "plain"; shows_context = false; version = One; is_wide = false; is_strict = false; avoided = [] })
-  pub unpack : asked_of (codes "unpack" ∷ codes "--top=plain" ∷ []) ≡ Some (record { command = Run Unpack; top = codes "plain"; shows_context = false; version = One; is_wide = false; is_strict = false; avoided = [] })
-  pub show : asked_of (codes "show" ∷ codes "--top" ∷ codes "plain" ∷ []) ≡ Some (record { command = Show; top = codes "plain"; shows_context = false; version = One; is_wide = false; is_strict = false; avoided = [] })
-  pub check : asked_of (codes "check" ∷ codes "--top" ∷ codes "plain" ∷ []) ≡ Some (record { command = Check; top = codes "plain"; shows_context = false; version = One; is_wide = false; is_strict = false; avoided = [] })
-  pub prove : asked_of (codes "prove" ∷ codes "--top" ∷ codes "plain" ∷ []) ≡ Some (record { command = Prove; top = codes "plain"; shows_context = false; version = One; is_wide = false; is_strict = false; avoided = [] })
-  pub pack_context : asked_of (codes "pack" ∷ codes "--top" ∷ codes "plain" ∷ codes "--context" ∷ []) ≡ Some (record { command = Run Pack; top = codes "plain"; shows_context = true; version = One; is_wide = false; is_strict = false; avoided = [] })
-  pub pack_second : asked_of (codes "pack" ∷ codes "--top" ∷ codes "plain" ∷ codes "--v2" ∷ []) ≡ Some (record { command = Run Pack; top = codes "plain"; shows_context = false; version = Two; is_wide = false; is_strict = false; avoided = [] })
-  pub prove_second : asked_of (codes "prove" ∷ codes "--v2" ∷ codes "--top" ∷ codes "plain" ∷ []) ≡ Some (record { command = Prove; top = codes "plain"; shows_context = false; version = Two; is_wide = false; is_strict = false; avoided = [] })
-  pub line_second : asked_of (codes "line" ∷ codes "--top" ∷ codes "plain" ∷ codes "--receive" ∷ codes "--v2" ∷ []) ≡ Some (record { command = Line Receiving; top = codes "plain"; shows_context = false; version = Two; is_wide = false; is_strict = false; avoided = [] })
+  pub pack : asked_of (codes "pack" ∷ codes "--top" ∷ codes "plain" ∷ []) ≡ Some (record { command = Run Pack; top = codes "plain"; shows_context = false; version = One; is_wide = false; is_strict = false; form = Text; avoided = [] })
+  pub unpack : asked_of (codes "unpack" ∷ codes "--top=plain" ∷ []) ≡ Some (record { command = Run Unpack; top = codes "plain"; shows_context = false; version = One; is_wide = false; is_strict = false; form = Text; avoided = [] })
+  pub show : asked_of (codes "show" ∷ codes "--top" ∷ codes "plain" ∷ []) ≡ Some (record { command = Show; top = codes "plain"; shows_context = false; version = One; is_wide = false; is_strict = false; form = Text; avoided = [] })
+  pub check : asked_of (codes "check" ∷ codes "--top" ∷ codes "plain" ∷ []) ≡ Some (record { command = Check; top = codes "plain"; shows_context = false; version = One; is_wide = false; is_strict = false; form = Text; avoided = [] })
+  pub prove : asked_of (codes "prove" ∷ codes "--top" ∷ codes "plain" ∷ []) ≡ Some (record { command = Prove; top = codes "plain"; shows_context = false; version = One; is_wide = false; is_strict = false; form = Text; avoided = [] })
+  pub pack_context : asked_of (codes "pack" ∷ codes "--top" ∷ codes "plain" ∷ codes "--context" ∷ []) ≡ Some (record { command = Run Pack; top = codes "plain"; shows_context = true; version = One; is_wide = false; is_strict = false; form = Text; avoided = [] })
+  pub pack_second : asked_of (codes "pack" ∷ codes "--top" ∷ codes "plain" ∷ codes "--v2" ∷ []) ≡ Some (record { command = Run Pack; top = codes "plain"; shows_context = false; version = Two; is_wide = false; is_strict = false; form = Text; avoided = [] })
+  pub prove_second : asked_of (codes "prove" ∷ codes "--v2" ∷ codes "--top" ∷ codes "plain" ∷ []) ≡ Some (record { command = Prove; top = codes "plain"; shows_context = false; version = Two; is_wide = false; is_strict = false; form = Text; avoided = [] })
+  pub line_second : asked_of (codes "line" ∷ codes "--top" ∷ codes "plain" ∷ codes "--receive" ∷ codes "--v2" ∷ []) ≡ Some (record { command = Line Receiving; top = codes "plain"; shows_context = false; version = Two; is_wide = false; is_strict = false; form = Text; avoided = [] })
   pub show_second : asked_of (codes "show" ∷ codes "--top" ∷ codes "plain" ∷ codes "--v2" ∷ []) ≡ None
   pub show_context : asked_of (codes "show" ∷ codes "--top" ∷ codes "plain" ∷ codes "--context" ∷ []) ≡ None
-  pub line : asked_of (codes "line" ∷ codes "--top" ∷ codes "plain" ∷ []) ≡ Some (record { command = Line Sending; top = codes "plain"; shows_context = false; version = One; is_wide = false; is_strict = false; avoided = [] })
-  pub line_receive : asked_of (codes "line" ∷ codes "--top" ∷ codes "plain" ∷ codes "--receive" ∷ []) ≡ Some (record { command = Line Receiving; top = codes "plain"; shows_context = false; version = One; is_wide = false; is_strict = false; avoided = [] })
-  pub line_wide : asked_of (codes "line" ∷ codes "--top" ∷ codes "plain" ∷ codes "--wide" ∷ []) ≡ Some (record { command = Line Sending; top = codes "plain"; shows_context = false; version = One; is_wide = true; is_strict = false; avoided = [] })
-  pub line_wide_receive : asked_of (codes "line" ∷ codes "--wide" ∷ codes "--receive" ∷ codes "--top" ∷ codes "plain" ∷ []) ≡ Some (record { command = Line Receiving; top = codes "plain"; shows_context = false; version = One; is_wide = true; is_strict = false; avoided = [] })
-  pub fields : asked_of (codes "fields" ∷ codes "--top" ∷ codes "plain" ∷ []) ≡ Some (record { command = Fields Unpack; top = codes "plain"; shows_context = false; version = One; is_wide = false; is_strict = false; avoided = [] })
-  pub fields_items : asked_of (codes "fields" ∷ codes "--top" ∷ codes "plain" ∷ codes "--items" ∷ codes "--context" ∷ []) ≡ Some (record { command = Fields Pack; top = codes "plain"; shows_context = true; version = One; is_wide = false; is_strict = false; avoided = [] })
-  pub why : asked_of (codes "why" ∷ codes "--top" ∷ codes "plain" ∷ []) ≡ Some (record { command = Why Unpack; top = codes "plain"; shows_context = false; version = One; is_wide = false; is_strict = false; avoided = [] })
-  pub why_items : asked_of (codes "why" ∷ codes "--top" ∷ codes "plain" ∷ codes "--items" ∷ []) ≡ Some (record { command = Why Pack; top = codes "plain"; shows_context = false; version = One; is_wide = false; is_strict = false; avoided = [] })
-  pub stats : asked_of (codes "stats" ∷ codes "--top" ∷ codes "plain" ∷ []) ≡ Some (record { command = Stats plain_counting; top = codes "plain"; shows_context = false; version = One; is_wide = false; is_strict = false; avoided = [] })
+  pub line : asked_of (codes "line" ∷ codes "--top" ∷ codes "plain" ∷ []) ≡ Some (record { command = Line Sending; top = codes "plain"; shows_context = false; version = One; is_wide = false; is_strict = false; form = Text; avoided = [] })
+  pub line_receive : asked_of (codes "line" ∷ codes "--top" ∷ codes "plain" ∷ codes "--receive" ∷ []) ≡ Some (record { command = Line Receiving; top = codes "plain"; shows_context = false; version = One; is_wide = false; is_strict = false; form = Text; avoided = [] })
+  pub line_wide : asked_of (codes "line" ∷ codes "--top" ∷ codes "plain" ∷ codes "--wide" ∷ []) ≡ Some (record { command = Line Sending; top = codes "plain"; shows_context = false; version = One; is_wide = true; is_strict = false; form = Text; avoided = [] })
+  pub line_wide_receive : asked_of (codes "line" ∷ codes "--wide" ∷ codes "--receive" ∷ codes "--top" ∷ codes "plain" ∷ []) ≡ Some (record { command = Line Receiving; top = codes "plain"; shows_context = false; version = One; is_wide = true; is_strict = false; form = Text; avoided = [] })
+  pub fields : asked_of (codes "fields" ∷ codes "--top" ∷ codes "plain" ∷ []) ≡ Some (record { command = Fields Unpack; top = codes "plain"; shows_context = false; version = One; is_wide = false; is_strict = false; form = Text; avoided = [] })
+  pub fields_items : asked_of (codes "fields" ∷ codes "--top" ∷ codes "plain" ∷ codes "--items" ∷ codes "--context" ∷ []) ≡ Some (record { command = Fields Pack; top = codes "plain"; shows_context = true; version = One; is_wide = false; is_strict = false; form = Text; avoided = [] })
+  pub why : asked_of (codes "why" ∷ codes "--top" ∷ codes "plain" ∷ []) ≡ Some (record { command = Why Unpack; top = codes "plain"; shows_context = false; version = One; is_wide = false; is_strict = false; form = Text; avoided = [] })
+  pub why_items : asked_of (codes "why" ∷ codes "--top" ∷ codes "plain" ∷ codes "--items" ∷ []) ≡ Some (record { command = Why Pack; top = codes "plain"; shows_context = false; version = One; is_wide = false; is_strict = false; form = Text; avoided = [] })
+  pub stats : asked_of (codes "stats" ∷ codes "--top" ∷ codes "plain" ∷ []) ≡ Some (record { command = Stats plain_counting; top = codes "plain"; shows_context = false; version = One; is_wide = false; is_strict = false; form = Text; avoided = [] })
   pub stats_context : asked_of (codes "stats" ∷ codes "--top" ∷ codes "plain" ∷ codes "--context" ∷ []) ≡ None
-  pub loss : asked_of (codes "loss" ∷ codes "--top" ∷ codes "plain" ∷ []) ≡ Some (record { command = Loss 8; top = codes "plain"; shows_context = false; version = One; is_wide = false; is_strict = false; avoided = [] })
-  pub loss_none : asked_of (codes "loss" ∷ codes "--top" ∷ codes "plain" ∷ codes "--lost" ∷ codes "0" ∷ []) ≡ Some (record { command = Loss 0; top = codes "plain"; shows_context = false; version = One; is_wide = false; is_strict = false; avoided = [] })
-  pub loss_most : asked_of (codes "loss" ∷ codes "--lost=63" ∷ codes "--top" ∷ codes "plain" ∷ codes "--v2" ∷ []) ≡ Some (record { command = Loss 63; top = codes "plain"; shows_context = false; version = Two; is_wide = false; is_strict = false; avoided = [] })
+  pub loss : asked_of (codes "loss" ∷ codes "--top" ∷ codes "plain" ∷ []) ≡ Some (record { command = Loss 8; top = codes "plain"; shows_context = false; version = One; is_wide = false; is_strict = false; form = Text; avoided = [] })
+  pub loss_none : asked_of (codes "loss" ∷ codes "--top" ∷ codes "plain" ∷ codes "--lost" ∷ codes "0" ∷ []) ≡ Some (record { command = Loss 0; top = codes "plain"; shows_context = false; version = One; is_wide = false; is_strict = false; form = Text; avoided = [] })
+  pub loss_most : asked_of (codes "loss" ∷ codes "--lost=63" ∷ codes "--top" ∷ codes "plain" ∷ codes "--v2" ∷ []) ≡ Some (record { command = Loss 63; top = codes "plain"; shows_context = false; version = Two; is_wide = false; is_strict = false; form = Text; avoided = [] })
   pub loss_above : asked_of (codes "loss" ∷ codes "--top" ∷ codes "plain" ∷ codes "--lost" ∷ codes "64" ∷ []) ≡ None
   pub loss_plus : asked_of (codes "loss" ∷ codes "--top" ∷ codes "plain" ∷ codes "--lost" ∷ codes "+1" ∷ []) ≡ None
   pub loss_minus : asked_of (codes "loss" ∷ codes "--top" ∷ codes "plain" ∷ codes "--lost=-1" ∷ []) ≡ None
@@ -405,41 +429,44 @@ pub record ReadsWords : Type 0 where
   pub loss_twice : asked_of (codes "loss" ∷ codes "--top" ∷ codes "plain" ∷ codes "--lost" ∷ codes "1" ∷ codes "--lost" ∷ codes "1" ∷ []) ≡ None
   pub loss_context : asked_of (codes "loss" ∷ codes "--top" ∷ codes "plain" ∷ codes "--context" ∷ []) ≡ None
   pub stats_lost : asked_of (codes "stats" ∷ codes "--top" ∷ codes "plain" ∷ codes "--lost" ∷ codes "1" ∷ []) ≡ None
-  pub pack_robust : asked_of (codes "pack" ∷ codes "--top" ∷ codes "plain" ∷ codes "--robust" ∷ codes "0" ∷ []) ≡ Some (record { command = RobustPack 0; top = codes "plain"; shows_context = false; version = One; is_wide = false; is_strict = false; avoided = [] })
-  pub pack_robust_context : asked_of (codes "pack" ∷ codes "--robust=63" ∷ codes "--top" ∷ codes "plain" ∷ codes "--context" ∷ codes "--v2" ∷ []) ≡ Some (record { command = RobustPack 63; top = codes "plain"; shows_context = true; version = Two; is_wide = false; is_strict = false; avoided = [] })
+  pub pack_robust : asked_of (codes "pack" ∷ codes "--top" ∷ codes "plain" ∷ codes "--robust" ∷ codes "0" ∷ []) ≡ Some (record { command = RobustPack 0; top = codes "plain"; shows_context = false; version = One; is_wide = false; is_strict = false; form = Text; avoided = [] })
+  pub pack_robust_context : asked_of (codes "pack" ∷ codes "--robust=63" ∷ codes "--top" ∷ codes "plain" ∷ codes "--context" ∷ codes "--v2" ∷ []) ≡ Some (record { command = RobustPack 63; top = codes "plain"; shows_context = true; version = Two; is_wide = false; is_strict = false; form = Text; avoided = [] })
   pub pack_robust_above : asked_of (codes "pack" ∷ codes "--top" ∷ codes "plain" ∷ codes "--robust" ∷ codes "64" ∷ []) ≡ None
   pub pack_robust_zero_first : asked_of (codes "pack" ∷ codes "--top" ∷ codes "plain" ∷ codes "--robust" ∷ codes "01" ∷ []) ≡ None
   pub pack_robust_twice : asked_of (codes "pack" ∷ codes "--top" ∷ codes "plain" ∷ codes "--robust" ∷ codes "1" ∷ codes "--robust" ∷ codes "1" ∷ []) ≡ None
-  pub stats_robust : asked_of (codes "stats" ∷ codes "--top" ∷ codes "plain" ∷ codes "--robust" ∷ codes "3" ∷ []) ≡ Some (record { command = RobustStats 3 plain_counting; top = codes "plain"; shows_context = false; version = One; is_wide = false; is_strict = false; avoided = [] })
+  pub stats_robust : asked_of (codes "stats" ∷ codes "--top" ∷ codes "plain" ∷ codes "--robust" ∷ codes "3" ∷ []) ≡ Some (record { command = RobustStats 3 plain_counting; top = codes "plain"; shows_context = false; version = One; is_wide = false; is_strict = false; form = Text; avoided = [] })
   pub stats_robust_plus : asked_of (codes "stats" ∷ codes "--top" ∷ codes "plain" ∷ codes "--robust" ∷ codes "+1" ∷ []) ≡ None
-  pub loss_robust : asked_of (codes "loss" ∷ codes "--top" ∷ codes "plain" ∷ codes "--robust" ∷ codes "3" ∷ []) ≡ Some (record { command = RobustLoss 8 3; top = codes "plain"; shows_context = false; version = One; is_wide = false; is_strict = false; avoided = [] })
-  pub loss_both : asked_of (codes "loss" ∷ codes "--top" ∷ codes "plain" ∷ codes "--robust" ∷ codes "15" ∷ codes "--lost" ∷ codes "2" ∷ []) ≡ Some (record { command = RobustLoss 2 15; top = codes "plain"; shows_context = false; version = One; is_wide = false; is_strict = false; avoided = [] })
+  pub loss_robust : asked_of (codes "loss" ∷ codes "--top" ∷ codes "plain" ∷ codes "--robust" ∷ codes "3" ∷ []) ≡ Some (record { command = RobustLoss 8 3; top = codes "plain"; shows_context = false; version = One; is_wide = false; is_strict = false; form = Text; avoided = [] })
+  pub loss_both : asked_of (codes "loss" ∷ codes "--top" ∷ codes "plain" ∷ codes "--robust" ∷ codes "15" ∷ codes "--lost" ∷ codes "2" ∷ []) ≡ Some (record { command = RobustLoss 2 15; top = codes "plain"; shows_context = false; version = One; is_wide = false; is_strict = false; form = Text; avoided = [] })
   pub loss_robust_empty : asked_of (codes "loss" ∷ codes "--top" ∷ codes "plain" ∷ codes "--robust=" ∷ []) ≡ None
-  pub why_robust : asked_of (codes "why" ∷ codes "--top" ∷ codes "plain" ∷ codes "--items" ∷ codes "--robust" ∷ codes "2" ∷ []) ≡ Some (record { command = RobustWhy 2; top = codes "plain"; shows_context = false; version = One; is_wide = false; is_strict = false; avoided = [] })
+  pub why_robust : asked_of (codes "why" ∷ codes "--top" ∷ codes "plain" ∷ codes "--items" ∷ codes "--robust" ∷ codes "2" ∷ []) ≡ Some (record { command = RobustWhy 2; top = codes "plain"; shows_context = false; version = One; is_wide = false; is_strict = false; form = Text; avoided = [] })
   pub why_robust_packets : asked_of (codes "why" ∷ codes "--top" ∷ codes "plain" ∷ codes "--robust" ∷ codes "2" ∷ []) ≡ None
   pub unpack_robust : asked_of (codes "unpack" ∷ codes "--top" ∷ codes "plain" ∷ codes "--robust" ∷ codes "1" ∷ []) ≡ None
   pub fields_robust : asked_of (codes "fields" ∷ codes "--top" ∷ codes "plain" ∷ codes "--items" ∷ codes "--robust" ∷ codes "1" ∷ []) ≡ None
-  pub stats_by_item : asked_of (codes "stats" ∷ codes "--top" ∷ codes "plain" ∷ codes "--by-item" ∷ []) ≡ Some (record { command = Stats (record { lists_items = true; needs_all = false; most = None }); top = codes "plain"; shows_context = false; version = One; is_wide = false; is_strict = false; avoided = [] })
-  pub stats_checks : asked_of (codes "stats" ∷ codes "--top" ∷ codes "plain" ∷ codes "--all" ∷ codes "--at-most" ∷ codes "40" ∷ []) ≡ Some (record { command = Stats (record { lists_items = false; needs_all = true; most = Some 40 }); top = codes "plain"; shows_context = false; version = One; is_wide = false; is_strict = false; avoided = [] })
-  pub stats_checks_robust : asked_of (codes "stats" ∷ codes "--top" ∷ codes "plain" ∷ codes "--robust" ∷ codes "2" ∷ codes "--at-most=65536" ∷ codes "--by-item" ∷ []) ≡ Some (record { command = RobustStats 2 (record { lists_items = true; needs_all = false; most = Some 65536 }); top = codes "plain"; shows_context = false; version = One; is_wide = false; is_strict = false; avoided = [] })
+  pub stats_by_item : asked_of (codes "stats" ∷ codes "--top" ∷ codes "plain" ∷ codes "--by-item" ∷ []) ≡ Some (record { command = Stats (record { lists_items = true; needs_all = false; most = None; form = Text }); top = codes "plain"; shows_context = false; version = One; is_wide = false; is_strict = false; form = Text; avoided = [] })
+  pub stats_checks : asked_of (codes "stats" ∷ codes "--top" ∷ codes "plain" ∷ codes "--all" ∷ codes "--at-most" ∷ codes "40" ∷ []) ≡ Some (record { command = Stats (record { lists_items = false; needs_all = true; most = Some 40; form = Text }); top = codes "plain"; shows_context = false; version = One; is_wide = false; is_strict = false; form = Text; avoided = [] })
+  pub stats_checks_robust : asked_of (codes "stats" ∷ codes "--top" ∷ codes "plain" ∷ codes "--robust" ∷ codes "2" ∷ codes "--at-most=65536" ∷ codes "--by-item" ∷ []) ≡ Some (record { command = RobustStats 2 (record { lists_items = true; needs_all = false; most = Some 65536; form = Text }); top = codes "plain"; shows_context = false; version = One; is_wide = false; is_strict = false; form = Text; avoided = [] })
   pub stats_most_above : asked_of (codes "stats" ∷ codes "--top" ∷ codes "plain" ∷ codes "--at-most" ∷ codes "65537" ∷ []) ≡ None
   pub stats_most_letter : asked_of (codes "stats" ∷ codes "--top" ∷ codes "plain" ∷ codes "--at-most" ∷ codes "4x" ∷ []) ≡ None
   pub loss_checks : asked_of (codes "loss" ∷ codes "--top" ∷ codes "plain" ∷ codes "--all" ∷ []) ≡ None
-  pub why_not : asked_of (codes "why" ∷ codes "--top" ∷ codes "plain" ∷ codes "--items" ∷ codes "--not" ∷ codes "short" ∷ []) ≡ Some (record { command = WhyNot; top = codes "plain"; shows_context = false; version = One; is_wide = false; is_strict = false; avoided = codes "short" })
-  pub why_not_second : asked_of (codes "why" ∷ codes "--not=a.b" ∷ codes "--v2" ∷ codes "--items" ∷ codes "--top" ∷ codes "plain" ∷ []) ≡ Some (record { command = WhyNot; top = codes "plain"; shows_context = false; version = Two; is_wide = false; is_strict = false; avoided = codes "a.b" })
+  pub why_not : asked_of (codes "why" ∷ codes "--top" ∷ codes "plain" ∷ codes "--items" ∷ codes "--not" ∷ codes "short" ∷ []) ≡ Some (record { command = WhyNot; top = codes "plain"; shows_context = false; version = One; is_wide = false; is_strict = false; form = Text; avoided = codes "short" })
+  pub why_not_second : asked_of (codes "why" ∷ codes "--not=a.b" ∷ codes "--v2" ∷ codes "--items" ∷ codes "--top" ∷ codes "plain" ∷ []) ≡ Some (record { command = WhyNot; top = codes "plain"; shows_context = false; version = Two; is_wide = false; is_strict = false; form = Text; avoided = codes "a.b" })
   pub why_not_packets : asked_of (codes "why" ∷ codes "--top" ∷ codes "plain" ∷ codes "--not" ∷ codes "short" ∷ []) ≡ None
   pub why_not_robust : asked_of (codes "why" ∷ codes "--top" ∷ codes "plain" ∷ codes "--items" ∷ codes "--not" ∷ codes "short" ∷ codes "--robust" ∷ codes "2" ∷ []) ≡ None
   pub fields_not : asked_of (codes "fields" ∷ codes "--top" ∷ codes "plain" ∷ codes "--items" ∷ codes "--not" ∷ codes "short" ∷ []) ≡ None
-  pub advise : asked_of (codes "advise" ∷ codes "--top" ∷ codes "plain" ∷ []) ≡ Some (record { command = Advise 8; top = codes "plain"; shows_context = false; version = One; is_wide = false; is_strict = false; avoided = [] })
-  pub advise_lost : asked_of (codes "advise" ∷ codes "--top" ∷ codes "plain" ∷ codes "--lost" ∷ codes "3" ∷ []) ≡ Some (record { command = Advise 3; top = codes "plain"; shows_context = false; version = One; is_wide = false; is_strict = false; avoided = [] })
+  pub advise : asked_of (codes "advise" ∷ codes "--top" ∷ codes "plain" ∷ []) ≡ Some (record { command = Advise 8; top = codes "plain"; shows_context = false; version = One; is_wide = false; is_strict = false; form = Text; avoided = [] })
+  pub advise_lost : asked_of (codes "advise" ∷ codes "--top" ∷ codes "plain" ∷ codes "--lost" ∷ codes "3" ∷ []) ≡ Some (record { command = Advise 3; top = codes "plain"; shows_context = false; version = One; is_wide = false; is_strict = false; form = Text; avoided = [] })
   pub advise_robust : asked_of (codes "advise" ∷ codes "--top" ∷ codes "plain" ∷ codes "--robust" ∷ codes "3" ∷ []) ≡ None
-  pub lint_strict : asked_of (codes "lint" ∷ codes "--top" ∷ codes "plain" ∷ codes "--strict" ∷ []) ≡ Some (record { command = Lint; top = codes "plain"; shows_context = false; version = One; is_wide = false; is_strict = true; avoided = [] })
+  pub lint_strict : asked_of (codes "lint" ∷ codes "--top" ∷ codes "plain" ∷ codes "--strict" ∷ []) ≡ Some (record { command = Lint; top = codes "plain"; shows_context = false; version = One; is_wide = false; is_strict = true; form = Text; avoided = [] })
   pub draw_strict : asked_of (codes "draw" ∷ codes "--top" ∷ codes "plain" ∷ codes "--strict" ∷ []) ≡ None
-  pub lint : asked_of (codes "lint" ∷ codes "--top" ∷ codes "plain" ∷ []) ≡ Some (record { command = Lint; top = codes "plain"; shows_context = false; version = One; is_wide = false; is_strict = false; avoided = [] })
+  pub lint : asked_of (codes "lint" ∷ codes "--top" ∷ codes "plain" ∷ []) ≡ Some (record { command = Lint; top = codes "plain"; shows_context = false; version = One; is_wide = false; is_strict = false; form = Text; avoided = [] })
   pub lint_second : asked_of (codes "lint" ∷ codes "--top" ∷ codes "plain" ∷ codes "--v2" ∷ []) ≡ None
-  pub draw : asked_of (codes "draw" ∷ codes "--top" ∷ codes "plain" ∷ []) ≡ Some (record { command = Draw; top = codes "plain"; shows_context = false; version = One; is_wide = false; is_strict = false; avoided = [] })
-  pub check_explain : asked_of (codes "check" ∷ codes "--top" ∷ codes "plain" ∷ codes "--explain" ∷ []) ≡ Some (record { command = ExplainCheck; top = codes "plain"; shows_context = false; version = One; is_wide = false; is_strict = false; avoided = [] })
-  pub prove_explain : asked_of (codes "prove" ∷ codes "--explain" ∷ codes "--top" ∷ codes "plain" ∷ []) ≡ Some (record { command = ExplainProve; top = codes "plain"; shows_context = false; version = One; is_wide = false; is_strict = false; avoided = [] })
+  pub draw : asked_of (codes "draw" ∷ codes "--top" ∷ codes "plain" ∷ []) ≡ Some (record { command = Draw; top = codes "plain"; shows_context = false; version = One; is_wide = false; is_strict = false; form = Text; avoided = [] })
+  pub check_explain : asked_of (codes "check" ∷ codes "--top" ∷ codes "plain" ∷ codes "--explain" ∷ []) ≡ Some (record { command = ExplainCheck; top = codes "plain"; shows_context = false; version = One; is_wide = false; is_strict = false; form = Text; avoided = [] })
+  pub prove_explain : asked_of (codes "prove" ∷ codes "--explain" ∷ codes "--top" ∷ codes "plain" ∷ []) ≡ Some (record { command = ExplainProve; top = codes "plain"; shows_context = false; version = One; is_wide = false; is_strict = false; form = Text; avoided = [] })
+  pub lint_json : asked_of (codes "lint" ∷ codes "--top" ∷ codes "plain" ∷ codes "--json" ∷ []) ≡ Some (record { command = Lint; top = codes "plain"; shows_context = false; version = One; is_wide = false; is_strict = false; form = Json; avoided = [] })
+  pub stats_json : asked_of (codes "stats" ∷ codes "--json" ∷ codes "--top" ∷ codes "plain" ∷ []) ≡ Some (record { command = Stats (record { lists_items = false; needs_all = false; most = None; form = Json }); top = codes "plain"; shows_context = false; version = One; is_wide = false; is_strict = false; form = Json; avoided = [] })
+  pub pack_json : asked_of (codes "pack" ∷ codes "--top" ∷ codes "plain" ∷ codes "--json" ∷ []) ≡ None
   pub pack_explain : asked_of (codes "pack" ∷ codes "--top" ∷ codes "plain" ∷ codes "--explain" ∷ []) ≡ None
   pub pack_items : asked_of (codes "pack" ∷ codes "--top" ∷ codes "plain" ∷ codes "--items" ∷ []) ≡ None
   pub pack_wide : asked_of (codes "pack" ∷ codes "--top" ∷ codes "plain" ∷ codes "--wide" ∷ []) ≡ None

@@ -2,7 +2,7 @@
 ghost use Rattle.std.specs.Prelude.{◌≡◌, false, IfOk};
 ghost use Rattle.clap.specs.Words.{app_of};
 ghost use Rattle.clap.specs.declared.builder.command.Command.TheViews.{out-Command as fields_of};
-ghost use Rattle.rohcfn_words.specs.Words.{program, with_all, with_avoided, with_checks, with_explain, with_flags, with_items, with_list, with_losses, with_lost, with_reasons, with_receive, with_robust, with_sending, with_strict, with_top, with_version, with_wide};
+ghost use Rattle.rohcfn_words.specs.Words.{program, with_all, with_avoided, with_checks, with_drawing, with_explain, with_flags, with_items, with_json, with_list, with_listed, with_losses, with_lost, with_reasons, with_receive, with_robust, with_sending, with_strict, with_top, with_version, with_wide};
 
 use clap::{Arg, ArgAction};
 use std::alloc::{AllocError, Global};
@@ -11,6 +11,8 @@ use std::alloc::{AllocError, Global};
 const USUALLY_LOST: &str = "8";
 
 const ROBUST_HELP: &str = "Packets survive losses of up to N in a row, 0 to 63";
+
+const JSON_HELP: &str = "Prints objects of JSON, one a line";
 
 // What goes in and comes out, with an example for each command. It ends each text for the person who called.
 pub(crate) const INPUT: &str = "\
@@ -39,6 +41,8 @@ A bundle is read from standard input: parts, each after a line `=== PART`. For e
   rohcfn advise --top plain <BUNDLE          profile, items > what each field is like, which lsb serves
   rohcfn line --top plain <BUNDLE            profile, events > octets in hex, then `FLOW ITEM` lines
   rohcfn line --top plain --receive <BUNDLE  profile, octets > `FLOW ITEM` lines
+  rohcfn stats --top plain --json <BUNDLE    the same as objects of JSON, one a line; so with lint, draw, prove, check,
+                                             fields, why, loss and advise
 
 The parts certificate and context may be there as well. Where no certificate is there one is made,
 with --v2 of version 2. A line has 16 flows, with --wide 64. Without words the program takes those
@@ -90,7 +94,7 @@ pub(crate) fn program<'a>(alloc: Global) -> Result<clap::Command<'a>, AllocError
         "Tells by which formats of the part profile nothing can be packed",
     )?;
     let five = four.subcommand(lint)?;
-    let draw = with_top(
+    let draw = with_drawing(
         alloc,
         "draw",
         "Draws the packed bits of each format of the part profile",
@@ -144,7 +148,39 @@ fn with_version<'a>(
     with_top(alloc, name, about)?.arg(second)
 }
 
-// A command with the flags `--top` and `--strict`.
+// A command with the flags `--top` and `--json`.
+fn with_drawing<'a>(
+    alloc: Global,
+    name: &'a str,
+    about: &'a str,
+) -> Result<clap::Command<'a>, AllocError>
+    ensures app { IfOk result (λ command. app_of command ≡ with_drawing name.entry.now) }
+    ensures local { IfOk result (λ command. (fields_of command).has_globals ≡ false) }
+{
+    let json = Arg::new(alloc, "json")
+        .long("json")
+        .help(JSON_HELP)
+        .action(ArgAction::SetTrue);
+    with_top(alloc, name, about)?.arg(json)
+}
+
+// A command with the flags `--top`, `--v2` and `--json`.
+fn with_json<'a>(
+    alloc: Global,
+    name: &'a str,
+    about: &'a str,
+) -> Result<clap::Command<'a>, AllocError>
+    ensures app { IfOk result (λ command. app_of command ≡ with_json name.entry.now) }
+    ensures local { IfOk result (λ command. (fields_of command).has_globals ≡ false) }
+{
+    let json = Arg::new(alloc, "json")
+        .long("json")
+        .help(JSON_HELP)
+        .action(ArgAction::SetTrue);
+    with_version(alloc, name, about)?.arg(json)
+}
+
+// A command with the flags `--top`, `--json` and `--strict`.
 fn with_strict<'a>(
     alloc: Global,
     name: &'a str,
@@ -157,10 +193,10 @@ fn with_strict<'a>(
         .long("strict")
         .help("Ends with status 1 where anything is warned of")
         .action(ArgAction::SetTrue);
-    with_top(alloc, name, about)?.arg(strict)
+    with_drawing(alloc, name, about)?.arg(strict)
 }
 
-// A command with the flags `--top` and `--v2`, and the option `--lost`.
+// A command with the flags `--top`, `--v2` and `--json`, and the option `--lost`.
 fn with_lost<'a>(
     alloc: Global,
     name: &'a str,
@@ -174,10 +210,10 @@ fn with_lost<'a>(
         .value_name("N")
         .help("How many packets in a row are lost at most, 0 to 63")
         .default_value(USUALLY_LOST);
-    with_version(alloc, name, about)?.arg(lost)
+    with_json(alloc, name, about)?.arg(lost)
 }
 
-// A command with the flags `--top` and `--v2`, and the option `--robust`.
+// A command with the flags `--top`, `--v2` and `--json`, and the option `--robust`.
 fn with_robust<'a>(
     alloc: Global,
     name: &'a str,
@@ -190,10 +226,10 @@ fn with_robust<'a>(
         .long("robust")
         .value_name("N")
         .help(ROBUST_HELP);
-    with_version(alloc, name, about)?.arg(robust)
+    with_json(alloc, name, about)?.arg(robust)
 }
 
-// A command with the flags `--top`, `--v2` and `--by-item`, and the option `--robust`.
+// A command with the flags `--top`, `--v2`, `--json` and `--by-item`, and the option `--robust`.
 fn with_list<'a>(
     alloc: Global,
     name: &'a str,
@@ -241,7 +277,7 @@ fn with_checks<'a>(
     with_all(alloc, name, about)?.arg(most)
 }
 
-// A command with the flags `--top` and `--v2`, and the options `--lost` and `--robust`.
+// A command with the flags `--top`, `--v2` and `--json`, and the options `--lost` and `--robust`.
 fn with_losses<'a>(
     alloc: Global,
     name: &'a str,
@@ -257,7 +293,7 @@ fn with_losses<'a>(
     with_lost(alloc, name, about)?.arg(robust)
 }
 
-// A command that makes or checks a certificate, with the flags `--top`, `--v2` and `--explain`.
+// A command that makes or checks a certificate, with the flags `--top`, `--v2`, `--json` and `--explain`.
 fn with_explain<'a>(
     alloc: Global,
     name: &'a str,
@@ -270,7 +306,7 @@ fn with_explain<'a>(
         .long("explain")
         .help("Explains a refusal below its line")
         .action(ArgAction::SetTrue);
-    with_version(alloc, name, about)?.arg(explain)
+    with_json(alloc, name, about)?.arg(explain)
 }
 
 // A command with the flags `--top`, `--v2` and `--context`.
@@ -305,7 +341,23 @@ fn with_sending<'a>(
     with_flags(alloc, name, about)?.arg(robust)
 }
 
-// A command with the flags `--top`, `--v2`, `--context` and `--items`.
+// A command with the flags `--top`, `--v2`, `--context` and `--json`.
+fn with_listed<'a>(
+    alloc: Global,
+    name: &'a str,
+    about: &'a str,
+) -> Result<clap::Command<'a>, AllocError>
+    ensures app { IfOk result (λ command. app_of command ≡ with_listed name.entry.now) }
+    ensures local { IfOk result (λ command. (fields_of command).has_globals ≡ false) }
+{
+    let json = Arg::new(alloc, "json")
+        .long("json")
+        .help(JSON_HELP)
+        .action(ArgAction::SetTrue);
+    with_flags(alloc, name, about)?.arg(json)
+}
+
+// A command with the flags `--top`, `--v2`, `--context`, `--json` and `--items`.
 fn with_items<'a>(
     alloc: Global,
     name: &'a str,
@@ -318,10 +370,10 @@ fn with_items<'a>(
         .long("items")
         .help("Lists those of the part items instead")
         .action(ArgAction::SetTrue);
-    with_flags(alloc, name, about)?.arg(items)
+    with_listed(alloc, name, about)?.arg(items)
 }
 
-// A command with the flags `--top`, `--v2`, `--context` and `--items`, and the option `--not`.
+// A command with the flags `--top`, `--v2`, `--context`, `--json` and `--items`, and the option `--not`.
 fn with_avoided<'a>(
     alloc: Global,
     name: &'a str,

@@ -1,7 +1,7 @@
 //! What the words of a call ask for.
 ghost use Rattle.std.specs.Prelude.{◌≡◌, ◌↔◌, None, Some, map, IfOk, IfErr, option_map};
 ghost use Rattle.clap.specs.Words.{first_of, found_of, kind_of, rows_of, subcommand_rows_of};
-ghost use Rattle.rohcfn_words.specs.Words.{ReadsLost, ReadsMost, ReadsRobust, ReadsWords, RefusesError, RefusesWords, asked, asked_in, asked_of, bits_spelled, check_at, command_in, command_named, counting_in, direction_at, end_at, prove_at, is_set, lost_in, lost_spelled, robust_by, robust_command, robust_run, robust_why, text_or_empty, version_asked, why_named};
+ghost use Rattle.rohcfn_words.specs.Words.{ReadsLost, ReadsMost, ReadsRobust, ReadsWords, RefusesError, RefusesWords, asked, asked_in, asked_of, bits_spelled, check_at, command_in, command_named, counting_in, direction_at, end_at, form_asked, prove_at, is_set, lost_in, lost_spelled, robust_by, robust_command, robust_run, robust_why, text_or_empty, version_asked, why_named};
 
 use crate::command_line::{INPUT, program};
 use clap::ArgMatches;
@@ -63,6 +63,17 @@ pub struct Counting {
     pub needs_all: bool,
     /// The mean may be so many bits at most.
     pub most: Option<u32>,
+    /// The form in which it is told.
+    pub form: Form,
+}
+
+/// The form of an answer.
+#[derive(Clone, Copy, PartialEq, Eq)]
+pub enum Form {
+    /// Lines of text.
+    Text,
+    /// Objects of JSON, one a line.
+    Json,
 }
 
 /// An end of a line of flows.
@@ -84,7 +95,7 @@ pub enum Direction {
 }
 
 /// A call: the command, the name of the method at which it starts, whether the last context is printed, the version of a certificate that is made, whether the
-/// line is the wide one, that of version 2, whether a warning ends with status 1, and the format of `--not`, which is empty where none is given.
+/// line is the wide one, that of version 2, whether a warning ends with status 1, the form of the answer, and the format of `--not`, which is empty where none is given.
 #[derive(Clone, Copy)]
 pub struct Order<'a> {
     pub command: Command,
@@ -93,6 +104,7 @@ pub struct Order<'a> {
     pub version: Version,
     pub is_wide: bool,
     pub is_strict: bool,
+    pub form: Form,
     pub avoided: &'a str,
 }
 
@@ -121,7 +133,7 @@ impl From<AllocError> for WordsError {
 /// `draw`, `check`, `prove` or `line`, and its flags: `--top NAME`, for all commands but `show`, `lint` and `draw` also `--v2`, for `pack`, `unpack`, `fields` and `why` also
 /// `--context`, for `fields` and `why` also `--items`, for `why --items` also `--not FORMAT`, for `loss` and `advise` also `--lost N`, for `pack`, `stats`, `loss` and
 /// `why --items` also `--robust N`, for `stats` also `--by-item`, `--all` and `--at-most BITS`, for `lint` also `--strict`, for `check` and `prove` also `--explain`,
-/// and for `line` also `--receive` and `--wide`. `--not` and `--robust` don't go together.
+/// for `lint`, `draw`, `check`, `prove`, `fields`, `why`, `stats`, `loss` and `advise` also `--json`, and for `line` also `--receive` and `--wide`. `--not` and `--robust` don't go together.
 ///
 /// The clauses say it by clap's own account of a command line (`asked_of`), on which clap's parse is
 /// proved exact. N is a decimal number from 0 to 63 without a sign or a leading zero (`lost_is_read`, `robust_is_read`), and that
@@ -191,6 +203,7 @@ fn order_in<'a>(matches: &ArgMatches<'a>) -> Option<Order<'a>>
         version: version_asked(has(flags, "v2")),
         is_wide: has(flags, "wide"),
         is_strict: has(flags, "strict"),
+        form: form_asked(has(flags, "json")),
         avoided: text_or_empty(text_of(flags, "not")),
     })
 }
@@ -231,6 +244,13 @@ fn version_asked(second: bool) -> Version
     ensures { result ≡ version_asked second }
 {
     if second { Version::Two } else { Version::One }
+}
+
+// The form of the answer, by whether objects are asked for.
+fn form_asked(objects: bool) -> Form
+    ensures { result ≡ form_asked objects }
+{
+    if objects { Form::Json } else { Form::Text }
 }
 
 // Whether the text of a flag says that it was given.
@@ -449,11 +469,13 @@ fn counting_in(flags: &ArgMatches<'_>) -> Option<Counting>
 {
     let lists_items = has(flags, "by-item");
     let needs_all = has(flags, "all");
+    let form = form_asked(has(flags, "json"));
     let Some(text) = text_of(flags, "at-most") else {
         return Some(Counting {
             lists_items,
             needs_all,
             most: None,
+            form,
         });
     };
     let most = bits_spelled(text)?;
@@ -461,6 +483,7 @@ fn counting_in(flags: &ArgMatches<'_>) -> Option<Counting>
         lists_items,
         needs_all,
         most: Some(most),
+        form,
     })
 }
 
