@@ -1,0 +1,2 @@
+pub mod Fronting
+pub mod Cuttings
