@@ -5,3 +5,4 @@ pub mod Sparing
 pub mod Going
 pub mod Harmless
 pub mod Lackings
+pub mod Resetting

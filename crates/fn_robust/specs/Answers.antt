@@ -1,5 +1,5 @@
 -- What the robust sender answers (docs/DEFINITIONS.md, Losses).
-use Rattle.std.specs.Prelude.{◌≡◌, ℕ, ◌-◌, ◌<◌, ◌≤◌, List, Some, length, option_map, slice_get, unwrap_or}
+use Rattle.std.specs.Prelude.{◌≡◌, ℕ, ◌-◌, ◌<◌, ◌≤◌, List, [], Some, length, option_map, slice_get, unwrap_or}
 use Rattle.fn_context.specs.Entries.{Entries}
 use Rattle.fn_candidates.specs.Best.{IsUpTo}
 use Rattle.fn_candidates.specs.Codes.{code}
@@ -124,3 +124,20 @@ abbrev pub Blames : RobustFault → Accepting → Sending → Item → Type 0
 Blames (fault.Pack e) a s it = writing.Blames e a s.own it
 Blames fault.NoReach a s it = HasNoReach a s.own s.others it
 Blames fault.Contexts a s it = HasNoRoom a s it
+
+-- ---- resets
+
+-- A reset empties the own context. It is itself a packet that may be lost, so what was held stays so where more may be lost.
+abbrev pub emptied : Sending → Sending
+emptied s = record { own = []; others = stayed s.lost (held s); lost = s.lost }
+
+-- the sender after a reset
+pub record IsEmptied (old new : Sending) : Type 0 where
+  pub new_is : new ≡ emptied old
+  pub few : length (held new) ≤ pair_limit
+
+-- why there was none: more would be held after it, or memory ran out
+abbrev pub LacksRoom : RobustFault → Sending → Type 0
+LacksRoom (fault.Pack pack.OutOfMemory) s = Unit {0}
+LacksRoom fault.Contexts s = pair_limit < length (held (emptied s))
+LacksRoom e s = ⊥

@@ -1,5 +1,5 @@
 -- Packets of the robust sender, and what a receiver reads of those that come through (docs/DEFINITIONS.md, Losses).
-use Rattle.std.specs.Prelude.{◌≡◌, ℕ, Bool, List, [], ◌∷◌, fold, map}
+use Rattle.std.specs.Prelude.{◌≡◌, ℕ, suc, ◌<◌, Bool, List, [], ◌∷◌, Some, fold, map, slice_get}
 use Rattle.fn_context.specs.Entries.{Entries}
 use Rattle.fn_filling.specs.declared.filling.Filling.{Filling}
 use Rattle.fn_filling.specs.declared.filling.Item.{Item}
@@ -9,7 +9,7 @@ use Rattle.fn_accepted.specs.Accepted.{Accepting, IsDeterminate}
 use Rattle.fn_engine.specs.declared.search.Packed.{Packed}
 use Rattle.fn_engine.specs.declared.writer.PackFault.{PackFault}
 use Rattle.fn_engine.specs.Writing as writing
-use Rattle.fn_elsewhere.specs.Held.{IsHeld}
+use Rattle.fn_elsewhere.specs.Held.{Holding, IsHeld}
 use Rattle.fn_elsewhere.specs.Robust.{ComesThrough}
 use Rattle.fn_elsewhere.specs.Runs.{Arrives}
 use Rattle.fn_engine.specs.Laws.{AreSame}
@@ -17,7 +17,7 @@ use Rattle.fn_loss.specs.Losses.{AreReadBack}
 use Rattle.fn_robust.specs.declared.sender.RobustFault.{RobustFault}
 use Rattle.fn_robust.specs.declared.sender.RobustFault.TheVariants as fault
 use Rattle.fn_robust.specs.Sending.{Sending, held}
-use Rattle.fn_robust.specs.Answers.{IsSent, Blames}
+use Rattle.fn_robust.specs.Answers.{IsSent, Blames, emptied}
 
 -- what the sender packed of items, one after the other
 pub data Packs (a : Accepting) : Sending → List Item → List Packed → Sending → Type 0 where
@@ -50,3 +50,11 @@ pub record AnswersAsPack (a : Accepting) (s : Sending) (it : Item) : Type 0 wher
 
 abbrev pub AsPack : Type 0
 AsPack = (a : Accepting) (s : Sending) → s.others ≡ [] → s.lost ≡ 0 → (it : Item) → AnswersAsPack a s it
+
+-- What is held after a reset: the empty context, where it came; and where it was lost, and so many may be, what it was.
+pub record ResetGoesOn (s : Sending) : Type 0 where
+  pub came : IsHeld (held (emptied s)) 0 []
+  pub lost : (i : ℕ) (h : Holding) → slice_get (held s) i ≡ Some h → h.gap < s.lost → IsHeld (held (emptied s)) (suc h.gap) h.context
+
+abbrev pub ResetsAreHeld : Type 0
+ResetsAreHeld = (s : Sending) → ResetGoesOn s

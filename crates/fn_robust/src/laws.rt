@@ -12,3 +12,8 @@ pub fn loss_does_no_harm()
 pub fn as_pack()
     ensures { laws.AsPack }
 {}
+
+/// A reset is held as a packet is: the receiver's context is among those held after it, whether it came or was lost.
+pub fn resets_are_held()
+    ensures { laws.ResetsAreHeld }
+{}

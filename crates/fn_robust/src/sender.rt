@@ -107,6 +107,24 @@ impl Robust {
         }
     }
 
+    /// Empties the sender's own context, for a reset, which is itself a packet that may be lost: so the contexts before it stay held as they do after an item. A
+    /// refusal leaves the sender as it was.
+    pub fn reset(&mut self, alloc: Global) -> Result<(), RobustFault>
+        ensures ok { OnOk result (spec.IsEmptied self.old self.new) }
+        // Contexts: more than 256 pairs would be held. Else memory ran out.
+        ensures fault { IfErr result (λ e. spec.LacksRoom e self.old) }
+        ensures stays { OnErr result (self.new ≡ self.old) }
+    {
+        let kept = self.staying();
+        if are_too_many(0, kept) {
+            return Err(RobustFault::Contexts);
+        }
+        let mut came = Vec::new(alloc);
+        came.reserve(kept)?;
+        self.put(Context::new(alloc), came);
+        Ok(())
+    }
+
     /// Goes on to what a receiver may hold after this filling.
     fn go_on(&mut self, alloc: Global, filling: &Filling) -> Result<(), RobustFault>
         ensures ok { OnOk result (spec.GoesOn self.old filling.now self.new) }
