@@ -109,7 +109,7 @@ not_begun at after none h = no_frame h.frame [] (after ++ h.more) at h.is_frame 
 pub frames_are_cut : FramesAreCut
 frames_are_cut frames are = record { are_frames = are; octets_are = sym (append-nil (octets_of frames)); begun = nothing_begun }
 
-both : (frames others : List Frame) → AreFrames frames → AreFrames others → AreFrames (frames ++ others)
+pub both : (frames others : List Frame) → AreFrames frames → AreFrames others → AreFrames (frames ++ others)
 both [] others a b = b
 both (f ∷ frames) others a b = (a.0, both frames others a.1 b)
 

@@ -1,2 +1,10 @@
 pub mod Fronting
 pub mod Cuttings
+pub mod Pushings
+pub mod Hearings
+pub mod Givings
+pub mod Losses
+pub mod Judgements
+pub mod Takings
+pub mod Puttings
+pub mod Pieces

@@ -1,3 +1,9 @@
 pub mod Frames
 pub mod Fronts
 pub mod Cutting
+pub mod Sending
+pub mod Receiving
+pub mod States
+pub mod Laws
+pub mod Runs
+pub mod Reading

@@ -24,7 +24,7 @@ few_held few k l h = record {
   filled = append-nil (enc 8 (num (few ++ replicate k false))) ∙ ap (λ n. enc n (num (few ++ replicate k false))) (sym l) ∙ enc-num (few ++ replicate k false);
 }
 
-octets_held : (bits : List Bool) → Holds (octets_of bits) bits
+pub octets_held : (bits : List Bool) → Holds (octets_of bits) bits
 octets_held [] = record { octets_fit = IsBytes-nil; padding = 0; few = omega arith; filled = refl }
 octets_held (a ∷ []) = few_held (a ∷ []) 7 refl (omega arith)
 octets_held (a ∷ b ∷ []) = few_held (a ∷ b ∷ []) 6 refl (omega arith)

@@ -1,11 +1,10 @@
 -- What `advise` prints (docs/FORMATS.md). Of its words the first line is claimed; the others are tested.
-use Rattle.std.specs.Prelude.{◌≡◌, ℕ, ◌+◌, List, [], ◌∷◌, ◌++◌, codes, decimal, Option, None, Some, option_map, unwrap_or}
+use Rattle.std.specs.Prelude.{◌≡◌, ℕ, ◌+◌, List, [], ◌∷◌, ◌++◌, codes, decimal, option_map, unwrap_or}
 use Rattle.fn_normal.specs.declared.profile.Field.{Field}
 use Rattle.fn_normal.specs.declared.profile.Format.{Format}
 use Rattle.fn_normal.specs.declared.profile.Method.{Method}
 use Rattle.fn_normal.specs.declared.profile.Part.{Part}
 use Rattle.fn_normal.specs.declared.profile.Part.TheVariants.{Header, Control, Local}
-use Rattle.fn_stats.specs.declared.trending.Trends.{Trends}
 use Rattle.rohcfn_names.specs.Names.{format_at}
 
 -- how many fields stand before the first local one
@@ -30,6 +29,6 @@ head_line items lost = codes "items " ++ decimal items ++ codes " lost " ++ deci
 abbrev pub GoesOn : List ℕ → List ℕ → Type 0
 GoesOn old new = (more : List ℕ) × (new ≡ old ++ more)
 
--- the text of trends begins with that line
-abbrev pub IsAdviceText : Trends → List ℕ → Type 0
-IsAdviceText t text = GoesOn (head_line t.items t.lost) text
+-- the text of so many items begins with that line
+abbrev pub IsAdviceText : ℕ → ℕ → List ℕ → Type 0
+IsAdviceText items lost text = GoesOn (head_line items lost) text

@@ -1,5 +1,6 @@
 pub mod BitTexts
 pub mod Fields
+pub mod Counted
 pub mod Stats
 pub mod StatsSteps
 pub mod Advise

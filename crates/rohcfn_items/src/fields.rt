@@ -77,14 +77,14 @@ fn add_rows(
 }
 
 /// Two blanks more.
-pub(crate) fn further_in(alloc: Global, indent: &str) -> Result<String, AllocError>
+fn further_in(alloc: Global, indent: &str) -> Result<String, AllocError>
     ensures { IfOk result (λ text. string_bytes text ≡ indent.now ++ codes "  ") }
 {
     format!(in alloc; "{indent}  ")
 }
 
 /// How a field of a format is encoded, where there is such a field.
-pub(crate) fn encoding_at(
+pub fn encoding_at(
     methods: &[Method],
     method: usize,
     format: usize,
@@ -97,7 +97,7 @@ pub(crate) fn encoding_at(
 }
 
 /// The method that a field calls.
-pub(crate) fn callee(encoding: Option<&Encoding>) -> Option<usize>
+pub fn callee(encoding: Option<&Encoding>) -> Option<usize>
     ensures { result ≡ spec.callee (option_copied encoding.entry) }
 {
     match encoding {
@@ -125,7 +125,7 @@ fn field_row(
     Ok(row)
 }
 
-pub(crate) fn name_cell(alloc: Global, indent: &str, name: &str) -> Result<Cell, AllocError>
+fn name_cell(alloc: Global, indent: &str, name: &str) -> Result<Cell, AllocError>
     ensures { IfOk result (λ cell. cell ≡ indent.now ++ name.now) }
 {
     let text = format!(in alloc; "{indent}{name}")?;
@@ -148,7 +148,8 @@ fn format_of(inner: &Option<Filling>) -> Option<usize>
     }
 }
 
-pub(crate) fn part_word(part: Part) -> &'static str
+/// The part of a packet's field, as it is printed.
+pub fn part_word(part: Part) -> &'static str
     ensures { result.now ≡ spec.part_word part }
 {
     match part {
@@ -188,7 +189,8 @@ fn encoding_cell(
     }
 }
 
-fn library_word(library: &Library) -> &'static str
+/// A library method by its name.
+pub fn library_word(library: &Library) -> &'static str
     ensures { result.now ≡ spec.library_word library.now }
 {
     match library {

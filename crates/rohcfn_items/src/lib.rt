@@ -1,6 +1,7 @@
 //! What is told of items and packets: `fields` prints the fields of a filling, `stats` what formats and fields cost, and `why` the reasons of a refusal.
 #![tactic(auto)]
 
+pub mod advice;
 pub mod advise;
 mod asked;
 pub mod avoided;
@@ -9,5 +10,5 @@ pub mod inside;
 pub mod loss;
 pub mod reach;
 pub mod stats;
-mod step;
+pub mod step;
 pub mod why;

@@ -9,14 +9,14 @@ use fn_loss::{Referring, Unserved};
 
 /// The step of a number, and the first and the last step that are taken.
 #[derive(Clone, Copy)]
-pub(crate) struct Step {
-    pub(crate) step: i128,
-    pub(crate) from: i128,
-    pub(crate) to: i128,
+pub struct Step {
+    pub step: i128,
+    pub from: i128,
+    pub to: i128,
 }
 
 /// The step of a use of `lsb` that doesn't serve, where the reference has as many bits as the field, 64 at most, and the arguments are of that size.
-pub(crate) fn step_of(unserved: &Unserved) -> Option<Step>
+pub fn step_of(unserved: &Unserved) -> Option<Step>
     ensures { result ≡ spec.step_of unserved.now }
 {
     match (unserved.method, &unserved.reference) {

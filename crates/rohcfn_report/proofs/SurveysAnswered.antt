@@ -5,7 +5,7 @@ use Rattle.fn_context.specs.Entries.{Entries}
 use Rattle.rohcfn_input.specs.declared.inputs.BadLine.{BadLine}
 use Rattle.rohcfn_input.specs.declared.inputs.BadLine.TheVariants as bad
 use Rattle.rohcfn_input.specs.Inputs.{BlamesContext, StartsAt}
-use Rattle.std.specs.Prelude.{Option, Some, None, Result, Ok, Err, IfOk}
+use Rattle.std.specs.Prelude.{Option, Some, None, Result, Ok, Err, IfOk, string_bytes}
 use Rattle.std.specs.declared.alloc.AllocError.{AllocError}
 use Rattle.fn_names.specs.Readings.{Reads}
 use Rattle.fn_profile.specs.Resolved.{Resolved}
@@ -13,8 +13,9 @@ use Rattle.rohcfn_input.specs.declared.status.Answer.{Answer}
 use Rattle.rohcfn_input.specs.declared.status.Status.TheVariants as status
 use Rattle.rohcfn_input.specs.Refusals.{IsRefusal, context_line}
 use Rattle.rohcfn_input.proofs.RefusalsHeld.{refusal_is}
+use Rattle.rohcfn_json.specs.Drawing.{drawn_objects}
 use Rattle.rohcfn_report.specs.ProfileLines.{IsFaultLine}
-use Rattle.rohcfn_report.specs.Surveys.{LintedBy, LintedIn, Lints, LintsBy, by_form, linted, no_context, no_lint, DrawnBy, Draws, drawn_by, no_drawing}
+use Rattle.rohcfn_report.specs.Surveys.{LintedBy, LintedIn, Lints, LintsBy, by_form, linted, no_context, no_lint, DrawnBy, Draws, drawn_by, no_drawing, DrawnObjects, DrawsObjects, no_objects, objects_by}
 use Rattle.rohcfn_survey.specs.Draw.{DrawsProfile, drawn}
 use Rattle.rohcfn_survey.specs.Lint.{LintsProfile, lint_text}
 use Rattle.rohcfn_survey.specs.Meant.{silenced}
@@ -55,3 +56,14 @@ profile_drawn top name octets p (Ok a) n h k =
 
 pub refused_drawing : (top name profile text written : List ℕ) (r : Result Answer AllocError) → name ≡ top → IsFaultLine name profile text → written ≡ text → IfOk r (IsRefusal written) → IfOk r (Draws top profile)
 refused_drawing top name profile text written r n h e g = refusal_is (DrawnBy top profile) text written r (no_drawing text (subst (λ x. IsFaultLine x profile text) n h)) e g
+
+-- ---- as objects
+
+pub objects_drawn : (top name octets : List ℕ) (p : Resolved) (r : Result Answer AllocError) → name ≡ top → Reads octets name p → IfOk r (λ a. a.status ≡ status.Done) → IfOk r (λ a. string_bytes a.output ≡ drawn_objects p) → IfOk r (DrawsObjects top octets)
+objects_drawn top name octets p (Err e) n h s k = tt
+objects_drawn top name octets p (Ok a) n h s k =
+    let reads : Reads octets top p = let Q : List ℕ → Type 0 = λ x. Reads octets x p in subst Q n h in
+    subst (λ out. DrawnObjects top octets a.status out) (sym k) (subst (λ s. DrawnObjects top octets s (drawn_objects p)) (sym s) (objects_by p reads))
+
+pub refused_objects : (top name profile text written : List ℕ) (r : Result Answer AllocError) → name ≡ top → IsFaultLine name profile text → written ≡ text → IfOk r (IsRefusal written) → IfOk r (DrawsObjects top profile)
+refused_objects top name profile text written r n h e g = refusal_is (DrawnObjects top profile) text written r (no_objects text (subst (λ x. IsFaultLine x profile text) n h)) e g

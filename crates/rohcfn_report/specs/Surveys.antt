@@ -13,6 +13,7 @@ use Rattle.rohcfn_input.specs.declared.status.Status.TheVariants as status
 use Rattle.rohcfn_input.specs.Inputs.{IsBadContext, StartsAt}
 use Rattle.rohcfn_input.specs.Refusals.{Holds, context_line}
 use Rattle.rohcfn_report.specs.ProfileLines.{IsFaultLine}
+use Rattle.rohcfn_json.specs.Drawing.{drawn_objects}
 use Rattle.rohcfn_survey.specs.Draw.{drawn}
 use Rattle.rohcfn_survey.specs.Lint.{lint_text}
 use Rattle.rohcfn_survey.specs.Meant.{silenced}
@@ -48,3 +49,11 @@ pub data DrawnBy (top octets : List ℕ) : Status → List ℕ → Type 0 where
 
 abbrev pub Draws : List ℕ → List ℕ → Answer → Type 0
 Draws top octets = Holds (DrawnBy top octets)
+
+-- The same as objects.
+pub data DrawnObjects (top octets : List ℕ) : Status → List ℕ → Type 0 where
+  no_objects : (text : List ℕ) → IsFaultLine top octets text → DrawnObjects top octets status.Refused (text ++ 10 ∷ [])
+  objects_by : (p : Resolved) → Reads octets top p → DrawnObjects top octets status.Done (drawn_objects p)
+
+abbrev pub DrawsObjects : List ℕ → List ℕ → Answer → Type 0
+DrawsObjects top octets = Holds (DrawnObjects top octets)

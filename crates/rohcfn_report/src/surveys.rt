@@ -1,7 +1,8 @@
 //! What is answered to `lint` and to `draw`.
 
-ghost use Rattle.std.specs.Prelude.{IfOk};
-ghost use Rattle.rohcfn_report.specs.Surveys.{Draws, Lints, LintsBy};
+ghost use Rattle.std.specs.Prelude.{◌≡◌, IfOk, string_bytes};
+ghost use Rattle.rohcfn_json.specs.Drawing.{drawn_objects};
+ghost use Rattle.rohcfn_report.specs.Surveys.{Draws, DrawsObjects, Lints, LintsBy};
 
 use crate::show::error_line;
 use fn_names::read;
@@ -9,7 +10,8 @@ use fn_profile::Profile;
 use rohcfn_input::bundle::Parts;
 use rohcfn_input::inputs::{BadLine, read_context};
 use rohcfn_input::refusals::{context_line, refusal};
-use rohcfn_input::status::Answer;
+use rohcfn_input::status::{Answer, Status};
+use rohcfn_json::drawing::drawn_objects;
 use rohcfn_survey::draw::draw_profile;
 use rohcfn_survey::lint::lint_profile;
 use std::alloc::{AllocError, Global};
@@ -63,4 +65,28 @@ pub fn answer_draw(alloc: Global, top: &str, octets: &[u8]) -> Result<Answer, Al
             refusal(alloc, line.as_str())
         }
     }
+}
+
+/// The objects of each format's packed bits; for a profile with a fault its line.
+pub fn draw_objects(alloc: Global, top: &str, octets: &[u8]) -> Result<Answer, AllocError>
+    ensures { IfOk result (DrawsObjects top.now octets.now) }
+{
+    match read(alloc, octets, top.as_bytes()) {
+        Ok(profile) => drawn(alloc, &profile),
+        Err(error) => {
+            let line = error_line(alloc, octets, error)?;
+            refusal(alloc, line.as_str())
+        }
+    }
+}
+
+fn drawn(alloc: Global, profile: &Profile) -> Result<Answer, AllocError>
+    ensures status { IfOk result (λ a. a.status ≡ Status.Done) }
+    ensures output { IfOk result (λ a. string_bytes a.output ≡ drawn_objects profile.now) }
+{
+    let output = drawn_objects(alloc, profile)?;
+    Ok(Answer {
+        status: Status::Done,
+        output,
+    })
 }

@@ -2,6 +2,8 @@ pub mod ProgramEndings
 pub mod EventWords
 pub mod LineFlowing
 pub mod LinePieces
+pub mod FrameFlowing
+pub mod FramePieces
 pub mod PrintedOtherLines
 pub mod PacketLines
 pub mod ProgramBytes

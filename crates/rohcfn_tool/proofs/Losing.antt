@@ -16,8 +16,8 @@ use Rattle.fn_stats.proofs.SumsGrowing.{tally_more}
 use Rattle.rohcfn_input.specs.Refusals as refusals
 use Rattle.rohcfn_input.specs.declared.status.Answer.{Answer}
 use Rattle.rohcfn_input.specs.declared.status.Status.TheVariants as status
-use Rattle.rohcfn_items.specs.Loss.{loss_text}
-use Rattle.rohcfn_tool.specs.Loss.{Loses, none_left, one_lost, IsLossFault, refused_now, refused_later, LossBy, losses_told, item_refused, IsLost, IsRefusedLoss, IsPrintedLoss}
+use Rattle.rohcfn_words.specs.declared.words.Form.{Form}
+use Rattle.rohcfn_tool.specs.Loss.{Loses, none_left, one_lost, IsLossFault, refused_now, refused_later, LossBy, losses_told, item_refused, IsLost, IsRefusedLoss, IsPrintedLoss, losses_in}
 use Rattle.rohcfn_tool.specs.Senders.{Blames, own_of}
 use Rattle.rohcfn_tool.specs.declared.sender.Sender.{Sender}
 
@@ -63,24 +63,24 @@ module _ (a : Accepting) (most : ℕ) (start : Sender) (items : List Item) where
             so.fails_on text (subst (λ xs. IsLossFault a s (i + 1) xs text) (sym here) one);
       }
 
-  pub fault_here : (i : ℕ) (d x : Item) (s : Sender) (held : List Entries) (t : Tally) (j : Journal) (e : RobustFault) (r : Result Answer AllocError) → i < length items → x ≡ get_or items i d
-      → LosesSoFar a most start items i s held t j → Blames e a s x → IfOk r (IsRefusedLoss e (i + 1)) → IfOk r (refusals.Holds (LossBy most a start items))
-  fault_here i d x s held t j e (Err w) lt is so blamed told = tt
-  fault_here i d x s held t j e (Ok answer) lt is so blamed told =
+  pub fault_here : (form : Form) (i : ℕ) (d x : Item) (s : Sender) (held : List Entries) (t : Tally) (j : Journal) (e : RobustFault) (r : Result Answer AllocError) → i < length items → x ≡ get_or items i d
+      → LosesSoFar a most start items i s held t j → Blames e a s x → IfOk r (IsRefusedLoss e (i + 1)) → IfOk r (refusals.Holds (LossBy form most a start items))
+  fault_here form i d x s held t j e (Err w) lt is so blamed told = tt
+  fault_here form i d x s held t j e (Ok answer) lt is so blamed told =
       let here : drop i items ≡ x ∷ drop (i + 1) items = drop_more items i d lt ∙ ap (λ y. y ∷ drop (i + 1) items) (sym is) in
       let one : IsLossFault a s (i + 1) (x ∷ drop (i + 1) items) told.0 = refused_now (e, blamed, told.1, told.2) in
-      let all : LossBy most a start items status.Refused (told.0 ++ 10 ∷ []) = item_refused told.0 (so.fails_on told.0 (subst (λ xs. IsLossFault a s (i + 1) xs told.0) (sym here) one)) in
-      subst (λ st. LossBy most a start items st (string_bytes answer.output)) (sym told.3.status_is) (subst (λ z. LossBy most a start items status.Refused z) (sym told.3.line_is) all)
+      let all : LossBy form most a start items status.Refused (told.0 ++ 10 ∷ []) = item_refused told.0 (so.fails_on told.0 (subst (λ xs. IsLossFault a s (i + 1) xs told.0) (sym here) one)) in
+      subst (λ st. LossBy form most a start items st (string_bytes answer.output)) (sym told.3.status_is) (subst (λ z. LossBy form most a start items status.Refused z) (sym told.3.line_is) all)
 
-  pub ending : (i : ℕ) (s : Sender) (held : List Entries) (t : Tally) (j : Journal) (r : Result Answer AllocError) → length items ≤ i → LosesSoFar a most start items i s held t j
-      → IfOk r (IsPrintedLoss a most t j) → IfOk r (refusals.Holds (LossBy most a start items))
-  ending i s held t j (Err w) le so told = tt
-  ending i s held t j (Ok answer) le so told =
+  pub ending : (form : Form) (i : ℕ) (s : Sender) (held : List Entries) (t : Tally) (j : Journal) (r : Result Answer AllocError) → length items ≤ i → LosesSoFar a most start items i s held t j
+      → IfOk r (IsPrintedLoss form a most t j) → IfOk r (refusals.Holds (LossBy form most a start items))
+  ending form i s held t j (Err w) le so told = tt
+  ending form i s held t j (Ok answer) le so told =
       let rest : Loses a most s held (i + 1) (drop i items) [] [] = subst (λ xs. Loses a most s held (i + 1) xs [] []) (sym (drop_all i items le)) none_left in
       let whole : Loses a most start (own_of start ∷ []) 1 items so.fillings so.entries =
       subst (λ z. Loses a most start (own_of start ∷ []) 1 items so.fillings z) (append-nil so.entries)
       (subst (λ z. Loses a most start (own_of start ∷ []) 1 items z (so.entries ++ [])) (append-nil so.fillings) (so.goes_on [] [] rest)) in
       let all = losses_told so.fillings so.entries j whole so.journal_is in
-      let text : string_bytes answer.output ≡ loss_text a.profile.methods a.profile.top most (tally so.fillings) j.readings j.cases ++ 10 ∷ [] =
-      told.output_is ∙ ap (λ z. loss_text a.profile.methods a.profile.top most z j.readings j.cases ++ 10 ∷ []) so.tally_is in
-      subst (λ st. LossBy most a start items st (string_bytes answer.output)) (sym told.status_is) (subst (λ z. LossBy most a start items status.Done z) (sym text) all)
+      let text : string_bytes answer.output ≡ losses_in form a most (tally so.fillings) j ++ 10 ∷ [] =
+      told.output_is ∙ ap (λ z. losses_in form a most z j ++ 10 ∷ []) so.tally_is in
+      subst (λ st. LossBy form most a start items st (string_bytes answer.output)) (sym told.status_is) (subst (λ z. LossBy form most a start items status.Done z) (sym text) all)

@@ -13,8 +13,10 @@ use Rattle.fn_stats.specs.Trends.{AddsFilling, AreTrends}
 use Rattle.fn_stats.specs.declared.trending.Trends.{Trends}
 use Rattle.rohcfn_input.specs.declared.status.Answer.{Answer}
 use Rattle.rohcfn_input.specs.declared.status.Status.TheVariants as status
-use Rattle.rohcfn_items.specs.Advise.{IsAdviceText, shared_fields}
-use Rattle.rohcfn_tool.specs.Advise.{AdvisedBy, AdvisesItems, IsPrintedAdvice, Traces, TracesItem, advised_by, none_traced, one_traced, one_untraced, traces_packed, traces_refused}
+use Rattle.rohcfn_items.specs.Advise.{shared_fields}
+use Rattle.rohcfn_items.specs.declared.advice.Advice.{Advice}
+use Rattle.rohcfn_words.specs.declared.words.Form.{Form}
+use Rattle.rohcfn_tool.specs.Advise.{AdvisedBy, AdvisesItems, IsAdvice, IsPrintedAdvice, Traces, TracesItem, advised_by, none_traced, one_traced, one_untraced, traces_packed, traces_refused}
 use Rattle.rohcfn_tool.specs.Printed.{IsRefusedBelow}
 use Rattle.rohcfn_tool.specs.Senders.{Blames, Sends}
 use Rattle.rohcfn_tool.specs.declared.sender.Sender.{Sender}
@@ -51,15 +53,15 @@ module _ (a : Accepting) (start : Sender) (items : List Item) (count lost : ℕ)
             subst (λ r. Traces a start 1 items [] whole r) (sym (append_assoc refused (10 ∷ text) rest) ∙ ap (λ r. r ++ rest) (sym grown)) all;
       }
 
-  pub traced_end : (i : ℕ) (now : Sender) (trends : Trends) (refused lines : List ℕ) (r : Result Answer AllocError) → length items ≤ i → TracedSoFar a start items count lost i now trends refused → lines ≡ refused → count ≡ shared_fields a.profile.methods a.profile.top
-      → IfOk r (IsPrintedAdvice trends lines) → IfOk r (AdvisesItems lost a start items)
-  traced_end i now trends refused lines (Err e) h so all all_fields is = tt
-  traced_end i now trends refused lines (Ok told) h so all all_fields is =
+  pub traced_end : (form : Form) (i : ℕ) (now : Sender) (trends : Trends) (refused lines : List ℕ) (r : Result Answer AllocError) → length items ≤ i → TracedSoFar a start items count lost i now trends refused → lines ≡ refused → count ≡ shared_fields a.profile.methods a.profile.top
+      → IfOk r (IsPrintedAdvice form trends lines) → IfOk r (AdvisesItems form lost a start items)
+  traced_end form i now trends refused lines (Err e) h so all all_fields is = tt
+  traced_end form i now trends refused lines (Ok told) h so all all_fields is =
       let last : Traces a now (i + 1) (drop i items) so.fillings so.fillings [] = subst (λ xs. Traces a now (i + 1) xs so.fillings so.fillings []) (sym (drop_all i items h)) none_traced in
       let steps : Traces a start 1 items [] so.fillings refused = subst (λ r. Traces a start 1 items [] so.fillings r) (append-nil refused) (so.goes_on so.fillings [] last) in
       let trended : AreTrends (shared_fields a.profile.methods a.profile.top) lost so.fillings trends = subst (λ n. AreTrends n lost so.fillings trends) all_fields so.trends_are in
       let text : string_bytes told.output ≡ is.text ++ refused ++ 10 ∷ [] = is.output_is ∙ ap (λ l. is.text ++ l ++ 10 ∷ []) all in
-      subst (λ s. AdvisedBy lost a start items s (string_bytes told.output)) (sym is.status_is) (subst (AdvisedBy lost a start items status.Done) (sym text) (advised_by so.fillings refused trends is.text steps trended is.text_is))
+      subst (λ s. AdvisedBy form lost a start items s (string_bytes told.output)) (sym is.status_is) (subst (AdvisedBy form lost a start items status.Done) (sym text) (advised_by so.fillings refused trends is.text steps trended is.text_is))
 
 -- ---- one item
 
@@ -71,5 +73,10 @@ pub one_refused : {T : Type 0} (a : Accepting) (old new : Sender) (trends : Tren
 one_refused a old new trends above below n it e (Err x) same blames is = tt
 one_refused a old new trends above below n it e (Ok x) same blames is = traces_refused is.0 (e, blames, is.1, is.2) same refl is.3
 
-pub advice_printed : (trends : Trends) (text refused : List ℕ) (output : String Global) → IsAdviceText trends text → string_bytes output ≡ text ++ refused ++ 10 ∷ [] → IsPrintedAdvice trends refused record { status = status.Done; output = output }
-advice_printed trends text refused output is grown = record { text = text; text_is = is; status_is = refl; output_is = grown }
+pub advice_printed : (form : Form) (trends : Trends) (advice : Advice) (text refused : List ℕ) (output : String Global) → advice.items ≡ trends.items → advice.lost ≡ trends.lost → IsAdvice form advice text → string_bytes output ≡ text ++ refused ++ 10 ∷ [] → IsPrintedAdvice form trends refused record { status = status.Done; output = output }
+advice_printed form trends advice text refused output items lost is grown = record {
+  text = text;
+  text_is = record { advice = advice; items_are = items; lost_is = lost; told = is };
+  status_is = refl;
+  output_is = grown;
+}

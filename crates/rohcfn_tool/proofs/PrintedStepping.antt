@@ -32,8 +32,8 @@ use Rattle.rohcfn_tool.specs.declared.packets.Shape.TheVariants.{Line, Tree, Why
 -- what is printed of the filling that was written is said of the item
 written_says : (shape : Shape) (a : Accepting) (ctx : Entries) (before after : List ℕ) (n : ℕ) (it : Item) (w : Packed) → writing.IsPacked a ctx it w → IsWrittenText shape a n w.packed w.filling before after → HasLine (SaysItem shape a ctx n it w.filling) before after
 written_says Line a ctx before after n it w is text = (text.0, record { best = is.best; spelled = subst (IsText text.0) is.packed_is text.1 }, text.2)
-written_says Tree a ctx before after n it w is text =
-    (text.0, record { best = is.best; listed = text.1 ∙ ap (λ bits. tree_text a (codes "item") n (length bits) w.filling) is.packed_is }, text.2)
+written_says (Tree form) a ctx before after n it w is text =
+    (text.0, record { best = is.best; listed = text.1 ∙ ap (λ bits. tree_text form a (codes "item") n (length bits) w.filling) is.packed_is }, text.2)
 written_says (Why profile) a ctx before after n it w is text =
     (text.0, record { best = is.best; said = text.1 ∙ ap (λ bits. head_of a (codes "item") n (length bits) w.filling) is.packed_is }, text.2)
 
@@ -61,8 +61,8 @@ found_says : (shape : Shape) (a : Accepting) (ctx : Entries) (before after : Lis
     → IsFoundText shape a (codes "packet") n r.bits r.filling before after → HasLine (SaysPacket shape a ctx n packet r.filling) before after
 found_says Line a ctx before after n packet r fits bits_is text =
     (text.0, record { fits = fits; taken = subst (λ k. IsTaken (item r.filling) k text.0) bits_is text.1 }, text.2)
-found_says Tree a ctx before after n packet r fits bits_is text =
-    (text.0, record { fits = fits; listed = text.1 ∙ ap (λ k. tree_text a (codes "packet") n k r.filling) bits_is }, text.2)
+found_says (Tree form) a ctx before after n packet r fits bits_is text =
+    (text.0, record { fits = fits; listed = text.1 ∙ ap (λ k. tree_text form a (codes "packet") n k r.filling) bits_is }, text.2)
 found_says (Why profile) a ctx before after n packet r fits bits_is text =
     (text.0, record { fits = fits; said = text.1 ∙ ap (λ k. head_of a (codes "packet") n k r.filling) bits_is }, text.2)
 

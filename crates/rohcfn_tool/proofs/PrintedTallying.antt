@@ -27,16 +27,16 @@ use Rattle.rohcfn_input.specs.declared.status.Status.TheVariants as status
 use Rattle.fn_stats.specs.Adding.{Adds}
 use Rattle.fn_stats.specs.declared.summing.Sums.{out-Sums}
 use Rattle.rohcfn_input.proofs.RefusalsHeld.{refusal_is}
-use Rattle.rohcfn_items.specs.Stats.{stats_text}
 use Rattle.rohcfn_names.specs.Names.{format_name}
 use Rattle.rohcfn_words.specs.declared.words.Counting.{Counting}
 use Rattle.rohcfn_words.specs.declared.words.Direction.TheVariants.{Pack}
+use Rattle.rohcfn_words.specs.declared.words.Form.{Form}
 use Rattle.rohcfn_tool.specs.declared.stats.Survey.{Survey}
 use Rattle.rohcfn_tool.proofs.SenderLemmas.{sent_anywhere}
 use Rattle.rohcfn_tool.specs.Senders.{Blames, IsSenderFault, Sends}
 use Rattle.rohcfn_tool.specs.declared.sender.Sender.{Sender}
 use Rattle.rohcfn_tool.specs.declared.stats.Told.{Told}
-use Rattle.rohcfn_tool.specs.Printed.{AddsPacked, CountsItem, CountsItems, IsCountsText, IsPrintedStats, IsRefusedBelow, Packs, StatsBy, StatsFor, StatsIn, TellsOf, bad_entry, bad_item, bad_line_text, counted_by, counted_status, counts_packed, counts_refused, counts_text, fillings_in, item_row, packs_none, packs_one, refuses_one, row_heads, row_of, row_text, rows_of}
+use Rattle.rohcfn_tool.specs.Printed.{AddsPacked, CountsItem, CountsItems, IsCountsText, IsPrintedStats, IsRefusedBelow, Packs, StatsBy, StatsFor, StatsIn, TellsOf, bad_entry, bad_item, bad_line_text, counted_by, counted_status, counts_packed, counts_refused, counted_in, counts_text, fillings_in, heads_of, item_row, packs_none, packs_one, refuses_one, row_in, row_of, rows_of}
 
 -- what is told so far is of the items so far: whatever comes of the others, all together come of all
 pub record CountedSoFar (a : Accepting) (how : Counting) (start : Sender) (items : List Item) (i : ℕ) (ctx : Sender) (told : Told) : Type 0 where
@@ -45,9 +45,9 @@ pub record CountedSoFar (a : Accepting) (how : Counting) (start : Sender) (items
   pub goes_on : (fs : List (ℕ × Filling)) (rest : List ℕ) → Packs a ctx (i + 1) (drop i items) fs rest → Packs a start 1 items (fillings ++ fs) (string_bytes told.refused ++ rest)
 
 -- the rows of some fillings and of one more
-rows_more : (a : Accepting) (xs : List (ℕ × Filling)) (x : ℕ × Filling) → rows_of a (xs ++ x ∷ []) ≡ rows_of a xs ++ row_of a x
-rows_more a [] x = append-nil (row_of a x)
-rows_more a (y ∷ ys) x = ap (λ r. row_of a y ++ r) (rows_more a ys x) ∙ sym (append_assoc (row_of a y) (rows_of a ys) (row_of a x))
+rows_more : (form : Form) (a : Accepting) (xs : List (ℕ × Filling)) (x : ℕ × Filling) → rows_of form a (xs ++ x ∷ []) ≡ rows_of form a xs ++ row_of form a x
+rows_more form a [] x = append-nil (row_of form a x)
+rows_more form a (y ∷ ys) x = ap (λ r. row_of form a y ++ r) (rows_more form a ys x) ∙ sym (append_assoc (row_of form a y) (rows_of form a ys) (row_of form a x))
 
 fillings_more : (xs : List (ℕ × Filling)) (x : ℕ × Filling) → fillings_in (xs ++ x ∷ []) ≡ fillings_in xs ++ x.1 ∷ []
 fillings_more [] x = refl
@@ -56,7 +56,7 @@ fillings_more (y ∷ ys) x = ap (λ r. y.1 ∷ r) (fillings_more ys x)
 tells_more : (a : Accepting) (how : Counting) (n : ℕ) (p : Packed) (s after : Sender) (it : Item) (xs : List (ℕ × Filling)) (old new : Told) → Sends a s it p after → AddsPacked a how n p old new → TellsOf a how xs old → TellsOf a how (xs ++ (n, p.filling) ∷ []) new
 tells_more a how n p s after it xs old new sent adds tells = record {
   sums_are = subst (λ fs. AreSums fs new.sums) (sym (fillings_more xs (n, p.filling))) (adds.adds (fillings_in xs) tells.sums_are);
-  rows_are = λ lists. adds.row lists ∙ (λ i. tells.rows_are lists i ++ row_text n (format_name a.profile.methods a.profile.top (out-Filling p.filling).format) (length ((sent_anywhere a s after it p sent).packed_is i))) ∙ sym (rows_more a xs (n, p.filling));
+  rows_are = λ lists. adds.row lists ∙ (λ i. tells.rows_are lists i ++ row_in how.form n (format_name a.profile.methods a.profile.top (out-Filling p.filling).format) (length ((sent_anywhere a s after it p sent).packed_is i))) ∙ sym (rows_more how.form a xs (n, p.filling));
 }
 
 module _ (a : Accepting) (how : Counting) (start : Sender) (items : List Item) where
@@ -121,22 +121,22 @@ pub line_below : (e : RobustFault) (n : ℕ) (above mid below line text : List �
 line_below e n above mid below line text is single begun same grown = (line, is, single, grown ∙ (λ j. begun j ++ same j) ∙ append_assoc above (10 ∷ []) line)
 
 -- the text of what is told: the sums, or the rows below their heads
-sums_are_told : (a : Accepting) (how : Counting) (p : Resolved) (methods : List Method) (top : ℕ) (told : Told) (text : List ℕ) → how.lists_items ≡ false → p ≡ a.profile → methods ≡ p.methods → top ≡ p.top → ((fs : List Filling) → AreSums fs told.sums → text ≡ stats_text methods top fs) → IsCountsText a how told text
+sums_are_told : (a : Accepting) (how : Counting) (p : Resolved) (methods : List Method) (top : ℕ) (told : Told) (text : List ℕ) → how.lists_items ≡ false → p ≡ a.profile → methods ≡ p.methods → top ≡ p.top → ((fs : List Filling) → AreSums fs told.sums → text ≡ counted_in how.form methods top fs) → IsCountsText a how told text
 sums_are_told a how p methods top told text plain same all first is fs tells =
     let methods_are : methods ≡ a.profile.methods = all ∙ ap (λ (q : Resolved). q.methods) same in
     let top_is : top ≡ a.profile.top = first ∙ ap (λ (q : Resolved). q.top) same in
-    is (fillings_in fs) tells.sums_are ∙ (λ j. stats_text (methods_are j) (top_is j) (fillings_in fs)) ∙ (λ j. if sym plain j then row_heads ++ rows_of a fs else stats_text a.profile.methods a.profile.top (fillings_in fs))
+    is (fillings_in fs) tells.sums_are ∙ (λ j. counted_in how.form (methods_are j) (top_is j) (fillings_in fs)) ∙ (λ j. if sym plain j then heads_of how.form ++ rows_of how.form a fs else counted_in how.form a.profile.methods a.profile.top (fillings_in fs))
 
-rows_are_told : (a : Accepting) (how : Counting) (told : Told) (rows text : List ℕ) → how.lists_items ≡ true → rows ≡ string_bytes told.rows → text ≡ row_heads ++ rows → IsCountsText a how told text
+rows_are_told : (a : Accepting) (how : Counting) (told : Told) (rows text : List ℕ) → how.lists_items ≡ true → rows ≡ string_bytes told.rows → text ≡ heads_of how.form ++ rows → IsCountsText a how told text
 rows_are_told a how told rows text lists same is fs tells =
-    is ∙ ap (λ r. row_heads ++ r) (same ∙ tells.rows_are lists) ∙ (λ j. if sym lists j then row_heads ++ rows_of a fs else stats_text a.profile.methods a.profile.top (fillings_in fs))
+    is ∙ ap (λ r. heads_of how.form ++ r) (same ∙ tells.rows_are lists) ∙ (λ j. if sym lists j then heads_of how.form ++ rows_of how.form a fs else counted_in how.form a.profile.methods a.profile.top (fillings_in fs))
 
-pub sums_text : (a : Accepting) (how : Counting) (p : Resolved) (methods : List Method) (top : ℕ) (told : Told) (r : Result (String Global) AllocError) → how.lists_items ≡ false → p ≡ a.profile → methods ≡ p.methods → top ≡ p.top → IfOk r (λ text. (fs : List Filling) → AreSums fs told.sums → string_bytes text ≡ stats_text methods top fs)
+pub sums_text : (a : Accepting) (how : Counting) (p : Resolved) (methods : List Method) (top : ℕ) (told : Told) (r : Result (String Global) AllocError) → how.lists_items ≡ false → p ≡ a.profile → methods ≡ p.methods → top ≡ p.top → IfOk r (λ text. (fs : List Filling) → AreSums fs told.sums → string_bytes text ≡ counted_in how.form methods top fs)
     → IfOk r (λ text. IsCountsText a how told (string_bytes text))
 sums_text a how p methods top told (Err e) plain same all first is = tt
 sums_text a how p methods top told (Ok text) plain same all first is = sums_are_told a how p methods top told (string_bytes text) plain same all first is
 
-pub rows_text : (a : Accepting) (how : Counting) (told : Told) (rows : List ℕ) (r : Result (String Global) AllocError) → how.lists_items ≡ true → rows ≡ string_bytes told.rows → IfOk r (λ text. string_bytes text ≡ row_heads ++ rows) → IfOk r (λ text. IsCountsText a how told (string_bytes text))
+pub rows_text : (a : Accepting) (how : Counting) (told : Told) (rows : List ℕ) (r : Result (String Global) AllocError) → how.lists_items ≡ true → rows ≡ string_bytes told.rows → IfOk r (λ text. string_bytes text ≡ heads_of how.form ++ rows) → IfOk r (λ text. IsCountsText a how told (string_bytes text))
 rows_text a how told rows (Err e) lists same is = tt
 rows_text a how told rows (Ok text) lists same is = rows_are_told a how told rows (string_bytes text) lists same is
 
@@ -149,7 +149,7 @@ counts_printed a how told text shown again s output first second status_is is gr
   output_is = grown ∙ ap (λ r. text ++ r ++ 10 ∷ []) first;
 }
 
-pub packed_told : {T : Type 0} (a : Accepting) (how : Counting) (n : ℕ) (p : Packed) (old new : Told) (r : Result T AllocError) → Adds p.filling old.sums new.sums → OnOk r (how.lists_items ≡ true → string_bytes new.rows ≡ string_bytes old.rows ++ item_row a n p) → string_bytes new.refused ≡ string_bytes old.refused → OnOk r (AddsPacked a how n p old new)
+pub packed_told : {T : Type 0} (a : Accepting) (how : Counting) (n : ℕ) (p : Packed) (old new : Told) (r : Result T AllocError) → Adds p.filling old.sums new.sums → OnOk r (how.lists_items ≡ true → string_bytes new.rows ≡ string_bytes old.rows ++ item_row how.form a n p) → string_bytes new.refused ≡ string_bytes old.refused → OnOk r (AddsPacked a how n p old new)
 packed_told a how n p old new (Err e) adds row same = tt
 packed_told a how n p old new (Ok x) adds row same = record { adds = adds; row = row; refused_stays = same }
 

@@ -25,7 +25,12 @@ use Rattle.rohcfn_report.specs.Prove.{ProvedBy}
 use Rattle.rohcfn_report.specs.Prove.ProvedBy.{printed as proved_by_printed, unproved as proved_by_unproved}
 use Rattle.rohcfn_report.specs.Explained.{Explained}
 use Rattle.rohcfn_report.specs.Explained.Explained.{explained as explained_plain}
-use Rattle.rohcfn_report.specs.Surveys.{DrawnBy}
+use Rattle.rohcfn_report.specs.Surveys.{DrawnBy, DrawnObjects}
+use Rattle.rohcfn_report.specs.Surveys.DrawnObjects.{no_objects as drawn_objects_no_objects, objects_by as drawn_objects_objects_by}
+use Rattle.rohcfn_words.specs.declared.words.Form.{Form}
+use Rattle.rohcfn_words.specs.declared.words.Form.TheVariants.{Text, Json}
+use Rattle.rohcfn_tool.specs.Printed.{DrawnAs, Shown}
+use Rattle.rohcfn_tool.specs.Printed.Shown.{shown_as as answers_shown_as}
 use Rattle.rohcfn_report.specs.Surveys.DrawnBy.{drawn_by as drawn_by_drawn, no_drawing as drawn_by_no_drawing}
 use Rattle.rohcfn_report.specs.Surveys.{LintedBy, LintedIn}
 use Rattle.rohcfn_report.specs.Surveys.LintedBy.{by_form as linted_by_by_form, no_lint as linted_by_no_lint}
@@ -74,6 +79,14 @@ use Rattle.rohcfn_tool.specs.Line.AnsweredEvents.{bad_event as answered_events_b
 use Rattle.rohcfn_tool.specs.Line.AnsweredHex.{bad_hex as answered_hex_bad_hex, received_octets as answered_hex_received_octets}
 use Rattle.rohcfn_tool.specs.Line.LinedBy.{not_accepted as lined_by_not_accepted, with_profile as lined_by_with_profile}
 use Rattle.rohcfn_tool.specs.Line.Lined.{by_part as lined_by_part, no_part as lined_no_part}
+use Rattle.rohcfn_tool.specs.Frames as frames
+use Rattle.rohcfn_tool.specs.Frames.PrintsSent.{all_sent as frames_all_sent, one_refused as frames_one_refused}
+use Rattle.rohcfn_tool.specs.Frames.PrintsReceived.{all_received as frames_all_received, up_to_fault as frames_up_to_fault}
+use Rattle.rohcfn_tool.specs.Frames.AnsweredEvents.{bad_event as frames_bad_event, sent_events as frames_sent_events}
+use Rattle.rohcfn_tool.specs.Frames.AnsweredHex.{bad_hex as frames_bad_hex, received_octets as frames_received_octets}
+use Rattle.rohcfn_tool.specs.Frames.FramedBy.{not_accepted as frames_not_accepted, with_profile as frames_with_profile}
+use Rattle.rohcfn_tool.specs.Frames.Framed.{no_part as frames_no_part, by_part as frames_by_part}
+use Rattle.rohcfn_tool.specs.Printed.Answered.{frames_received as answers_frames_received, frames_sent as answers_frames_sent}
 use Rattle.rohcfn_tool.specs.Program.{Fails, ForInput, Gives, RefusesBy, Replies, RunPrints, large_line}
 use Rattle.rohcfn_tool.specs.Program.RunPrints.{answered as run_prints_answered, bad_part as run_prints_bad_part, large as run_prints_large, no_words as run_prints_no_words}
 use Rattle.rohcfn_tool.specs.declared.packets.Shape.{Shape}
@@ -97,7 +110,7 @@ prints_end X says faults stop may shows ctx n _ _ _ (prints_fault text h) = may
 
 may_stop : (shape : Shape) → MayPrint (stop_of shape)
 may_stop Line = tt
-may_stop Tree = tt
+may_stop (Tree form) = tt
 may_stop (Why profile) = tt
 
 input_ends : (direction : Direction) (shape : Shape) (shows : Bool) (a : Accepting) (ctx : Entries) (octets : List ℕ) (s : Status) (output : List ℕ) → PrintsInput direction shape shows a ctx octets s output → MayPrint s
@@ -152,15 +165,43 @@ refused_or : (b : Bool) (s : Status) → MayPrint s → MayPrint (if b then Refu
 refused_or true s ends = tt
 refused_or false s ends = ends
 
+frames_sent_end : (lost : ℕ) (a : Accepting) (events : List Event) (s : Status) (output : List ℕ) → frames.PrintsSent lost a events s output → MayPrint s
+frames_sent_end lost a events _ _ (frames_all_sent octets items ran are) = tt
+frames_sent_end lost a events _ _ (frames_one_refused n e text stopped is single) = tt
+
+frames_heard_end : (a : Accepting) (octets : List ℕ) (s : Status) (output : List ℕ) → frames.PrintsReceived a octets s output → MayPrint s
+frames_heard_end a octets _ _ (frames_all_received found lines received are) = tt
+frames_heard_end a octets _ _ (frames_up_to_fault found lines e text received are is) = tt
+
+frames_events_end : (lost : ℕ) (a : Accepting) (input : List ℕ) (s : Status) (output : List ℕ) → frames.AnsweredEvents lost a input s output → MayPrint s
+frames_events_end lost a input _ _ (frames_bad_event n is) = tt
+frames_events_end lost a input s output (frames_sent_events events are h) = frames_sent_end lost a events s output h
+
+frames_hex_end : (a : Accepting) (input : List ℕ) (s : Status) (output : List ℕ) → frames.AnsweredHex a input s output → MayPrint s
+frames_hex_end a input _ _ (frames_bad_hex none) = tt
+frames_hex_end a input s output (frames_received_octets octets are h) = frames_heard_end a octets s output h
+
+frames_end_ends : (end : End) (lost : ℕ) (a : Accepting) (input : List ℕ) (s : Status) (output : List ℕ) → frames.AnsweredEnd end lost a input s output → MayPrint s
+frames_end_ends Sending lost a input s output h = frames_events_end lost a input s output h
+frames_end_ends Receiving lost a input s output h = frames_hex_end a input s output h
+
+framed_by_ends : (end : End) (lost : ℕ) (top profile : List ℕ) (origin : Origin) (input : List ℕ) (s : Status) (output : List ℕ) → frames.FramedBy end lost top profile origin input s output → MayPrint s
+framed_by_ends end lost top profile origin input _ _ (frames_not_accepted text h) = tt
+framed_by_ends end lost top profile origin input s output (frames_with_profile a accepts h) = frames_end_ends end lost a input s output h
+
+framed_ends : (end : End) (lost : ℕ) (order : Order) (profile : List ℕ) (parts : Parts) (s : Status) (output : List ℕ) → frames.Framed end lost order profile parts s output → MayPrint s
+framed_ends end lost order profile parts _ _ (frames_no_part is) = tt
+framed_ends end lost order profile parts s output (frames_by_part given is h) = framed_by_ends end lost order.top.now profile (origin_of order.version parts.certificate) given.now s output h
+
 stats_by_ends : (a : Accepting) (how : Counting) (who : Sender) (items : List Item) (s : Status) (output : List ℕ) → StatsBy a how who items s output → MayPrint s
 stats_by_ends a how who items _ _ (stats_by_counted fs refused packs) = refused_or (is_above how.most (tally (fillings_in fs)) || (how.needs_all && not (length refused == 0))) Done tt
 
-loss_by_ends : (most : ℕ) (a : Accepting) (who : Sender) (items : List Item) (s : Status) (output : List ℕ) → LossBy most a who items s output → MayPrint s
-loss_by_ends most a who items _ _ (loss_by_told fs es j sent journal) = tt
-loss_by_ends most a who items _ _ (loss_by_refused text h) = tt
+loss_by_ends : (form : Form) (most : ℕ) (a : Accepting) (who : Sender) (items : List Item) (s : Status) (output : List ℕ) → LossBy form most a who items s output → MayPrint s
+loss_by_ends form most a who items _ _ (loss_by_told fs es j sent journal) = tt
+loss_by_ends form most a who items _ _ (loss_by_refused text h) = tt
 
-advised_by_ends : (lost : ℕ) (a : Accepting) (who : Sender) (items : List Item) (s : Status) (output : List ℕ) → AdvisedBy lost a who items s output → MayPrint s
-advised_by_ends lost a who items _ _ (advised_by_fillings fs refused trends text traces are is) = tt
+advised_by_ends : (form : Form) (lost : ℕ) (a : Accepting) (who : Sender) (items : List Item) (s : Status) (output : List ℕ) → AdvisedBy form lost a who items s output → MayPrint s
+advised_by_ends form lost a who items _ _ (advised_by_fillings fs refused trends text traces are is) = tt
 
 avoided_by_ends : (octets name : List ℕ) (a : Accepting) (ctx : Entries) (items : List Item) (s : Status) (output : List ℕ) → AvoidedBy octets name a ctx items s output → MayPrint s
 avoided_by_ends octets name a ctx items _ _ (avoided_by_no_format near none) = tt
@@ -173,12 +214,12 @@ sent_by_ends shape shows a (sent_by_refused text h) = may_stop shape
 
 survey_ends : (what : Survey) (a : Accepting) (ctx : Entries) (items : List Item) (s : Status) (output : List ℕ) → SurveyBy what a ctx items s output → MayPrint s
 survey_ends (survey.Stats how) a ctx items s output h = stats_by_ends a how (Plain ctx) items s output h
-survey_ends (survey.Loss most) a ctx items s output h = loss_by_ends most a (Plain ctx) items s output h
-survey_ends (survey.Advise lost) a ctx items s output h = advised_by_ends lost a (Plain ctx) items s output h
+survey_ends (survey.Loss form most) a ctx items s output h = loss_by_ends form most a (Plain ctx) items s output h
+survey_ends (survey.Advise form lost) a ctx items s output h = advised_by_ends form lost a (Plain ctx) items s output h
 survey_ends (survey.Avoid octets name) a ctx items s output h = avoided_by_ends octets.now name.now a ctx items s output h
 survey_ends (survey.RobustPack shape shows lost) a ctx items s output h = sent_by_ends shape shows a h
 survey_ends (survey.RobustStats lost how) a ctx items s output h = stats_by_ends a how (surviving ctx lost) items s output h
-survey_ends (survey.RobustLoss most lost) a ctx items s output h = loss_by_ends most a (surviving ctx lost) items s output h
+survey_ends (survey.RobustLoss form most lost) a ctx items s output h = loss_by_ends form most a (surviving ctx lost) items s output h
 
 stats_in_ends : (what : Survey) (a : Accepting) (ctx : Entries) (octets : List ℕ) (s : Status) (output : List ℕ) → StatsIn what a ctx octets s output → MayPrint s
 stats_in_ends what a ctx octets _ _ (stats_in_bad_item n h) = tt
@@ -211,6 +252,14 @@ drawn_ends : (top octets : List ℕ) (s : Status) (output : List ℕ) → DrawnB
 drawn_ends top octets _ _ (drawn_by_no_drawing text h) = tt
 drawn_ends top octets _ _ (drawn_by_drawn p reads) = tt
 
+objects_end : (top octets : List ℕ) (s : Status) (output : List ℕ) → DrawnObjects top octets s output → MayPrint s
+objects_end top octets _ _ (drawn_objects_no_objects text h) = tt
+objects_end top octets _ _ (drawn_objects_objects_by p reads) = tt
+
+drawn_as_ends : (form : Form) (top octets : List ℕ) (s : Status) (output : List ℕ) → DrawnAs form top octets s output → MayPrint s
+drawn_as_ends Text top octets s output h = drawn_ends top octets s output h
+drawn_as_ends Json top octets s output h = objects_end top octets s output h
+
 shown_ends : (top octets : List ℕ) (s : Status) (output : List ℕ) → ShownBy top octets s output → MayPrint s
 shown_ends top octets _ _ (shown_by_no_listing text h) = tt
 shown_ends top octets _ _ (shown_by_listed p reads) = tt
@@ -234,30 +283,35 @@ answer_ends : (order : Order) (parts : Parts) (s : Status) (output : List ℕ) �
 answer_ends order parts _ _ (answers_no_profile is) = tt
 answer_ends order parts s output (answers_shown profile is asks h) = shown_ends order.top.now profile.now s output h
 answer_ends order parts s output (answers_linted profile is asks h) = linted_with_ends order profile.now parts s output h
-answer_ends order parts s output (answers_drawn profile is asks h) = drawn_ends order.top.now profile.now s output h
+answer_ends order parts s output (answers_drawn profile is asks h) = drawn_as_ends order.form order.top.now profile.now s output h
 answer_ends order parts s output (answers_checked profile is asks h) = checked_ends order.top.now profile.now (origin_of order.version parts.certificate) s output h
 answer_ends order parts s output (answers_proved profile is asks h) = proved_ends order profile.now s output h
 answer_ends order parts s output (answers_check_explained profile is asks h) =
     explained_ends (CheckedOctets order.top.now profile.now (origin_of order.version parts.certificate)) (λ t out g. checked_ends order.top.now profile.now (origin_of order.version parts.certificate) t out g) s output h
 answer_ends order parts s output (answers_prove_explained profile is asks h) = explained_ends (ProvedOctets order.version order.top.now profile.now) (λ t out g. proved_ends order profile.now t out g) s output h
 answer_ends order parts s output (answers_ran profile direction is asks h) = run_ends direction Line order profile.now parts s output h
-answer_ends order parts s output (answers_told profile direction is asks h) = run_ends direction Tree order profile.now parts s output h
+answer_ends order parts s output (answers_told profile direction is asks h) = run_ends direction (Tree order.form) order profile.now parts s output h
 answer_ends order parts s output (answers_explained profile direction is asks h) = run_ends direction (Why profile) order profile.now parts s output h
 answer_ends order parts s output (answers_lined profile end is asks h) = lined_ends end order profile.now parts s output h
+answer_ends order parts s output (answers_frames_sent profile lost is asks h) = framed_ends Sending lost order profile.now parts s output h
+answer_ends order parts s output (answers_frames_received profile is asks h) = framed_ends Receiving 0 order profile.now parts s output h
 answer_ends order parts s output (answers_stated profile how is asks h) = stated_ends (survey.Stats how) order profile.now parts s output h
-answer_ends order parts s output (answers_advice_told profile lost is asks h) = stated_ends (survey.Advise lost) order profile.now parts s output h
+answer_ends order parts s output (answers_advice_told profile lost is asks h) = stated_ends (survey.Advise order.form lost) order profile.now parts s output h
 answer_ends order parts s output (answers_avoided_told profile is asks h) = stated_ends (survey.Avoid profile order.avoided) order profile.now parts s output h
-answer_ends order parts s output (answers_lost_told profile most is asks h) = stated_ends (survey.Loss most) order profile.now parts s output h
+answer_ends order parts s output (answers_lost_told profile most is asks h) = stated_ends (survey.Loss order.form most) order profile.now parts s output h
 answer_ends order parts s output (answers_robust_packed profile lost is asks h) = stated_ends (survey.RobustPack Line order.shows_context lost) order profile.now parts s output h
 answer_ends order parts s output (answers_robust_explained profile lost is asks h) = stated_ends (survey.RobustPack (Why profile) order.shows_context lost) order profile.now parts s output h
 answer_ends order parts s output (answers_robust_stated profile lost how is asks h) = stated_ends (survey.RobustStats lost how) order profile.now parts s output h
-answer_ends order parts s output (answers_robust_told profile most lost is asks h) = stated_ends (survey.RobustLoss most lost) order profile.now parts s output h
+answer_ends order parts s output (answers_robust_told profile most lost is asks h) = stated_ends (survey.RobustLoss order.form most lost) order profile.now parts s output h
+
+shown_in_ends : (order : Order) (parts : Parts) (s : Status) (output : List ℕ) → Shown order parts s output → MayPrint s
+shown_in_ends order parts s _ (answers_shown_as lines h) = answer_ends order parts s lines h
 
 print_ends : (given : List (List ℕ)) (input : List ℕ) (s : Status) (output : List ℕ) → RunPrints given input s output → MayPrint s
 print_ends given input _ _ (run_prints_large h) = tt
 print_ends given input _ _ (run_prints_bad_part bad short blames) = tt
 print_ends given input _ _ (run_prints_no_words short bundle none) = tt
-print_ends given input s output (run_prints_answered words order parts short bundle is asks holds h) = answer_ends order parts s output h
+print_ends given input s output (run_prints_answered words order parts short bundle is asks holds h) = shown_in_ends order parts s output h
 
 -- ---- some input
 

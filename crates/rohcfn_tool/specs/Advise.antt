@@ -11,6 +11,10 @@ use Rattle.rohcfn_input.specs.declared.status.Answer.{Answer}
 use Rattle.rohcfn_input.specs.declared.status.Status.{Status}
 use Rattle.rohcfn_input.specs.declared.status.Status.TheVariants as status
 use Rattle.rohcfn_items.specs.Advise.{IsAdviceText, shared_fields}
+use Rattle.rohcfn_items.specs.declared.advice.Advice.{Advice}
+use Rattle.rohcfn_json.specs.Advice.{advice_objects}
+use Rattle.rohcfn_words.specs.declared.words.Form.{Form}
+use Rattle.rohcfn_words.specs.declared.words.Form.TheVariants as form
 use Rattle.rohcfn_tool.specs.Senders.{RefusesSent, Sends}
 use Rattle.rohcfn_tool.specs.declared.sender.Sender.{Sender}
 
@@ -23,15 +27,27 @@ pub data Traces (a : Accepting) : Sender → ℕ → List Item → List Filling 
   one_untraced : {s : Sender} {n : ℕ} {it : Item} {items : List Item} {fs whole : List Filling} {refused : List ℕ} (text : List ℕ)
       → RefusesSent a s n it text → Traces a s (n + 1) items fs whole refused → Traces a s n (it ∷ items) fs whole ((10 ∷ text) ++ refused)
 
+-- the text or the objects of what is told
+abbrev pub IsAdvice : Form → Advice → List ℕ → Type 0
+IsAdvice form.Text advice text = IsAdviceText advice.items advice.lost text
+IsAdvice form.Json advice text = text ≡ advice_objects advice
+
+-- of trends: of so many items, where so many may be lost
+pub record IsTold (form : Form) (trends : Trends) (text : List ℕ) : Type 0 where
+  pub advice : Advice
+  pub items_are : advice.items ≡ trends.items
+  pub lost_is : advice.lost ≡ trends.lost
+  pub told : IsAdvice form advice text
+
 -- What `advise` prints for items: what is told of how the fields of the top go on in the fillings of those that are packed, and the lines of the refused.
-pub data AdvisedBy (lost : ℕ) (a : Accepting) (s : Sender) (items : List Item) : Status → List ℕ → Type 0 where
+pub data AdvisedBy (form : Form) (lost : ℕ) (a : Accepting) (s : Sender) (items : List Item) : Status → List ℕ → Type 0 where
   advised_by : (fs : List Filling) (refused : List ℕ) (trends : Trends) (text : List ℕ) → Traces a s 1 items [] fs refused
-      → AreTrends (shared_fields a.profile.methods a.profile.top) lost fs trends → IsAdviceText trends text → AdvisedBy lost a s items status.Done (text ++ refused ++ 10 ∷ [])
+      → AreTrends (shared_fields a.profile.methods a.profile.top) lost fs trends → IsTold form trends text → AdvisedBy form lost a s items status.Done (text ++ refused ++ 10 ∷ [])
 
 -- ---- the steps
 
-abbrev pub AdvisesItems : ℕ → Accepting → Sender → List Item → Answer → Type 0
-AdvisesItems lost a s items = refusals.Holds (AdvisedBy lost a s items)
+abbrev pub AdvisesItems : Form → ℕ → Accepting → Sender → List Item → Answer → Type 0
+AdvisesItems form lost a s items = refusals.Holds (AdvisedBy form lost a s items)
 
 -- One item more: it is packed, and added to the trends, and the sender goes on; or it is refused, and its line comes below the others.
 pub data TracesItem (a : Accepting) (old new : Sender) (before after : Trends) (above below : List ℕ) (n : ℕ) (it : Item) : Type 0 where
@@ -39,8 +55,8 @@ pub data TracesItem (a : Accepting) (old new : Sender) (before after : Trends) (
   traces_refused : (text : List ℕ) → RefusesSent a old n it text → new ≡ old → after ≡ before → below ≡ above ++ 10 ∷ text → TracesItem a old new before after above below n it
 
 -- what is told of the trends, and below it the lines of the refused
-pub record IsPrintedAdvice (trends : Trends) (refused : List ℕ) (answer : Answer) : Type 0 where
+pub record IsPrintedAdvice (form : Form) (trends : Trends) (refused : List ℕ) (answer : Answer) : Type 0 where
   pub text : List ℕ
-  pub text_is : IsAdviceText trends text
+  pub text_is : IsTold form trends text
   pub status_is : answer.status ≡ status.Done
   pub output_is : string_bytes answer.output ≡ text ++ refused ++ 10 ∷ []

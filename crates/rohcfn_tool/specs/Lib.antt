@@ -3,6 +3,7 @@ pub mod Asked
 pub mod Events
 pub mod FaultLaws
 pub mod Line
+pub mod Frames
 pub mod Refused
 pub mod Senders
 pub mod Loss

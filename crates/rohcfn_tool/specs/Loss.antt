@@ -16,6 +16,9 @@ use Rattle.rohcfn_input.specs.declared.status.Answer.{Answer}
 use Rattle.rohcfn_input.specs.declared.status.Status.{Status}
 use Rattle.rohcfn_input.specs.declared.status.Status.TheVariants as status
 use Rattle.rohcfn_items.specs.Loss.{loss_text}
+use Rattle.rohcfn_json.specs.Loss.{loss_objects}
+use Rattle.rohcfn_words.specs.declared.words.Form.{Form}
+use Rattle.rohcfn_words.specs.declared.words.Form.TheVariants as form
 use Rattle.rohcfn_tool.specs.Senders.{Blames, IsSenderFault, RefusesSent, Sends, own_of}
 use Rattle.rohcfn_tool.specs.declared.sender.Sender.{Sender}
 
@@ -48,16 +51,21 @@ pub data IsLossFault (a : Accepting) : Sender → ℕ → List Item → List ℕ
   refused_later : {s : Sender} {n : ℕ} {it : Item} {its : List Item} {text : List ℕ} (p : Packed) (after : Sender) → Sends a s it p after
       → IsLossFault a after (n + 1) its text → IsLossFault a s n (it ∷ its) text
 
+-- what is told of all readings, as text or as objects
+abbrev pub losses_in : Form → Accepting → ℕ → Tally → Journal → List ℕ
+losses_in form.Text a most all j = loss_text a.profile.methods a.profile.top most all j.readings j.cases
+losses_in form.Json a most all j = loss_objects a.profile.methods a.profile.top most all j.readings j.cases
+
 -- What `loss` prints for items that a sender packs: what is counted and told of all packets, or the line of the first item that is refused.
-pub data LossBy (most : ℕ) (a : Accepting) (s : Sender) (items : List Item) : Status → List ℕ → Type 0 where
+pub data LossBy (form : Form) (most : ℕ) (a : Accepting) (s : Sender) (items : List Item) : Status → List ℕ → Type 0 where
   losses_told : (fs : List Filling) (es : List Entry) (j : Journal) → Loses a most s (own_of s ∷ []) 1 items fs es → IsJournal a es j
-      → LossBy most a s items status.Done (loss_text a.profile.methods a.profile.top most (tally fs) j.readings j.cases ++ 10 ∷ [])
-  item_refused : (text : List ℕ) → IsLossFault a s 1 items text → LossBy most a s items status.Refused (text ++ 10 ∷ [])
+      → LossBy form most a s items status.Done (losses_in form a most (tally fs) j ++ 10 ∷ [])
+  item_refused : (text : List ℕ) → IsLossFault a s 1 items text → LossBy form most a s items status.Refused (text ++ 10 ∷ [])
 
 -- ---- the steps
 
-abbrev pub LosesItems : ℕ → Accepting → Sender → List Item → Answer → Type 0
-LosesItems most a s items = refusals.Holds (LossBy most a s items)
+abbrev pub LosesItems : Form → ℕ → Accepting → Sender → List Item → Answer → Type 0
+LosesItems form most a s items = refusals.Holds (LossBy form most a s items)
 
 -- the line of a fault
 abbrev pub IsRefusedLoss : RobustFault → ℕ → Answer → Type 0
@@ -76,6 +84,6 @@ abbrev pub IsLossStep : Accepting → ℕ → Sender → Sender → List Entries
 IsLossStep a most from to old new before after was is n it None = IsLost a most from to old new before after was is n it
 IsLossStep a most from to old new before after was is n it (Some e) = Blames e a from it
 
-pub record IsPrintedLoss (a : Accepting) (most : ℕ) (all : Tally) (j : Journal) (answer : Answer) : Type 0 where
+pub record IsPrintedLoss (form : Form) (a : Accepting) (most : ℕ) (all : Tally) (j : Journal) (answer : Answer) : Type 0 where
   pub status_is : answer.status ≡ status.Done
-  pub output_is : string_bytes answer.output ≡ loss_text a.profile.methods a.profile.top most all j.readings j.cases ++ 10 ∷ []
+  pub output_is : string_bytes answer.output ≡ losses_in form a most all j ++ 10 ∷ []

@@ -31,12 +31,16 @@ use Rattle.rohcfn_input.specs.declared.bundle.Parts.{Parts}
 use Rattle.rohcfn_input.specs.declared.status.Answer.{Answer}
 use Rattle.rohcfn_input.specs.declared.status.Status.{Status}
 use Rattle.rohcfn_input.specs.declared.status.Status.TheVariants as status
+use Rattle.rohcfn_words.specs.declared.words.Command.{Command}
 use Rattle.rohcfn_words.specs.declared.words.Command.TheVariants as command
 use Rattle.rohcfn_words.specs.declared.words.Command.TheVariants.{Show, Lint, Draw, Check, Prove, ExplainCheck, ExplainProve, Run, Fields}
 use Rattle.rohcfn_words.specs.declared.words.Counting.{Counting}
 use Rattle.rohcfn_words.specs.declared.words.Direction.{Direction}
 use Rattle.rohcfn_words.specs.declared.words.Direction.TheVariants.{Pack, Unpack}
 use Rattle.rohcfn_words.specs.declared.words.End.{End}
+use Rattle.rohcfn_words.specs.declared.words.End.TheVariants.{Sending, Receiving}
+use Rattle.rohcfn_words.specs.declared.words.Form.{Form}
+use Rattle.rohcfn_words.specs.declared.words.Form.TheVariants as form
 use Rattle.rohcfn_words.specs.declared.words.Order.{Order}
 use Rattle.rohcfn_report.specs.Accepting.{AcceptsProfile, RefusesProfile, origin_of}
 use Rattle.rohcfn_input.specs.Inputs.{HasLines, IsBadContext, IsBadLine, IsBits, IsItem, StartsAt}
@@ -44,6 +48,7 @@ use Rattle.rohcfn_input.specs.OneLine.{IsLine}
 use Rattle.rohcfn_input.specs.ItemTexts.{IsItemText}
 use Rattle.rohcfn_tool.specs.Asked.{asked_words}
 use Rattle.rohcfn_tool.specs.Line.{Lined}
+use Rattle.rohcfn_tool.specs.Frames.{Framed}
 use Rattle.rohcfn_tool.specs.declared.packets.Shape.{Shape}
 use Rattle.rohcfn_tool.specs.declared.packets.Shape.TheVariants.{Line, Tree, Why}
 use Rattle.fn_expr.specs.declared.expr.Side.TheVariants.{Compressed}
@@ -54,6 +59,9 @@ use Rattle.rohcfn_items.specs.Fields.{fields_text, head_text}
 use Rattle.rohcfn_items.specs.Reach.{lacks_text}
 use Rattle.rohcfn_items.specs.Why.{reasons_text}
 use Rattle.rohcfn_items.specs.Stats.{stats_text}
+use Rattle.rohcfn_json.specs.Filled.{fields_object}
+use Rattle.rohcfn_json.specs.Lines.{as_objects}
+use Rattle.rohcfn_json.specs.Stats.{item_line, stats_objects}
 use Rattle.rohcfn_tool.specs.declared.stats.Survey.{Survey}
 use Rattle.rohcfn_tool.specs.declared.stats.Told.{Told}
 use Rattle.rohcfn_tool.specs.declared.stats.Survey.TheVariants as survey
@@ -67,7 +75,7 @@ use Rattle.rohcfn_tool.specs.Advise.{AdvisedBy}
 use Rattle.rohcfn_names.specs.Names.{format_name, method_name}
 use Rattle.rohcfn_names.specs.CheckFaults.{format_words}
 use Rattle.rohcfn_report.specs.Explained.{Explained}
-use Rattle.rohcfn_report.specs.Surveys.{DrawnBy}
+use Rattle.rohcfn_report.specs.Surveys.{DrawnBy, DrawnObjects}
 use Rattle.rohcfn_report.specs.Surveys.{LintedBy}
 use Rattle.rohcfn_report.specs.Reports.{ShownBy, CheckedOctets, ProvedOctets}
 use Rattle.rohcfn_input.specs.Refusals.{Holds, context_line}
@@ -90,19 +98,20 @@ pub record IsPacketLine (a : Accepting) (ctx : Entries) (packet : List Bool) (f 
 
 -- ---- the fields of an item or a packet
 
--- the fields of a filling of the top, in a line each after the head line: of what it is, its number and how many bits the packet has
-abbrev pub tree_text : Accepting → List ℕ → ℕ → ℕ → Filling → List ℕ
-tree_text a what n bits f = fields_text a.profile.methods a.profile.top what n bits f
+-- the fields of a filling of the top: in a line each after the head line, of what it is, its number and how many bits the packet has; or in one object
+abbrev pub tree_text : Form → Accepting → List ℕ → ℕ → ℕ → Filling → List ℕ
+tree_text form.Text a what n bits f = fields_text a.profile.methods a.profile.top what n bits f
+tree_text form.Json a what n bits f = fields_object a.profile.methods a.profile.top what n bits f
 
 -- for the item of that number: the fields of the best filling that fits in the context and has the item
-pub record IsItemTree (a : Accepting) (ctx : Entries) (n : ℕ) (it : Item) (f : Filling) (text : List ℕ) : Type 0 where
+pub record IsItemTree (form : Form) (a : Accepting) (ctx : Entries) (n : ℕ) (it : Item) (f : Filling) (text : List ℕ) : Type 0 where
   pub best : Best a.profile.methods a.certificate.methods a.profile.top (bits_at ctx) it f
-  pub listed : text ≡ tree_text a (codes "item") n (length (packed f)) f
+  pub listed : text ≡ tree_text form a (codes "item") n (length (packed f)) f
 
 -- for the packet of that number: the fields of a filling that fits in the context and whose packed bits are at its front
-pub record IsPacketTree (a : Accepting) (ctx : Entries) (n : ℕ) (packet : List Bool) (f : Filling) (text : List ℕ) : Type 0 where
+pub record IsPacketTree (form : Form) (a : Accepting) (ctx : Entries) (n : ℕ) (packet : List Bool) (f : Filling) (text : List ℕ) : Type 0 where
   pub fits : reading.Fronts a ctx packet f
-  pub listed : text ≡ tree_text a (codes "packet") n (length (packed f)) f
+  pub listed : text ≡ tree_text form a (codes "packet") n (length (packed f)) f
 
 -- ---- the head line of an item or a packet
 
@@ -123,12 +132,12 @@ pub record IsPacketHead (a : Accepting) (ctx : Entries) (n : ℕ) (packet : List
 -- what is said of the item or the packet of a number by its filling: a line, the fields, or the head line
 abbrev pub SaysItem : Shape → Accepting → Entries → ℕ → Item → Filling → List ℕ → Type 0
 SaysItem Line a ctx n it f text = IsItemLine a ctx it f text
-SaysItem Tree a ctx n it f text = IsItemTree a ctx n it f text
+SaysItem (Tree form) a ctx n it f text = IsItemTree form a ctx n it f text
 SaysItem (Why profile) a ctx n it f text = IsItemHead a ctx n it f text
 
 abbrev pub SaysPacket : Shape → Accepting → Entries → ℕ → List Bool → Filling → List ℕ → Type 0
 SaysPacket Line a ctx n packet f text = IsPacketLine a ctx packet f text
-SaysPacket Tree a ctx n packet f text = IsPacketTree a ctx n packet f text
+SaysPacket (Tree form) a ctx n packet f text = IsPacketTree form a ctx n packet f text
 SaysPacket (Why profile) a ctx n packet f text = IsPacketHead a ctx n packet f text
 
 -- ---- the line of a refusal
@@ -189,18 +198,18 @@ pub record ExplainsPacket (profile : List ℕ) (a : Accepting) (ctx : Entries) (
 -- what is said of one that is refused: the line of its fault; for `why` the reasons, too
 abbrev pub FaultsItem : Shape → Accepting → Entries → ℕ → Item → List ℕ → Type 0
 FaultsItem Line a ctx n it text = RefusesItem a ctx n it text
-FaultsItem Tree a ctx n it text = RefusesItem a ctx n it text
+FaultsItem (Tree form) a ctx n it text = RefusesItem a ctx n it text
 FaultsItem (Why profile) a ctx n it text = ExplainsItem profile.now a ctx n it text
 
 abbrev pub FaultsPacket : Shape → Accepting → Entries → ℕ → List Bool → List ℕ → Type 0
 FaultsPacket Line a ctx n packet text = RefusesPacket a ctx n packet text
-FaultsPacket Tree a ctx n packet text = RefusesPacket a ctx n packet text
+FaultsPacket (Tree form) a ctx n packet text = RefusesPacket a ctx n packet text
 FaultsPacket (Why profile) a ctx n packet text = ExplainsPacket profile.now a ctx n packet text
 
 -- the status after one that is refused: to say why is an answer
 abbrev pub stop_of : Shape → Status
 stop_of Line = status.Refused
-stop_of Tree = status.Refused
+stop_of (Tree form) = status.Refused
 stop_of (Why profile) = status.Done
 
 -- ---- line by line
@@ -297,23 +306,37 @@ fillings_in = map (λ x. x.1)
 abbrev pub row_text : ℕ → List ℕ → ℕ → List ℕ
 row_text n name bits = codes "\n" ++ decimal n ++ codes "\t" ++ name ++ codes "\t" ++ decimal bits
 
-abbrev pub row_of : Accepting → ℕ × Filling → List ℕ
-row_of a x = row_text x.0 (format_name a.profile.methods a.profile.top (out-Filling x.1).format) (length (packed x.1))
+-- or its object
+abbrev pub row_in : Form → ℕ → List ℕ → ℕ → List ℕ
+row_in form.Text n name bits = row_text n name bits
+row_in form.Json n name bits = item_line n name bits
+
+abbrev pub row_of : Form → Accepting → ℕ × Filling → List ℕ
+row_of form a x = row_in form x.0 (format_name a.profile.methods a.profile.top (out-Filling x.1).format) (length (packed x.1))
 
 -- the same by what was packed
-abbrev pub item_row : Accepting → ℕ → Packed → List ℕ
-item_row a n p = row_text n (format_name a.profile.methods a.profile.top (out-Filling p.filling).format) (length p.packed)
+abbrev pub item_row : Form → Accepting → ℕ → Packed → List ℕ
+item_row form a n p = row_in form n (format_name a.profile.methods a.profile.top (out-Filling p.filling).format) (length p.packed)
 
-abbrev pub rows_of : Accepting → List (ℕ × Filling) → List ℕ
-rows_of a [] = []
-rows_of a (x ∷ xs) = row_of a x ++ rows_of a xs
+abbrev pub rows_of : Form → Accepting → List (ℕ × Filling) → List ℕ
+rows_of form a [] = []
+rows_of form a (x ∷ xs) = row_of form a x ++ rows_of form a xs
 
 abbrev pub row_heads : List ℕ
 row_heads = codes "item\tformat\tbits"
 
+abbrev pub heads_of : Form → List ℕ
+heads_of form.Text = row_heads
+heads_of form.Json = []
+
+-- what is counted of fillings, as text or as objects
+abbrev pub counted_in : Form → List Method → ℕ → List Filling → List ℕ
+counted_in form.Text methods top fs = stats_text methods top fs
+counted_in form.Json methods top fs = stats_objects methods top fs
+
 -- what `stats` prints of these: what is counted, or a row for each item
 abbrev pub counts_text : Accepting → Counting → List (ℕ × Filling) → List ℕ
-counts_text a how fs = if how.lists_items then row_heads ++ rows_of a fs else stats_text a.profile.methods a.profile.top (fillings_in fs)
+counts_text a how fs = if how.lists_items then heads_of how.form ++ rows_of how.form a fs else counted_in how.form a.profile.methods a.profile.top (fillings_in fs)
 
 -- the mean is above so many bits
 abbrev pub is_above : Option ℕ → Tally → Bool
@@ -345,13 +368,13 @@ pub data ExplainsSent (profile : List ℕ) (a : Accepting) (s : Sender) (n : ℕ
 -- what is said of an item that a sender refuses: the line of its fault; for `why` the reasons, too
 abbrev pub FaultsSent : Shape → Accepting → Sender → ℕ → Item → List ℕ → Type 0
 FaultsSent Line a s n it text = RefusesSent a s n it text
-FaultsSent Tree a s n it text = RefusesSent a s n it text
+FaultsSent (Tree form) a s n it text = RefusesSent a s n it text
 FaultsSent (Why profile) a s n it text = ExplainsSent profile.now a s n it text
 
 -- what is printed of a filling that was written
 abbrev pub WrittenAs : Shape → Accepting → ℕ → List Bool → Filling → List ℕ → Type 0
 WrittenAs Line a n bits f text = IsText text bits
-WrittenAs Tree a n bits f text = text ≡ tree_text a (codes "item") n (length bits) f
+WrittenAs (Tree form) a n bits f text = text ≡ tree_text form a (codes "item") n (length bits) f
 WrittenAs (Why profile) a n bits f text = text ≡ head_of a (codes "item") n (length bits) f
 
 -- What `pack --robust` and `why --robust` print for items, counted from n: what is printed of each, and after the last the sender's own context, where it is wanted;
@@ -365,11 +388,11 @@ pub data SentBy (shape : Shape) (shows : Bool) (a : Accepting) : Sender → ℕ 
 -- what `stats`, `loss`, `pack --robust` or `why --robust` prints for items
 abbrev pub SurveyBy : Survey → Accepting → Entries → List Item → Status → List ℕ → Type 0
 SurveyBy (survey.Stats how) a ctx items = StatsBy a how (Plain ctx) items
-SurveyBy (survey.Loss most) a ctx items = LossBy most a (Plain ctx) items
+SurveyBy (survey.Loss form most) a ctx items = LossBy form most a (Plain ctx) items
 SurveyBy (survey.RobustPack shape shows lost) a ctx items = SentBy shape shows a (surviving ctx lost) 1 items
 SurveyBy (survey.RobustStats lost how) a ctx items = StatsBy a how (surviving ctx lost) items
-SurveyBy (survey.RobustLoss most lost) a ctx items = LossBy most a (surviving ctx lost) items
-SurveyBy (survey.Advise lost) a ctx items = AdvisedBy lost a (Plain ctx) items
+SurveyBy (survey.RobustLoss form most lost) a ctx items = LossBy form most a (surviving ctx lost) items
+SurveyBy (survey.Advise form lost) a ctx items = AdvisedBy form lost a (Plain ctx) items
 SurveyBy (survey.Avoid octets name) a ctx items = AvoidedBy octets.now name.now a ctx items
 
 -- What is answered to one of these from a context on, by the octets of items.
@@ -400,7 +423,15 @@ strict_status strict s output = if strict && not (length output == 0) then statu
 pub data LintedWith (order : Order) (profile : List ℕ) (parts : Parts) : Status → List ℕ → Type 0 where
   linted_by : {s : Status} {output : List ℕ} → LintedBy order.top.now profile parts.context s output → LintedWith order profile parts (strict_status order.is_strict s output) output
 
--- What is answered to an order with these parts.
+-- What is answered to `draw`.
+abbrev pub DrawnAs : Form → List ℕ → List ℕ → Status → List ℕ → Type 0
+DrawnAs form.Text top octets s output = DrawnBy top octets s output
+DrawnAs form.Json top octets s output = DrawnObjects top octets s output
+
+abbrev pub DrawnWith : Order → List ℕ → Status → List ℕ → Type 0
+DrawnWith order profile s output = DrawnAs order.form order.top.now profile s output
+
+-- What is answered to an order with these parts: lines, of which those of counts and fields have the form that is asked for.
 pub data Answered (order : Order) (parts : Parts) : Status → List ℕ → Type 0 where
   no_profile : parts.profile ≡ None → Answered order parts status.Refused (codes "bundle: I4 bad part profile" ++ 10 ∷ [])
   shown : {s : Status} {output : List ℕ} (profile : Bor (List ℕ)) → parts.profile ≡ Some profile → order.command ≡ Show
@@ -408,7 +439,7 @@ pub data Answered (order : Order) (parts : Parts) : Status → List ℕ → Type
   linted : {s : Status} {output : List ℕ} (profile : Bor (List ℕ)) → parts.profile ≡ Some profile → order.command ≡ Lint
       → LintedWith order profile.now parts s output → Answered order parts s output
   drawn : {s : Status} {output : List ℕ} (profile : Bor (List ℕ)) → parts.profile ≡ Some profile → order.command ≡ Draw
-      → DrawnBy order.top.now profile.now s output → Answered order parts s output
+      → DrawnWith order profile.now s output → Answered order parts s output
   checked : {s : Status} {output : List ℕ} (profile : Bor (List ℕ)) → parts.profile ≡ Some profile → order.command ≡ Check
       → CheckedOctets order.top.now profile.now (origin_of order.version parts.certificate) s output → Answered order parts s output
   proved : {s : Status} {output : List ℕ} (profile : Bor (List ℕ)) → parts.profile ≡ Some profile → order.command ≡ Prove
@@ -420,15 +451,19 @@ pub data Answered (order : Order) (parts : Parts) : Status → List ℕ → Type
   ran : {s : Status} {output : List ℕ} (profile : Bor (List ℕ)) (direction : Direction) → parts.profile ≡ Some profile → order.command ≡ Run direction
       → AnsweredRun direction Line order profile.now parts s output → Answered order parts s output
   told : {s : Status} {output : List ℕ} (profile : Bor (List ℕ)) (direction : Direction) → parts.profile ≡ Some profile → order.command ≡ Fields direction
-      → AnsweredRun direction Tree order profile.now parts s output → Answered order parts s output
+      → AnsweredRun direction (Tree order.form) order profile.now parts s output → Answered order parts s output
   explained : {s : Status} {output : List ℕ} (profile : Bor (List ℕ)) (direction : Direction) → parts.profile ≡ Some profile → order.command ≡ command.Why direction
       → AnsweredRun direction (Why profile) order profile.now parts s output → Answered order parts s output
   lined : {s : Status} {output : List ℕ} (profile : Bor (List ℕ)) (end : End) → parts.profile ≡ Some profile → order.command ≡ command.Line end
       → Lined end order profile.now parts s output → Answered order parts s output
+  frames_sent : {s : Status} {output : List ℕ} (profile : Bor (List ℕ)) (lost : ℕ) → parts.profile ≡ Some profile → order.command ≡ command.SendFrames lost
+      → Framed Sending lost order profile.now parts s output → Answered order parts s output
+  frames_received : {s : Status} {output : List ℕ} (profile : Bor (List ℕ)) → parts.profile ≡ Some profile → order.command ≡ command.ReceiveFrames
+      → Framed Receiving 0 order profile.now parts s output → Answered order parts s output
   stated : {s : Status} {output : List ℕ} (profile : Bor (List ℕ)) (how : Counting) → parts.profile ≡ Some profile → order.command ≡ command.Stats how
       → Stated (survey.Stats how) order profile.now parts s output → Answered order parts s output
   lost_told : {s : Status} {output : List ℕ} (profile : Bor (List ℕ)) (most : ℕ) → parts.profile ≡ Some profile → order.command ≡ command.Loss most
-      → Stated (survey.Loss most) order profile.now parts s output → Answered order parts s output
+      → Stated (survey.Loss order.form most) order profile.now parts s output → Answered order parts s output
   robust_packed : {s : Status} {output : List ℕ} (profile : Bor (List ℕ)) (lost : ℕ) → parts.profile ≡ Some profile → order.command ≡ command.RobustPack lost
       → Stated (survey.RobustPack Line order.shows_context lost) order profile.now parts s output → Answered order parts s output
   robust_explained : {s : Status} {output : List ℕ} (profile : Bor (List ℕ)) (lost : ℕ) → parts.profile ≡ Some profile → order.command ≡ command.RobustWhy lost
@@ -436,16 +471,31 @@ pub data Answered (order : Order) (parts : Parts) : Status → List ℕ → Type
   robust_stated : {s : Status} {output : List ℕ} (profile : Bor (List ℕ)) (lost : ℕ) (how : Counting) → parts.profile ≡ Some profile → order.command ≡ command.RobustStats lost how
       → Stated (survey.RobustStats lost how) order profile.now parts s output → Answered order parts s output
   advice_told : {s : Status} {output : List ℕ} (profile : Bor (List ℕ)) (lost : ℕ) → parts.profile ≡ Some profile → order.command ≡ command.Advise lost
-      → Stated (survey.Advise lost) order profile.now parts s output → Answered order parts s output
+      → Stated (survey.Advise order.form lost) order profile.now parts s output → Answered order parts s output
   avoided_told : {s : Status} {output : List ℕ} (profile : Bor (List ℕ)) → parts.profile ≡ Some profile → order.command ≡ command.WhyNot
       → Stated (survey.Avoid profile order.avoided) order profile.now parts s output → Answered order parts s output
   robust_told : {s : Status} {output : List ℕ} (profile : Bor (List ℕ)) (most lost : ℕ) → parts.profile ≡ Some profile → order.command ≡ command.RobustLoss most lost
-      → Stated (survey.RobustLoss most lost) order profile.now parts s output → Answered order parts s output
+      → Stated (survey.RobustLoss order.form most lost) order profile.now parts s output → Answered order parts s output
 
 -- ---- the steps
 
+abbrev pub AnswersLines : Order → Parts → Answer → Type 0
+AnswersLines order parts = Holds (Answered order parts)
+
+-- what is printed of the lines of an answer: themselves; or where objects are asked for each as an object
+abbrev pub shown_in : Form → Command → Status → List ℕ → List ℕ
+shown_in form.Text command s lines = lines
+shown_in form.Json command s lines = as_objects command s lines
+
+-- What is printed for an order with these parts.
+pub data Shown (order : Order) (parts : Parts) : Status → List ℕ → Type 0 where
+  shown_as : {s : Status} (lines : List ℕ) → Answered order parts s lines → Shown order parts s (shown_in order.form order.command s lines)
+
 abbrev pub Answers : Order → Parts → Answer → Type 0
-Answers order parts = Holds (Answered order parts)
+Answers order parts = Holds (Shown order parts)
+
+abbrev pub AnswersDraw : Order → List ℕ → Answer → Type 0
+AnswersDraw order profile = Holds (DrawnWith order profile)
 
 abbrev pub AnswersLint : Order → List ℕ → Parts → Answer → Type 0
 AnswersLint order profile parts = Holds (LintedWith order profile parts)
@@ -487,7 +537,7 @@ Surveys what a ctx items = Holds (SurveyBy what a ctx items)
 -- what is told so far is of these fillings: the sums are over them, and the rows are theirs, where such are wanted
 pub record TellsOf (a : Accepting) (how : Counting) (fs : List (ℕ × Filling)) (t : Told) : Type 0 where
   pub sums_are : AreSums (fillings_in fs) t.sums
-  pub rows_are : how.lists_items ≡ true → string_bytes t.rows ≡ rows_of a fs
+  pub rows_are : how.lists_items ≡ true → string_bytes t.rows ≡ rows_of how.form a fs
 
 -- the text of what is told, where it is of these fillings
 abbrev pub IsCountsText : Accepting → Counting → Told → List ℕ → Type 0
@@ -507,7 +557,7 @@ IsRefusedBelow e n before after = (text : List ℕ) × IsSenderFault e n text ×
 -- a filling more is told of, by a row where such are wanted
 pub record AddsPacked (a : Accepting) (how : Counting) (n : ℕ) (p : Packed) (old new : Told) : Type 0 where
   pub adds : Adds p.filling old.sums new.sums
-  pub row : how.lists_items ≡ true → string_bytes new.rows ≡ string_bytes old.rows ++ item_row a n p
+  pub row : how.lists_items ≡ true → string_bytes new.rows ≡ string_bytes old.rows ++ item_row how.form a n p
   pub refused_stays : string_bytes new.refused ≡ string_bytes old.refused
 
 -- One item more: it is packed, and told of, and the sender goes on; or it is refused, and its line comes below the others.
@@ -544,8 +594,8 @@ abbrev pub IsReadLine : Item → ℕ → List ℕ → List ℕ → Type 0
 IsReadLine it count = HasLine (IsTaken it count)
 
 -- the fields of a filling
-abbrev pub IsTreeText : Accepting → List ℕ → ℕ → ℕ → Filling → List ℕ → List ℕ → Type 0
-IsTreeText a what n bits f = HasLine (λ text. text ≡ tree_text a what n bits f)
+abbrev pub IsTreeText : Form → Accepting → List ℕ → ℕ → ℕ → Filling → List ℕ → List ℕ → Type 0
+IsTreeText form a what n bits f = HasLine (λ text. text ≡ tree_text form a what n bits f)
 
 -- the head line of a filling
 abbrev pub IsHeadText : Accepting → List ℕ → ℕ → ℕ → Filling → List ℕ → List ℕ → Type 0
@@ -557,7 +607,7 @@ IsWrittenText shape a n bits f = HasLine (WrittenAs shape a n bits f)
 
 abbrev pub IsFoundText : Shape → Accepting → List ℕ → ℕ → ℕ → Filling → List ℕ → List ℕ → Type 0
 IsFoundText Line a what n bits f = IsReadLine (item f) bits
-IsFoundText Tree a what n bits f = IsTreeText a what n bits f
+IsFoundText (Tree form) a what n bits f = IsTreeText form a what n bits f
 IsFoundText (Why profile) a what n bits f = IsHeadText a what n bits f
 
 -- The output goes on by what is said of an input, after which the context is the next; or, where it was refused, by what is said of that.

@@ -5,7 +5,7 @@ pub use Rattle.rohcfn_input.specs.Counted.{most_octets}
 use Rattle.rohcfn_input.specs.Counted.{Account, HasFailed, HasStopped}
 use Rattle.rohcfn_input.specs.declared.status.Failure.TheVariants.{Reading, Writing}
 use Rattle.rohcfn_input.specs.Bundle.{BlamesPart, HoldsParts, IsBundle, parts_of, text_named, shown_name}
-use Rattle.rohcfn_tool.specs.Printed.{Answered}
+use Rattle.rohcfn_tool.specs.Printed.{Shown}
 use Rattle.rohcfn_words.specs.Words.{AskHelp, AskJustHelp, asked, asked_of}
 use Rattle.rohcfn_input.specs.declared.bundle.BadPart.{BadPart}
 use Rattle.rohcfn_input.specs.declared.bundle.Parts.{Parts}
@@ -42,7 +42,7 @@ pub data RunPrints (given : List (List ℕ)) (input : List ℕ) : Status → Lis
   answered : {status : Status} {output : List ℕ} (words : List (List ℕ)) (order : Order) (parts : Parts)
       → length input ≤ most_octets → IsBundle input → words_of given input ≡ Some words
       → asked_of words ≡ Some (asked order) → HoldsParts parts (parts_of input)
-      → Answered order parts status output → RunPrints given input status output
+      → Shown order parts status output → RunPrints given input status output
 
 -- the words of the call ask for nothing
 pub record AsksNothing (given : List (List ℕ)) (input : List ℕ) (asking : List (List ℕ)) : Type 0 where
@@ -100,7 +100,7 @@ TellsBy words (Failed why) = ⊥
 -- what the reply to words and parts is
 abbrev pub RepliesBy : List (List ℕ) → Parts → Reply → Type 0
 RepliesBy words parts (Print status output) = (order : Order) × (asked_of words ≡ Some (asked order))
-    × Answered order parts status (string_bytes output)
+    × Shown order parts status (string_bytes output)
 RepliesBy words parts (Tell status text) = TellsBy words status
 
 -- the reply is that fault line

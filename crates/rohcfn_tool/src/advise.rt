@@ -10,7 +10,10 @@ use fn_filling::Item;
 use fn_stats::Trends;
 use rohcfn_input::spelling::push_line;
 use rohcfn_input::status::{Answer, Status};
-use rohcfn_items::advise::{advise_text, shared_fields};
+use rohcfn_items::advice::{Advice, advice_of, shared_fields};
+use rohcfn_items::advise::advise_text;
+use rohcfn_json::advice::advice_objects;
+use rohcfn_words::words::Form;
 use std::alloc::{AllocError, Global};
 
 /// What is told of how the fields go on from item to item, where up to so many packets in a row are lost; and a line for each item that is refused. After such an
@@ -18,11 +21,12 @@ use std::alloc::{AllocError, Global};
 pub(crate) fn advise_all(
     alloc: Global,
     accepted: &Accepted,
+    form: Form,
     lost: u8,
     start: Sender,
     items: &[Item],
 ) -> Result<Answer, AllocError>
-    ensures { IfOk result (spec.AdvisesItems lost accepted.now start items.now) }
+    ensures { IfOk result (spec.AdvisesItems form lost accepted.now start items.now) }
 {
     let profile = accepted.profile();
     let mut sender = start;
@@ -40,7 +44,7 @@ pub(crate) fn advise_all(
             item,
         )?;
     }
-    print_advice(alloc, accepted, &trends, refused.as_str())
+    print_advice(alloc, accepted, form, &trends, refused.as_str())
 }
 
 /// Packs an item, whose number counts from 1. Its filling is added to the trends, and the sender goes on to the next; or its line is added to those of the refused.
@@ -65,16 +69,28 @@ fn trace_one(
 fn print_advice(
     alloc: Global,
     accepted: &Accepted,
+    form: Form,
     trends: &Trends,
     refused: &str,
 ) -> Result<Answer, AllocError>
-    ensures { IfOk result (spec.IsPrintedAdvice trends.now refused.now) }
+    ensures { IfOk result (spec.IsPrintedAdvice form trends.now refused.now) }
 {
     let profile = accepted.profile();
-    let mut output = advise_text(alloc, profile.methods(), profile.top(), trends)?;
+    let advice = advice_of(alloc, profile.methods(), profile.top(), trends)?;
+    let mut output = advice_in(alloc, form, &advice)?;
     push_line(&mut output, refused)?;
     Ok(Answer {
         status: Status::Done,
         output,
     })
+}
+
+/// What is told, in its form.
+fn advice_in(alloc: Global, form: Form, advice: &Advice<'_>) -> Result<String, AllocError>
+    ensures { IfOk result (λ text. spec.IsAdvice form advice.now (string_bytes text)) }
+{
+    match form {
+        Form::Text => advise_text(alloc, advice),
+        Form::Json => advice_objects(alloc, advice),
+    }
 }

@@ -4,6 +4,7 @@ ghost use Rattle.std.specs.Prelude.{◌≡◌, ◌++◌, IfOk, codes, decimal, s
 ghost use Rattle.rohcfn_tool.specs.FaultLaws.{AreOneLine};
 ghost use Rattle.rohcfn_tool.specs.Printed as spec;
 
+use crate::frames::answer_frames;
 use crate::line::answer_line;
 use crate::packets::{Shape, pack_all, unpack_all};
 use crate::stats::{Survey, answer_stats};
@@ -13,22 +14,38 @@ use rohcfn_input::bundle::Parts;
 use rohcfn_input::inputs::{BadLine, read_context, read_items, read_packets};
 use rohcfn_input::refusals::{context_line, refusal};
 use rohcfn_input::status::{Answer, Status};
+use rohcfn_json::lines::as_objects;
 use rohcfn_report::check::answer_check;
 use rohcfn_report::explaining::{explain_check, explain_prove};
 use rohcfn_report::profile_and_certificate::{Judged, Origin, accept};
 use rohcfn_report::prove::answer_prove;
 use rohcfn_report::show::answer_listing;
-use rohcfn_report::surveys::{answer_draw, answer_lint};
-use rohcfn_words::words::{Command, Direction, Order};
+use rohcfn_report::surveys::{answer_draw, answer_lint, draw_objects};
+use rohcfn_words::words::{Command, Direction, End, Form, Order};
 use std::alloc::{AllocError, Global};
 
 /// What is printed for an order: the listing of a profile, the formats by which nothing can be packed, diagrams, the verdict on a certificate, a certificate, a line or the
 /// fields for each item or packet up to the first refusal, what stands against each format where one is refused, what is counted of packed items, the octets and items of a line of flows, or the one line of another fault.
+/// Where objects are asked for, each line is one of JSON.
 ///
 /// The order of faults: the missing part `profile`, another missing part, the profile, its certificate, a line of the context, a line of the items, packets or events
 /// or octets that are no hex, and then each item, packet or event.
 pub fn answer(alloc: Global, order: &Order<'_>, parts: &Parts<'_>) -> Result<Answer, AllocError>
     ensures { IfOk result (spec.Answers order.now parts.now) }
+{
+    let Answer { status, output } = answer_lines(alloc, order, parts)?;
+    match order.form {
+        Form::Text => Ok(Answer { status, output }),
+        Form::Json => Ok(Answer {
+            status,
+            output: as_objects(alloc, order.command, status, output.as_str())?,
+        }),
+    }
+}
+
+/// The lines of an answer. What is counted stands in the form that is asked for, and messages as text.
+fn answer_lines(alloc: Global, order: &Order<'_>, parts: &Parts<'_>) -> Result<Answer, AllocError>
+    ensures { IfOk result (spec.AnswersLines order.now parts.now) }
 {
     let Some(profile) = parts.profile else {
         return refusal(alloc, "bundle: I4 bad part profile");
@@ -36,7 +53,7 @@ pub fn answer(alloc: Global, order: &Order<'_>, parts: &Parts<'_>) -> Result<Ans
     match order.command {
         Command::Show => answer_listing(alloc, order.top, profile),
         Command::Lint => lint_by(alloc, order, profile, parts),
-        Command::Draw => answer_draw(alloc, order.top, profile),
+        Command::Draw => draw_by(alloc, order, profile),
         Command::Check => {
             let origin = Origin::of(order.version, parts);
             answer_check(alloc, order.top, profile, origin)
@@ -51,7 +68,14 @@ pub fn answer(alloc: Global, order: &Order<'_>, parts: &Parts<'_>) -> Result<Ans
             answer_run(alloc, direction, Shape::Line, order, profile, parts)
         }
         Command::Fields(direction) => {
-            answer_run(alloc, direction, Shape::Tree, order, profile, parts)
+            answer_run(
+                alloc,
+                direction,
+                Shape::Tree(order.form),
+                order,
+                profile,
+                parts,
+            )
         }
         Command::Why(direction) => {
             answer_run(alloc, direction, Shape::Why(profile), order, profile, parts)
@@ -59,7 +83,10 @@ pub fn answer(alloc: Global, order: &Order<'_>, parts: &Parts<'_>) -> Result<Ans
         Command::Stats(counting) => {
             answer_stats(alloc, Survey::Stats(counting), order, profile, parts)
         }
-        Command::Loss(most) => answer_stats(alloc, Survey::Loss(most), order, profile, parts),
+        Command::Loss(most) => {
+            let what = Survey::Loss(order.form, most);
+            answer_stats(alloc, what, order, profile, parts)
+        }
         Command::RobustPack(lost) => {
             let what = Survey::RobustPack(Shape::Line, order.shows_context, lost);
             answer_stats(alloc, what, order, profile, parts)
@@ -73,16 +100,32 @@ pub fn answer(alloc: Global, order: &Order<'_>, parts: &Parts<'_>) -> Result<Ans
             answer_stats(alloc, what, order, profile, parts)
         }
         Command::RobustLoss(most, lost) => {
-            answer_stats(alloc, Survey::RobustLoss(most, lost), order, profile, parts)
+            let what = Survey::RobustLoss(order.form, most, lost);
+            answer_stats(alloc, what, order, profile, parts)
         }
         Command::WhyNot => {
             let what = Survey::Avoid(profile, order.avoided);
             answer_stats(alloc, what, order, profile, parts)
         }
         Command::Advise(lost) => {
-            answer_stats(alloc, Survey::Advise(lost), order, profile, parts)
+            let what = Survey::Advise(order.form, lost);
+            answer_stats(alloc, what, order, profile, parts)
         }
         Command::Line(end) => answer_line(alloc, end, order, profile, parts),
+        Command::SendFrames(lost) => {
+            answer_frames(alloc, End::Sending, lost, order, profile, parts)
+        }
+        Command::ReceiveFrames => answer_frames(alloc, End::Receiving, 0, order, profile, parts),
+    }
+}
+
+/// The answer to `draw`, in the form that is asked for.
+fn draw_by(alloc: Global, order: &Order<'_>, profile: &[u8]) -> Result<Answer, AllocError>
+    ensures { IfOk result (spec.AnswersDraw order.now profile.now) }
+{
+    match order.form {
+        Form::Text => answer_draw(alloc, order.top, profile),
+        Form::Json => draw_objects(alloc, order.top, profile),
     }
 }
 
@@ -177,7 +220,7 @@ fn answer_for(
     ensures { IfOk result (spec.AnswersFor direction shape.entry shows accepted.now parts.now.context input.now) }
 {
     match read_context(alloc, parts) {
-        Ok(context) => answer_lines(alloc, direction, shape, shows, accepted, context, input),
+        Ok(context) => answer_each(alloc, direction, shape, shows, accepted, context, input),
         Err(BadLine::Number(number)) => {
             let line = context_line(alloc, number)?;
             refusal(alloc, line.as_str())
@@ -187,7 +230,7 @@ fn answer_for(
 }
 
 /// The answer in a direction and a context.
-fn answer_lines(
+fn answer_each(
     alloc: Global,
     direction: Direction,
     shape: Shape<'_>,

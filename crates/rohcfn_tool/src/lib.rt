@@ -7,6 +7,7 @@ mod asked;
 mod avoiding;
 pub mod events;
 mod explaining;
+pub mod frames;
 pub mod line;
 mod loss;
 pub mod packets;

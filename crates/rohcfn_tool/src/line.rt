@@ -119,7 +119,7 @@ fn answer_events(
 }
 
 /// The line of events that can't be read.
-fn bad_event_line(alloc: Global, number: usize) -> Result<String, AllocError>
+pub(crate) fn bad_event_line(alloc: Global, number: usize) -> Result<String, AllocError>
     ensures { IfOk result (λ text. string_bytes text ≡ spec.bad_event_text number) }
 {
     format!(in alloc; "events:{number}: I3 bad event")
@@ -145,7 +145,11 @@ fn send_all(
 }
 
 /// The octets in hex, and a line for each item that was sent.
-fn print_sent(alloc: Global, octets: &[u8], events: &[Event]) -> Result<Answer, AllocError>
+pub(crate) fn print_sent(
+    alloc: Global,
+    octets: &[u8],
+    events: &[Event],
+) -> Result<Answer, AllocError>
     ensures { IfOk result (spec.IsSentPrinted octets.now (items_sent (map event_of events.now))) }
 {
     let mut output = hex::encode(alloc, octets)?;
@@ -171,7 +175,11 @@ fn push_sent(alloc: Global, output: &mut String, events: &[Event]) -> Result<(),
 }
 
 /// The line of a refused event.
-fn event_fault(alloc: Global, number: usize, fault: PackFault) -> Result<String, AllocError>
+pub(crate) fn event_fault(
+    alloc: Global,
+    number: usize,
+    fault: PackFault,
+) -> Result<String, AllocError>
     ensures says { IfOk result (λ text. spec.IsEventFault fault number (string_bytes text)) }
     ensures line { IfOk result (λ text. IsLine (string_bytes text)) }
 {
@@ -303,7 +311,12 @@ fn push_items(alloc: Global, output: &mut String, items: &[(Flow, Item)]) -> Res
     Ok(())
 }
 
-fn push_item(alloc: Global, output: &mut String, flow: Flow, item: &Item) -> Result<(), AllocError>
+pub(crate) fn push_item(
+    alloc: Global,
+    output: &mut String,
+    flow: Flow,
+    item: &Item,
+) -> Result<(), AllocError>
     ensures { OnOk result (spec.IsItemPushed flow item.now (string_bytes output.old) (string_bytes output.new)) }
 {
     let mut buffer = Buffer::new();

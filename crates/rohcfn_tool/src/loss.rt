@@ -1,6 +1,6 @@
 //! What is answered to `loss`.
 
-ghost use Rattle.std.specs.Prelude.{◌≡◌, IfOk, OnOk};
+ghost use Rattle.std.specs.Prelude.{◌≡◌, IfOk, OnOk, string_bytes};
 ghost use Rattle.rohcfn_tool.specs.Senders as senders;
 ghost use Rattle.rohcfn_tool.specs.Loss as spec;
 
@@ -15,6 +15,8 @@ use fn_stats::Tally;
 use rohcfn_input::refusals::refusal;
 use rohcfn_input::status::{Answer, Status};
 use rohcfn_items::loss::loss_text;
+use rohcfn_json::loss::loss_objects;
+use rohcfn_words::words::Form;
 use sqlite_items::Items;
 use std::alloc::{AllocError, Global};
 
@@ -22,11 +24,12 @@ use std::alloc::{AllocError, Global};
 pub(crate) fn lose_all(
     alloc: Global,
     accepted: &Accepted,
+    form: Form,
     most: u8,
     start: Sender,
     items: &[Item],
 ) -> Result<Answer, AllocError>
-    ensures { IfOk result (spec.LosesItems most accepted.now start items.now) }
+    ensures { IfOk result (spec.LosesItems form most accepted.now start items.now) }
 {
     let mut sender = start;
     let mut held = Items::new(alloc);
@@ -49,7 +52,7 @@ pub(crate) fn lose_all(
             return refuse(alloc, i + 1, fault);
         }
     }
-    print_losses(alloc, accepted, most, tally, &journal)
+    print_losses(alloc, accepted, form, most, tally, &journal)
 }
 
 /// The line of a refused item.
@@ -121,25 +124,38 @@ fn hold(
 fn print_losses(
     alloc: Global,
     accepted: &Accepted,
+    form: Form,
     most: u8,
     tally: Tally,
     journal: &Journal,
 ) -> Result<Answer, AllocError>
-    ensures { IfOk result (spec.IsPrintedLoss accepted.now most tally journal.now) }
+    ensures { IfOk result (spec.IsPrintedLoss form accepted.now most tally journal.now) }
 {
-    let profile = accepted.profile();
-    let mut output = loss_text(
-        alloc,
-        profile.methods(),
-        profile.top(),
-        most,
-        tally,
-        journal.readings.as_slice(),
-        journal.cases.as_slice(),
-    )?;
+    let mut output = losses_in(alloc, accepted, form, most, tally, journal)?;
     output.push('\n')?;
     Ok(Answer {
         status: Status::Done,
         output,
     })
+}
+
+/// The same in its form.
+fn losses_in(
+    alloc: Global,
+    accepted: &Accepted,
+    form: Form,
+    most: u8,
+    tally: Tally,
+    journal: &Journal,
+) -> Result<String, AllocError>
+    ensures { IfOk result (λ text. string_bytes text ≡ spec.losses_in form accepted.now most tally journal.now) }
+{
+    let profile = accepted.profile();
+    let (methods, top) = (profile.methods(), profile.top());
+    let readings = journal.readings.as_slice();
+    let cases = journal.cases.as_slice();
+    match form {
+        Form::Text => loss_text(alloc, methods, top, most, tally, readings, cases),
+        Form::Json => loss_objects(alloc, methods, top, most, tally, readings, cases),
+    }
 }

@@ -19,7 +19,9 @@ use itoa::Buffer;
 use rohcfn_input::spelling::{push_bits, push_item_of, push_line};
 use rohcfn_input::status::{Answer, Status};
 use rohcfn_items::fields::{Head, fields_text, head_line};
+use rohcfn_json::filled::fields_object;
 use rohcfn_names::names::{format_name, method_name};
+use rohcfn_words::words::Form;
 use std::alloc::{AllocError, Global};
 
 /// What is printed for an item or a packet.
@@ -27,8 +29,8 @@ use std::alloc::{AllocError, Global};
 pub enum Shape<'a> {
     /// The packed bits, or the item, in a line.
     Line,
-    /// The fields of the filling, in a line each.
-    Tree,
+    /// The fields of the filling, in a line each, or as an object.
+    Tree(Form),
     /// The format of the filling; of one that is refused what stands against each format, at its place in these octets of the profile.
     Why(&'a [u8]),
 }
@@ -38,7 +40,7 @@ pub(crate) fn stop_status(shape: Shape<'_>) -> Status
     ensures { result ≡ spec.stop_of shape.entry }
 {
     match shape {
-        Shape::Line | Shape::Tree => Status::Refused,
+        Shape::Line | Shape::Tree(_) => Status::Refused,
         Shape::Why(_) => Status::Done,
     }
 }
@@ -186,7 +188,7 @@ fn stop_item(
 {
     match shape {
         Shape::Line => refuse_item(alloc, output, number, fault),
-        Shape::Tree => refuse_item(alloc, output, number, fault),
+        Shape::Tree(_) => refuse_item(alloc, output, number, fault),
         Shape::Why(octets) => explain_item(
             alloc, octets, accepted, context, output, number, item, fault,
         ),
@@ -207,11 +209,11 @@ pub(crate) fn push_written(
 {
     match shape {
         Shape::Line => push_packed(alloc, output, packed),
-        Shape::Tree => {
+        Shape::Tree(form) => {
             let what = "item";
             let bits = packed.len();
             let head = Head { what, number, bits };
-            push_fields(alloc, accepted, output, head, filling)
+            push_fields(alloc, accepted, form, output, head, filling)
         }
         Shape::Why(_) => {
             let what = "item";
@@ -242,14 +244,19 @@ fn push_head(
 fn push_fields(
     alloc: Global,
     accepted: &Accepted,
+    form: Form,
     output: &mut String,
     head: Head<'_>,
     filling: &Filling,
 ) -> Result<(), AllocError>
-    ensures { OnOk result (spec.IsTreeText accepted.now head.entry.what.now head.entry.number head.entry.bits filling.now (string_bytes output.old) (string_bytes output.new)) }
+    ensures { OnOk result (spec.IsTreeText form accepted.now head.entry.what.now head.entry.number head.entry.bits filling.now (string_bytes output.old) (string_bytes output.new)) }
 {
     let profile = accepted.profile();
-    let text = fields_text(alloc, profile.methods(), profile.top(), head, filling)?;
+    let (methods, top) = (profile.methods(), profile.top());
+    let text = match form {
+        Form::Text => fields_text(alloc, methods, top, head, filling)?,
+        Form::Json => fields_object(alloc, methods, top, head, filling)?,
+    };
     push_line(output, text.as_str())
 }
 
@@ -381,7 +388,7 @@ fn stop_packet(
 {
     match shape {
         Shape::Line => refuse_packet(alloc, accepted, output, number, fault),
-        Shape::Tree => refuse_packet(alloc, accepted, output, number, fault),
+        Shape::Tree(_) => refuse_packet(alloc, accepted, output, number, fault),
         Shape::Why(octets) => explain_packet(
             alloc, octets, accepted, context, output, number, packet, fault,
         ),
@@ -421,7 +428,7 @@ fn push_found(
 {
     match shape {
         Shape::Line => push_read(alloc, output, header, filling, head.bits),
-        Shape::Tree => push_fields(alloc, accepted, output, head, filling),
+        Shape::Tree(form) => push_fields(alloc, accepted, form, output, head, filling),
         Shape::Why(_) => push_head(alloc, accepted, output, head, filling),
     }
 }

@@ -89,7 +89,7 @@ fn stop_sent(
 {
     match shape {
         Shape::Line => refuse_sent(alloc, accepted, sender, output, number, item, fault),
-        Shape::Tree => refuse_sent(alloc, accepted, sender, output, number, item, fault),
+        Shape::Tree(_) => refuse_sent(alloc, accepted, sender, output, number, item, fault),
         Shape::Why(octets) => explain_sent(
             alloc, octets, accepted, sender, output, number, item, fault,
         ),

@@ -1,8 +1,11 @@
 //! What is answered to `stats`, and by what to `loss`, `pack --robust` and `why --robust`.
 
-ghost use Rattle.std.specs.Prelude.{◌≡◌, ◌++◌, true, IfOk, OnOk, string_bytes};
+ghost use Rattle.std.specs.Prelude.{◌≡◌, ◌++◌, List, true, IfOk, OnOk, string_bytes};
+ghost use Rattle.fn_filling.specs.declared.filling.Filling.{Filling};
+ghost use Rattle.fn_stats.specs.Sums.{AreSums};
 ghost use Rattle.rohcfn_tool.specs.Senders as senders;
 ghost use Rattle.rohcfn_tool.specs.Printed as spec;
+ghost use Rattle.rohcfn_words.specs.declared.words.Form.TheVariants as form_is;
 
 use crate::advise::advise_all;
 use crate::answers::bad_line;
@@ -15,6 +18,7 @@ use fn_accepted::Accepted;
 use fn_context::Context;
 use fn_engine::Packed;
 use fn_filling::Item;
+use fn_normal::Method;
 use fn_robust::RobustFault;
 use fn_stats::{Sums, Tally};
 use rohcfn_input::bundle::Parts;
@@ -23,9 +27,10 @@ use rohcfn_input::refusals::{context_line, refusal};
 use rohcfn_input::spelling::push_line;
 use rohcfn_input::status::{Answer, Status};
 use rohcfn_items::stats::stats_text;
+use rohcfn_json::stats::{push_item, stats_objects};
 use rohcfn_names::names::format_name;
 use rohcfn_report::profile_and_certificate::{Judged, Origin, accept};
-use rohcfn_words::words::{Counting, Direction, Order};
+use rohcfn_words::words::{Counting, Direction, Form, Order};
 use std::alloc::{AllocError, Global};
 
 /// What is told of items that are packed.
@@ -34,15 +39,15 @@ pub(crate) enum Survey<'a> {
     /// How many there are, and how many bits they take.
     Stats(Counting),
     /// What receivers read of them where up to so many packets are lost.
-    Loss(u8),
+    Loss(Form, u8),
     /// What is printed of each in that shape, and the last context where it is wanted, of packets that survive losses of up to so many in a row.
     RobustPack(Shape<'a>, bool, u8),
     /// How many such packets there are, and how many bits they take.
     RobustStats(u8, Counting),
     /// What receivers read of them where up to so many are lost, the first number, and as many as the second says do no harm.
-    RobustLoss(u8, u8),
+    RobustLoss(Form, u8, u8),
     /// What the fields are like, and which `lsb` takes their steps where up to so many packets are lost.
-    Advise(u8),
+    Advise(Form, u8),
     /// What stands against the format of that name, by these octets of the profile, for those that are packed by others.
     Avoid(&'a [u8], &'a str),
 }
@@ -135,7 +140,10 @@ fn tell_all(
         Survey::Stats(counting) => {
             count_all(alloc, accepted, counting, Sender::Plain(context), items)
         }
-        Survey::Loss(most) => lose_all(alloc, accepted, most, Sender::Plain(context), items),
+        Survey::Loss(form, most) => {
+            let sender = Sender::Plain(context);
+            lose_all(alloc, accepted, form, most, sender, items)
+        }
         Survey::RobustPack(shape, shows, lost) => {
             let sender = Sender::surviving(alloc, &context, lost)?;
             send_all(alloc, shape, shows, accepted, sender, items)
@@ -144,11 +152,14 @@ fn tell_all(
             let sender = Sender::surviving(alloc, &context, lost)?;
             count_all(alloc, accepted, counting, sender, items)
         }
-        Survey::Advise(lost) => { advise_all(alloc, accepted, lost, Sender::Plain(context), items) }
+        Survey::Advise(form, lost) => {
+            let sender = Sender::Plain(context);
+            advise_all(alloc, accepted, form, lost, sender, items)
+        }
         Survey::Avoid(octets, name) => { avoid_all(alloc, octets, name, accepted, context, items) }
-        Survey::RobustLoss(most, lost) => {
+        Survey::RobustLoss(form, most, lost) => {
             let sender = Sender::surviving(alloc, &context, lost)?;
-            lose_all(alloc, accepted, most, sender, items)
+            lose_all(alloc, accepted, form, most, sender, items)
         }
     }
 }
@@ -234,13 +245,57 @@ fn add_row(
     number: usize,
     sent: &Packed,
 ) -> Result<(), AllocError>
-    ensures { OnOk result (counting.lists_items ≡ true → string_bytes rows.new ≡ string_bytes rows.old ++ spec.item_row accepted.now number sent.now) }
+    ensures { OnOk result (counting.lists_items ≡ true → string_bytes rows.new ≡ string_bytes rows.old ++ spec.item_row counting.form accepted.now number sent.now) }
 {
     if !counting.lists_items {
         return Ok(());
     }
+    push_row_in(alloc, counting.form, accepted, rows, number, sent)
+}
+
+/// Adds the row of an item, or its object.
+fn push_row_in(
+    alloc: Global,
+    form: Form,
+    accepted: &Accepted,
+    rows: &mut String,
+    number: usize,
+    sent: &Packed,
+) -> Result<(), AllocError>
+    ensures { OnOk result (string_bytes rows.new ≡ string_bytes rows.old ++ spec.item_row form accepted.now number sent.now) }
+{
+    match form {
+        Form::Text => push_item_row(alloc, accepted, rows, number, sent),
+        Form::Json => push_item_object(alloc, accepted, rows, number, sent),
+    }
+}
+
+fn push_item_row(
+    alloc: Global,
+    accepted: &Accepted,
+    rows: &mut String,
+    number: usize,
+    sent: &Packed,
+) -> Result<(), AllocError>
+    ensures { OnOk result (string_bytes rows.new ≡ string_bytes rows.old ++ spec.item_row form_is.Text accepted.now number sent.now) }
+{
     let row = item_row(alloc, accepted, number, sent)?;
     rows.push_str(row.as_str())
+}
+
+/// Adds the object of an item.
+fn push_item_object(
+    alloc: Global,
+    accepted: &Accepted,
+    rows: &mut String,
+    number: usize,
+    sent: &Packed,
+) -> Result<(), AllocError>
+    ensures { OnOk result (string_bytes rows.new ≡ string_bytes rows.old ++ spec.item_row form_is.Json accepted.now number sent.now) }
+{
+    let profile = accepted.profile();
+    let name = format_name(profile.methods(), profile.top(), sent.filling.format);
+    push_item(alloc, rows, number, name, sent.packed.len())
 }
 
 /// The row of an item, after a line feed: its number, its format and how many bits its packet has, with tabs between them.
@@ -250,7 +305,7 @@ fn item_row(
     number: usize,
     sent: &Packed,
 ) -> Result<String, AllocError>
-    ensures { IfOk result (λ text. string_bytes text ≡ spec.item_row accepted.now number sent.now) }
+    ensures { IfOk result (λ text. string_bytes text ≡ spec.item_row form_is.Text accepted.now number sent.now) }
 {
     let profile = accepted.profile();
     let name = format_name(profile.methods(), profile.top(), sent.filling.format);
@@ -306,10 +361,42 @@ fn counts_text(
     ensures { IfOk result (λ text. spec.IsCountsText accepted.now counting told.now (string_bytes text)) }
 {
     if counting.lists_items {
-        return heads_and_rows(alloc, told.rows.as_str());
+        return listed_text(alloc, counting.form, told.rows.as_str());
     }
     let profile = accepted.profile();
-    stats_text(alloc, profile.methods(), profile.top(), &told.sums)
+    counted_in(
+        alloc,
+        counting.form,
+        profile.methods(),
+        profile.top(),
+        &told.sums,
+    )
+}
+
+/// What is counted, in its form.
+fn counted_in(
+    alloc: Global,
+    form: Form,
+    methods: &[Method],
+    top: usize,
+    sums: &Sums,
+) -> Result<String, AllocError>
+    ensures { IfOk result (λ text. (fs : List Filling) → AreSums fs sums.now → string_bytes text ≡ spec.counted_in form methods.now top fs) }
+{
+    match form {
+        Form::Text => stats_text(alloc, methods, top, sums),
+        Form::Json => stats_objects(alloc, methods, top, sums),
+    }
+}
+
+/// The rows of items, below their heads where these are text.
+fn listed_text(alloc: Global, form: Form, rows: &str) -> Result<String, AllocError>
+    ensures { IfOk result (λ text. string_bytes text ≡ spec.heads_of form ++ rows.now) }
+{
+    match form {
+        Form::Text => heads_and_rows(alloc, rows),
+        Form::Json => String::from_str(alloc, rows),
+    }
 }
 
 fn heads_and_rows(alloc: Global, rows: &str) -> Result<String, AllocError>

@@ -41,6 +41,9 @@ pub asked_whole : (met : Option (List ℕ × List Row)) (name : List ℕ) (rows 
 asked_whole met name rows command top context version wide strict form avoided m c t x v w s o a =
     (λ i. Some (record { command = command; top = top; shows_context = x i; version = v i; is_wide = w i; is_strict = s i; form = o i; avoided = a i })) ∙ (λ i. asked_by (c i) (t i) rows) ∙ sym (ap asked_in m)
 
+pub no_top : (m : Option (List ℕ × List Row)) (name : List ℕ) (rows : List Row) (command : Command) → m ≡ Some (name, rows) → Some command ≡ command_in name rows → None ≡ first_of (codes "top") rows → None ≡ asked_in m
+no_top m name rows command met c t = (λ i. asked_by (c i) (t i) rows) ∙ sym (ap asked_in met)
+
 pub asked_found : (app : App) (words : List (List ℕ)) (met : Option (List ℕ × List Row)) (x : Option Asked) → app ≡ program → (is_simple_and_free app ≡ true → fault_of app words ≡ []) → (is_simple app ≡ true → met ≡ subcommand_of app words) → x ≡ asked_in met → asked_of words ≡ x
 unfolding asked_of
 asked_found app words met x is none matches e =

@@ -8,10 +8,10 @@ use Rattle.std.proofs.lemmas.Fmt.{decimal_is_IsNumeral}
 use Rattle.std.proofs.lemmas.Slice.Eq.{bytes_eq-Decides}
 use Rattle.clap.specs.Words.{Row, first_of}
 use Rattle.rohcfn_words.specs.declared.words.Command.{Command}
-use Rattle.rohcfn_words.specs.declared.words.Command.TheVariants.{Run, Stats, Loss, Why, RobustPack, RobustStats, RobustLoss, RobustWhy}
+use Rattle.rohcfn_words.specs.declared.words.Command.TheVariants.{Run, Stats, Loss, Why, RobustPack, RobustStats, RobustLoss, RobustWhy, SendFrames}
 use Rattle.rohcfn_words.specs.declared.words.Direction.TheVariants.{Pack}
 use Rattle.rohcfn_words.specs.declared.words.Counting.{Counting}
-use Rattle.rohcfn_words.specs.Words.{Asked, ReadsLost, ReadsMost, ReadsRobust, asked_by, asked_in, bits_spelled, command_asked, command_named, counting_in, counting_of, form_asked, is_set, lost_in, lost_spelled, robust_by, robust_command, why_named}
+use Rattle.rohcfn_words.specs.Words.{Asked, ReadsLost, ReadsMost, ReadsRobust, asked_by, asked_in, bits_spelled, command_asked, command_named, counting_in, counting_of, form_asked, is_set, lost_in, lost_spelled, robust_by, robust_command, why_named, line_named}
 
 both_true : (a b : Bool) → (a && b) ≡ true → (a ≡ true) × (b ≡ true)
 both_true true b h = (refl, h)
@@ -110,6 +110,12 @@ robust_tells rows n top below r items alone t =
     (λ i. option_and_then (robust_by (first_of (codes "robust") rows)) (why_named (is_set (items i)) (alone i))) ∙ robust_number rows n (Why Pack) below r in
     λ i. option_map (λ (a : Asked). a.command) (asked_by (command i) (t i) rows)
 
+robust_frames : (rows : List Row) (n : ℕ) (top : List ℕ) → n < 64 → first_of (codes "robust") rows ≡ Some (decimal n) → first_of (codes "frames") rows ≡ Some (codes "true") → first_of (codes "receive") rows ≡ None → first_of (codes "wide") rows ≡ None → first_of (codes "top") rows ≡ Some top → command_asked (codes "line") rows ≡ Some (SendFrames n)
+robust_frames rows n top below r frames sends narrow t =
+    let command : option_and_then (robust_by (first_of (codes "robust") rows)) (line_named (is_set (first_of (codes "receive") rows)) (is_set (first_of (codes "frames") rows)) (is_set (first_of (codes "wide") rows))) ≡ Some (SendFrames n) =
+    (λ i. option_and_then (robust_by (first_of (codes "robust") rows)) (line_named (is_set (sends i)) (is_set (frames i)) (is_set (narrow i)))) ∙ robust_number rows n (SendFrames 0) below r in
+    λ i. option_map (λ (a : Asked). a.command) (asked_by (command i) (t i) rows)
+
 -- with another text none is asked for
 unspelled : (text : List ℕ) (command : Option Command) → lost_spelled text ≡ None → option_and_then (robust_by (Some text)) command ≡ None
 unspelled text None none = refl
@@ -127,6 +133,7 @@ robust_is_read = record {
   counts = robust_counts;
   loses = robust_loses;
   tells = robust_tells;
+  frames = robust_frames;
   refuses = robust_refused;
 }
 

@@ -3,7 +3,7 @@ use Rattle.std.proofs.Common.{◌≡◌, [], ◌∷◌, None, Some, true, false,
 use Rattle.std.specs.Fmt.{digits}
 use Rattle.clap.proofs.OnLiterals.{clap_on_literals}
 use Rattle.fn_cert.specs.declared.certificate.Version.TheVariants.{One, Two}
-use Rattle.rohcfn_words.specs.declared.words.Command.TheVariants.{Show, Lint, Draw, Check, Prove, ExplainCheck, ExplainProve, Run, Fields, Why, WhyNot, Stats, Loss, Advise, RobustPack, RobustStats, RobustLoss, RobustWhy, Line}
+use Rattle.rohcfn_words.specs.declared.words.Command.TheVariants.{Show, Lint, Draw, Check, Prove, ExplainCheck, ExplainProve, Run, Fields, Why, WhyNot, Stats, Loss, Advise, RobustPack, RobustStats, RobustLoss, RobustWhy, Line, SendFrames, ReceiveFrames}
 use Rattle.rohcfn_words.specs.declared.words.Direction.TheVariants.{Pack, Unpack}
 use Rattle.rohcfn_words.specs.declared.words.End.TheVariants.{Sending, Receiving}
 use Rattle.rohcfn_words.specs.declared.words.Form.TheVariants.{Text, Json}
@@ -337,5 +337,33 @@ pub help_command_met : AskHelp (codes "help" ∷ [])
 unfolding AskHelp program clap_on_literals
 help_command_met = inl refl
 
+pub line_frames_read : asked_of (codes "line" ∷ codes "--top" ∷ codes "plain" ∷ codes "--frames" ∷ []) ≡ Some (record { command = SendFrames 0; top = codes "plain"; shows_context = false; version = One; is_wide = false; is_strict = false; form = Text; avoided = [] })
+unfolding asked_of program clap_on_literals digits
+line_frames_read = refl
+
+pub line_frames_receive_read : asked_of (codes "line" ∷ codes "--receive" ∷ codes "--frames" ∷ codes "--top" ∷ codes "plain" ∷ codes "--v2" ∷ []) ≡ Some (record { command = ReceiveFrames; top = codes "plain"; shows_context = false; version = Two; is_wide = false; is_strict = false; form = Text; avoided = [] })
+unfolding asked_of program clap_on_literals digits
+line_frames_receive_read = refl
+
+pub line_frames_robust_read : asked_of (codes "line" ∷ codes "--top" ∷ codes "plain" ∷ codes "--frames" ∷ codes "--robust" ∷ codes "3" ∷ []) ≡ Some (record { command = SendFrames 3; top = codes "plain"; shows_context = false; version = One; is_wide = false; is_strict = false; form = Text; avoided = [] })
+unfolding asked_of program clap_on_literals digits
+line_frames_robust_read = refl
+
+pub line_frames_wide_refused : asked_of (codes "line" ∷ codes "--top" ∷ codes "plain" ∷ codes "--frames" ∷ codes "--wide" ∷ []) ≡ None
+unfolding asked_of program clap_on_literals digits
+line_frames_wide_refused = refl
+
+pub line_robust_refused : asked_of (codes "line" ∷ codes "--top" ∷ codes "plain" ∷ codes "--robust" ∷ codes "3" ∷ []) ≡ None
+unfolding asked_of program clap_on_literals digits
+line_robust_refused = refl
+
+pub line_robust_receive_refused : asked_of (codes "line" ∷ codes "--top" ∷ codes "plain" ∷ codes "--frames" ∷ codes "--receive" ∷ codes "--robust" ∷ codes "3" ∷ []) ≡ None
+unfolding asked_of program clap_on_literals digits
+line_robust_receive_refused = refl
+
+pub line_frames_above_refused : asked_of (codes "line" ∷ codes "--top" ∷ codes "plain" ∷ codes "--frames" ∷ codes "--robust" ∷ codes "64" ∷ []) ≡ None
+unfolding asked_of program clap_on_literals digits
+line_frames_above_refused = refl
+
 pub words_are_read : ReadsWords
-words_are_read = record { pack = pack_read; unpack = unpack_read; show = show_read; check = check_read; prove = prove_read; pack_context = pack_context_read; pack_second = pack_second_read; prove_second = prove_second_read; line_second = line_second_read; show_second = show_second_refused; show_context = show_context_refused; line = line_read; line_receive = line_receive_read; line_wide = line_wide_read; line_wide_receive = line_wide_receive_read; fields = fields_read; fields_items = fields_items_read; why = why_read; why_items = why_items_read; stats = stats_read; stats_context = stats_context_refused; loss = loss_read; loss_none = loss_none_read; loss_most = loss_most_read; loss_above = loss_above_refused; loss_plus = loss_plus_refused; loss_minus = loss_minus_refused; loss_zero_first = loss_zero_first_refused; loss_empty = loss_empty_refused; loss_letter = loss_letter_refused; loss_twice = loss_twice_refused; loss_context = loss_context_refused; stats_lost = stats_lost_refused; pack_robust = pack_robust_read; pack_robust_context = pack_robust_context_read; pack_robust_above = pack_robust_above_read; pack_robust_zero_first = pack_robust_zero_first_read; pack_robust_twice = pack_robust_twice_read; stats_robust = stats_robust_read; stats_robust_plus = stats_robust_plus_read; loss_robust = loss_robust_read; loss_both = loss_both_read; loss_robust_empty = loss_robust_empty_read; why_robust = why_robust_read; why_robust_packets = why_robust_packets_refused; unpack_robust = unpack_robust_read; fields_robust = fields_robust_read; stats_by_item = stats_by_item_read; stats_checks = stats_checks_read; stats_checks_robust = stats_checks_robust_read; stats_most_above = stats_most_above_refused; stats_most_letter = stats_most_letter_refused; loss_checks = loss_checks_refused; why_not = why_not_read; why_not_second = why_not_second_read; why_not_packets = why_not_packets_refused; why_not_robust = why_not_robust_refused; fields_not = fields_not_refused; advise = advise_read; advise_lost = advise_lost_read; advise_robust = advise_robust_refused; lint_strict = lint_strict_read; draw_strict = draw_strict_refused; lint = lint_read; lint_second = lint_second_refused; draw = draw_read; check_explain = check_explain_read; prove_explain = prove_explain_read; lint_json = lint_json_read; stats_json = stats_json_read; pack_json = pack_json_refused; pack_explain = pack_explain_refused; pack_items = pack_items_refused; pack_wide = pack_wide_refused; pack_receive = pack_receive_refused; line_context = line_context_refused; no_top = top_missing; no_command = command_missing; other_flag = flag_unknown; help = help_wanted; command_help = command_help_wanted; help_command = help_command_met }
+words_are_read = record { pack = pack_read; unpack = unpack_read; show = show_read; check = check_read; prove = prove_read; pack_context = pack_context_read; pack_second = pack_second_read; prove_second = prove_second_read; line_second = line_second_read; show_second = show_second_refused; show_context = show_context_refused; line = line_read; line_receive = line_receive_read; line_wide = line_wide_read; line_wide_receive = line_wide_receive_read; line_frames = line_frames_read; line_frames_receive = line_frames_receive_read; line_frames_robust = line_frames_robust_read; line_frames_wide = line_frames_wide_refused; line_robust = line_robust_refused; line_robust_receive = line_robust_receive_refused; line_frames_above = line_frames_above_refused; fields = fields_read; fields_items = fields_items_read; why = why_read; why_items = why_items_read; stats = stats_read; stats_context = stats_context_refused; loss = loss_read; loss_none = loss_none_read; loss_most = loss_most_read; loss_above = loss_above_refused; loss_plus = loss_plus_refused; loss_minus = loss_minus_refused; loss_zero_first = loss_zero_first_refused; loss_empty = loss_empty_refused; loss_letter = loss_letter_refused; loss_twice = loss_twice_refused; loss_context = loss_context_refused; stats_lost = stats_lost_refused; pack_robust = pack_robust_read; pack_robust_context = pack_robust_context_read; pack_robust_above = pack_robust_above_read; pack_robust_zero_first = pack_robust_zero_first_read; pack_robust_twice = pack_robust_twice_read; stats_robust = stats_robust_read; stats_robust_plus = stats_robust_plus_read; loss_robust = loss_robust_read; loss_both = loss_both_read; loss_robust_empty = loss_robust_empty_read; why_robust = why_robust_read; why_robust_packets = why_robust_packets_refused; unpack_robust = unpack_robust_read; fields_robust = fields_robust_read; stats_by_item = stats_by_item_read; stats_checks = stats_checks_read; stats_checks_robust = stats_checks_robust_read; stats_most_above = stats_most_above_refused; stats_most_letter = stats_most_letter_refused; loss_checks = loss_checks_refused; why_not = why_not_read; why_not_second = why_not_second_read; why_not_packets = why_not_packets_refused; why_not_robust = why_not_robust_refused; fields_not = fields_not_refused; advise = advise_read; advise_lost = advise_lost_read; advise_robust = advise_robust_refused; lint_strict = lint_strict_read; draw_strict = draw_strict_refused; lint = lint_read; lint_second = lint_second_refused; draw = draw_read; check_explain = check_explain_read; prove_explain = prove_explain_read; lint_json = lint_json_read; stats_json = stats_json_read; pack_json = pack_json_refused; pack_explain = pack_explain_refused; pack_items = pack_items_refused; pack_wide = pack_wide_refused; pack_receive = pack_receive_refused; line_context = line_context_refused; no_top = top_missing; no_command = command_missing; other_flag = flag_unknown; help = help_wanted; command_help = command_help_wanted; help_command = help_command_met }

@@ -10,7 +10,7 @@ use Rattle.clap.specs.declared.error.kind.ErrorKind.TheVariants.{DisplayHelp, Ou
 use Rattle.fn_cert.specs.declared.certificate.Version.{Version}
 use Rattle.fn_cert.specs.declared.certificate.Version.TheVariants.{One, Two}
 use Rattle.rohcfn_words.specs.declared.words.Command.{Command}
-use Rattle.rohcfn_words.specs.declared.words.Command.TheVariants.{Show, Lint, Draw, Check, Prove, ExplainCheck, ExplainProve, Run, Fields, Why, WhyNot, Stats, Loss, Advise, RobustPack, RobustStats, RobustLoss, RobustWhy, Line}
+use Rattle.rohcfn_words.specs.declared.words.Command.TheVariants.{Show, Lint, Draw, Check, Prove, ExplainCheck, ExplainProve, Run, Fields, Why, WhyNot, Stats, Loss, Advise, RobustPack, RobustStats, RobustLoss, RobustWhy, Line, SendFrames, ReceiveFrames}
 use Rattle.rohcfn_words.specs.declared.words.Counting.{Counting}
 use Rattle.rohcfn_words.specs.declared.words.Direction.{Direction}
 use Rattle.rohcfn_words.specs.declared.words.Direction.TheVariants.{Pack, Unpack}
@@ -37,7 +37,7 @@ context_flag = record (new_rule (codes "context")) {
   action = Some SetTrue;
 }
 
--- `--items`, `--v2`, `--explain`, `--receive`, `--wide` and `--json`, likewise
+-- `--items`, `--v2`, `--explain`, `--receive`, `--wide`, `--frames` and `--json`, likewise
 abbrev pub items_flag : Rule
 items_flag = record (new_rule (codes "items")) {
   long = Some (codes "items");
@@ -71,6 +71,12 @@ wide_flag = record (new_rule (codes "wide")) {
 abbrev pub json_flag : Rule
 json_flag = record (new_rule (codes "json")) {
   long = Some (codes "json");
+  action = Some SetTrue;
+}
+
+abbrev pub frames_flag : Rule
+frames_flag = record (new_rule (codes "frames")) {
+  long = Some (codes "frames");
   action = Some SetTrue;
 }
 
@@ -184,6 +190,12 @@ with_receive name = with_rule (with_version name) receive_flag
 abbrev pub with_wide : List ℕ → App
 with_wide name = with_rule (with_receive name) wide_flag
 
+abbrev pub with_frames : List ℕ → App
+with_frames name = with_rule (with_wide name) frames_flag
+
+abbrev pub with_line : List ℕ → App
+with_line name = with_rule (with_frames name) robust_option
+
 -- the program's own command line: no name before the words, and one of the commands has to be there
 abbrev pub bare_program : App
 bare_program = on_top (λ top. record top { no_binary_name = true; subcommand_required = true })
@@ -192,7 +204,7 @@ bare_program = on_top (λ top. record top { no_binary_name = true; subcommand_re
 -- with its commands
 unfoldable pub program : App
 program = with_subcommand (with_subcommand (with_subcommand (with_subcommand (with_subcommand (with_subcommand (with_subcommand (with_subcommand (with_subcommand (with_subcommand (with_subcommand (with_subcommand (with_subcommand bare_program (with_sending (codes "pack")).top)
-    (with_flags (codes "unpack")).top) (with_items (codes "fields")).top) (with_reasons (codes "why")).top) (with_checks (codes "stats")).top) (with_losses (codes "loss")).top) (with_lost (codes "advise")).top) (with_top (codes "show")).top) (with_strict (codes "lint")).top) (with_drawing (codes "draw")).top) (with_explain (codes "check")).top) (with_explain (codes "prove")).top) (with_wide (codes "line")).top
+    (with_flags (codes "unpack")).top) (with_items (codes "fields")).top) (with_reasons (codes "why")).top) (with_checks (codes "stats")).top) (with_losses (codes "loss")).top) (with_lost (codes "advise")).top) (with_top (codes "show")).top) (with_strict (codes "lint")).top) (with_drawing (codes "draw")).top) (with_explain (codes "check")).top) (with_explain (codes "prove")).top) (with_line (codes "line")).top
 
 -- a command, the name of a method, whether the last context is printed, the version of a certificate that is made, whether the line is the wide one and whether a
 -- warning ends with status 1, the form of the answer, and the format of `--not`, which is empty where none is given
@@ -257,6 +269,7 @@ robust_command (Run direction) n = robust_run direction n
 robust_command (Why direction) n = robust_why direction n
 robust_command (Stats counting) n = Some (RobustStats n counting)
 robust_command (Loss most) n = Some (RobustLoss most n)
+robust_command (SendFrames none) n = Some (SendFrames n)
 robust_command _ n = None
 
 -- that where the option is there, else the command as it stands
@@ -285,6 +298,13 @@ abbrev pub why_named : Bool → Option (List ℕ) → Option Command
 why_named packs None = Some (Why (direction_at packs))
 why_named packs (Some format) = if packs then Some WhyNot else None
 
+-- `line`, by whether the receiving end, frames and the wide line are asked for; frames have 64 flows as they are
+abbrev pub frames_at : Bool → Command
+frames_at receives = if receives then ReceiveFrames else SendFrames 0
+
+abbrev pub line_named : Bool → Bool → Bool → Option Command
+line_named receives frames wide = if frames then (if wide then None else Some (frames_at receives)) else Some (Line (end_at receives))
+
 -- a command by its name and the values of its flags, but `--robust`
 abbrev pub command_named : List ℕ → List Row → Option Command
 command_named name rows = if bytes_eq name (codes "pack") then Some (Run Pack)
@@ -299,7 +319,7 @@ command_named name rows = if bytes_eq name (codes "pack") then Some (Run Pack)
     else (if bytes_eq name (codes "draw") then Some Draw
     else (if bytes_eq name (codes "check") then Some (check_at (is_set (first_of (codes "explain") rows)))
     else (if bytes_eq name (codes "prove") then Some (prove_at (is_set (first_of (codes "explain") rows)))
-    else (if bytes_eq name (codes "line") then Some (Line (end_at (is_set (first_of (codes "receive") rows)))) else None))))))))))))
+    else (if bytes_eq name (codes "line") then line_named (is_set (first_of (codes "receive") rows)) (is_set (first_of (codes "frames") rows)) (is_set (first_of (codes "wide") rows)) else None))))))))))))
 
 -- a command by its name and the values of its flags
 abbrev pub command_in : List ℕ → List Row → Option Command
@@ -340,7 +360,7 @@ pub record ReadsLost : Type 0 where
   pub refuses : (rows : List Row) (text : List ℕ) → first_of (codes "lost") rows ≡ Some text → ((n : ℕ) → n < 64 → text ≢ decimal n)
       → asked_in (Some (codes "loss", rows)) ≡ None
 
--- What `pack`, `stats`, `loss` and `why` make of the text that `--robust` has, likewise.
+-- What `pack`, `stats`, `loss`, `why` and `line` make of the text that `--robust` has, likewise.
 pub record ReadsRobust : Type 0 where
   pub packs : (rows : List Row) (n : ℕ) (top : List ℕ) → n < 64 → first_of (codes "robust") rows ≡ Some (decimal n) → first_of (codes "top") rows ≡ Some top
       → command_asked (codes "pack") rows ≡ Some (RobustPack n)
@@ -350,6 +370,8 @@ pub record ReadsRobust : Type 0 where
       → command_asked (codes "loss") rows ≡ Some (RobustLoss most n)
   pub tells : (rows : List Row) (n : ℕ) (top : List ℕ) → n < 64 → first_of (codes "robust") rows ≡ Some (decimal n) → first_of (codes "items") rows ≡ Some (codes "true") → first_of (codes "not") rows ≡ None → first_of (codes "top") rows ≡ Some top
       → command_asked (codes "why") rows ≡ Some (RobustWhy n)
+  pub frames : (rows : List Row) (n : ℕ) (top : List ℕ) → n < 64 → first_of (codes "robust") rows ≡ Some (decimal n) → first_of (codes "frames") rows ≡ Some (codes "true") → first_of (codes "receive") rows ≡ None → first_of (codes "wide") rows ≡ None → first_of (codes "top") rows ≡ Some top
+      → command_asked (codes "line") rows ≡ Some (SendFrames n)
   pub refuses : (name text : List ℕ) (rows : List Row) → first_of (codes "robust") rows ≡ Some text → ((n : ℕ) → n < 64 → text ≢ decimal n)
       → asked_in (Some (name, rows)) ≡ None
 
@@ -411,6 +433,13 @@ pub record ReadsWords : Type 0 where
   pub line_receive : asked_of (codes "line" ∷ codes "--top" ∷ codes "plain" ∷ codes "--receive" ∷ []) ≡ Some (record { command = Line Receiving; top = codes "plain"; shows_context = false; version = One; is_wide = false; is_strict = false; form = Text; avoided = [] })
   pub line_wide : asked_of (codes "line" ∷ codes "--top" ∷ codes "plain" ∷ codes "--wide" ∷ []) ≡ Some (record { command = Line Sending; top = codes "plain"; shows_context = false; version = One; is_wide = true; is_strict = false; form = Text; avoided = [] })
   pub line_wide_receive : asked_of (codes "line" ∷ codes "--wide" ∷ codes "--receive" ∷ codes "--top" ∷ codes "plain" ∷ []) ≡ Some (record { command = Line Receiving; top = codes "plain"; shows_context = false; version = One; is_wide = true; is_strict = false; form = Text; avoided = [] })
+  pub line_frames : asked_of (codes "line" ∷ codes "--top" ∷ codes "plain" ∷ codes "--frames" ∷ []) ≡ Some (record { command = SendFrames 0; top = codes "plain"; shows_context = false; version = One; is_wide = false; is_strict = false; form = Text; avoided = [] })
+  pub line_frames_receive : asked_of (codes "line" ∷ codes "--receive" ∷ codes "--frames" ∷ codes "--top" ∷ codes "plain" ∷ codes "--v2" ∷ []) ≡ Some (record { command = ReceiveFrames; top = codes "plain"; shows_context = false; version = Two; is_wide = false; is_strict = false; form = Text; avoided = [] })
+  pub line_frames_robust : asked_of (codes "line" ∷ codes "--top" ∷ codes "plain" ∷ codes "--frames" ∷ codes "--robust" ∷ codes "3" ∷ []) ≡ Some (record { command = SendFrames 3; top = codes "plain"; shows_context = false; version = One; is_wide = false; is_strict = false; form = Text; avoided = [] })
+  pub line_frames_wide : asked_of (codes "line" ∷ codes "--top" ∷ codes "plain" ∷ codes "--frames" ∷ codes "--wide" ∷ []) ≡ None
+  pub line_robust : asked_of (codes "line" ∷ codes "--top" ∷ codes "plain" ∷ codes "--robust" ∷ codes "3" ∷ []) ≡ None
+  pub line_robust_receive : asked_of (codes "line" ∷ codes "--top" ∷ codes "plain" ∷ codes "--frames" ∷ codes "--receive" ∷ codes "--robust" ∷ codes "3" ∷ []) ≡ None
+  pub line_frames_above : asked_of (codes "line" ∷ codes "--top" ∷ codes "plain" ∷ codes "--frames" ∷ codes "--robust" ∷ codes "64" ∷ []) ≡ None
   pub fields : asked_of (codes "fields" ∷ codes "--top" ∷ codes "plain" ∷ []) ≡ Some (record { command = Fields Unpack; top = codes "plain"; shows_context = false; version = One; is_wide = false; is_strict = false; form = Text; avoided = [] })
   pub fields_items : asked_of (codes "fields" ∷ codes "--top" ∷ codes "plain" ∷ codes "--items" ∷ codes "--context" ∷ []) ≡ Some (record { command = Fields Pack; top = codes "plain"; shows_context = true; version = One; is_wide = false; is_strict = false; form = Text; avoided = [] })
   pub why : asked_of (codes "why" ∷ codes "--top" ∷ codes "plain" ∷ []) ≡ Some (record { command = Why Unpack; top = codes "plain"; shows_context = false; version = One; is_wide = false; is_strict = false; form = Text; avoided = [] })

@@ -2,7 +2,7 @@
 ghost use Rattle.std.specs.Prelude.{◌≡◌, false, IfOk};
 ghost use Rattle.clap.specs.Words.{app_of};
 ghost use Rattle.clap.specs.declared.builder.command.Command.TheViews.{out-Command as fields_of};
-ghost use Rattle.rohcfn_words.specs.Words.{program, with_all, with_avoided, with_checks, with_drawing, with_explain, with_flags, with_items, with_json, with_list, with_listed, with_losses, with_lost, with_reasons, with_receive, with_robust, with_sending, with_strict, with_top, with_version, with_wide};
+ghost use Rattle.rohcfn_words.specs.Words.{program, with_all, with_avoided, with_checks, with_drawing, with_explain, with_flags, with_items, with_json, with_list, with_listed, with_losses, with_lost, with_reasons, with_receive, with_robust, with_sending, with_strict, with_top, with_version, with_wide, with_frames, with_line};
 
 use clap::{Arg, ArgAction};
 use std::alloc::{AllocError, Global};
@@ -41,12 +41,14 @@ A bundle is read from standard input: parts, each after a line `=== PART`. For e
   rohcfn advise --top plain <BUNDLE          profile, items > what each field is like, which lsb serves
   rohcfn line --top plain <BUNDLE            profile, events > octets in hex, then `FLOW ITEM` lines
   rohcfn line --top plain --receive <BUNDLE  profile, octets > `FLOW ITEM` lines
+  rohcfn line --top plain --frames <BUNDLE   the same with frames, each of which may be lost
+                                             (with --robust N, of packets that survive losses)
   rohcfn stats --top plain --json <BUNDLE    the same as objects of JSON, one a line; so with lint, draw, prove, check,
                                              fields, why, loss and advise
 
 The parts certificate and context may be there as well. Where no certificate is there one is made,
-with --v2 of version 2. A line has 16 flows, with --wide 64. Without words the program takes those
-of the part words. Each format, and the lines of faults: docs/FORMATS.md.
+with --v2 of version 2. A line has 16 flows, with --wide or --frames 64. Without words the program
+takes those of the part words. Each format, and the lines of faults: docs/FORMATS.md.
 ";
 
 // The program's command line.
@@ -108,7 +110,7 @@ pub(crate) fn program<'a>(alloc: Global) -> Result<clap::Command<'a>, AllocError
     let six = drawn.subcommand(check)?;
     let prove = with_explain(alloc, "prove", "Makes a certificate for the part profile")?;
     let seven = six.subcommand(prove)?;
-    let line = with_wide(alloc, "line", "Sends the part events on a line of flows")?;
+    let line = with_line(alloc, "line", "Sends the part events on a line of flows")?;
     seven.subcommand(line)
 }
 
@@ -434,4 +436,36 @@ fn with_wide<'a>(
         .help("Takes a line of 64 flows in place of 16")
         .action(ArgAction::SetTrue);
     with_receive(alloc, name, about)?.arg(wide)
+}
+
+// The same with the flag `--frames`.
+fn with_frames<'a>(
+    alloc: Global,
+    name: &'a str,
+    about: &'a str,
+) -> Result<clap::Command<'a>, AllocError>
+    ensures app { IfOk result (λ command. app_of command ≡ with_frames name.entry.now) }
+    ensures local { IfOk result (λ command. (fields_of command).has_globals ≡ false) }
+{
+    let frames = Arg::new(alloc, "frames")
+        .long("frames")
+        .help("Takes a line of 64 flows with each packet in a frame")
+        .action(ArgAction::SetTrue);
+    with_wide(alloc, name, about)?.arg(frames)
+}
+
+// The same with the option `--robust`.
+fn with_line<'a>(
+    alloc: Global,
+    name: &'a str,
+    about: &'a str,
+) -> Result<clap::Command<'a>, AllocError>
+    ensures app { IfOk result (λ command. app_of command ≡ with_line name.entry.now) }
+    ensures local { IfOk result (λ command. (fields_of command).has_globals ≡ false) }
+{
+    let robust = Arg::new(alloc, "robust")
+        .long("robust")
+        .value_name("N")
+        .help(ROBUST_HELP);
+    with_frames(alloc, name, about)?.arg(robust)
 }

@@ -1,7 +1,7 @@
 //! What the words of a call ask for.
 ghost use Rattle.std.specs.Prelude.{◌≡◌, ◌↔◌, None, Some, map, IfOk, IfErr, option_map};
 ghost use Rattle.clap.specs.Words.{first_of, found_of, kind_of, rows_of, subcommand_rows_of};
-ghost use Rattle.rohcfn_words.specs.Words.{ReadsLost, ReadsMost, ReadsRobust, ReadsWords, RefusesError, RefusesWords, asked, asked_in, asked_of, bits_spelled, check_at, command_in, command_named, counting_in, direction_at, end_at, form_asked, prove_at, is_set, lost_in, lost_spelled, robust_by, robust_command, robust_run, robust_why, text_or_empty, version_asked, why_named};
+ghost use Rattle.rohcfn_words.specs.Words.{ReadsLost, ReadsMost, ReadsRobust, ReadsWords, RefusesError, RefusesWords, asked, asked_in, asked_of, bits_spelled, check_at, command_in, command_named, counting_in, direction_at, end_at, form_asked, prove_at, is_set, lost_in, lost_spelled, robust_by, robust_command, robust_run, robust_why, text_or_empty, version_asked, why_named, line_named};
 
 use crate::command_line::{INPUT, program};
 use clap::ArgMatches;
@@ -52,6 +52,10 @@ pub enum Command {
     Advise(u8),
     /// Sends or receives packets of several flows on one line, by the part `profile`.
     Line(End),
+    /// Sends the part `events` as frames of 64 flows, by packets that survive losses of up to so many in a row of their flow.
+    SendFrames(u8),
+    /// Receives the part `octets` as such frames.
+    ReceiveFrames,
 }
 
 /// What `stats` lists beside its sums, and when it ends with status 1.
@@ -133,7 +137,8 @@ impl From<AllocError> for WordsError {
 /// `draw`, `check`, `prove` or `line`, and its flags: `--top NAME`, for all commands but `show`, `lint` and `draw` also `--v2`, for `pack`, `unpack`, `fields` and `why` also
 /// `--context`, for `fields` and `why` also `--items`, for `why --items` also `--not FORMAT`, for `loss` and `advise` also `--lost N`, for `pack`, `stats`, `loss` and
 /// `why --items` also `--robust N`, for `stats` also `--by-item`, `--all` and `--at-most BITS`, for `lint` also `--strict`, for `check` and `prove` also `--explain`,
-/// for `lint`, `draw`, `check`, `prove`, `fields`, `why`, `stats`, `loss` and `advise` also `--json`, and for `line` also `--receive` and `--wide`. `--not` and `--robust` don't go together.
+/// for `lint`, `draw`, `check`, `prove`, `fields`, `why`, `stats`, `loss` and `advise` also `--json`, and for `line` also `--receive`, `--wide` and `--frames`, and with
+/// the last `--robust N`. `--not` and `--robust` don't go together, nor do `--frames` and `--wide`, nor `--receive` and `--robust`.
 ///
 /// The clauses say it by clap's own account of a command line (`asked_of`), on which clap's parse is
 /// proved exact. N is a decimal number from 0 to 63 without a sign or a leading zero (`lost_is_read`, `robust_is_read`), and that
@@ -183,6 +188,11 @@ const MOST_LOST: u8 = 63;
 const NO_ORDER: &str = "error: a command and --top NAME are needed\n";
 
 const NO_ITEMS: &str = "error: '--robust <N>' goes with '--items': packets are read and not sent\n";
+
+const NO_FRAMES: &str =
+    "error: '--robust <N>' goes with '--frames', and without '--receive' and '--wide'\n";
+
+const NO_WIDE: &str = "error: '--frames' has 64 flows, and goes without '--wide'\n";
 
 const NOT_ALONE: &str = "error: '--not <FORMAT>' goes with '--items', and without '--robust <N>'\n";
 
@@ -301,6 +311,7 @@ fn robust_of(command: Command, lost: u8) -> Option<Command>
         Command::Why(direction) => robust_why(direction, lost),
         Command::Stats(counting) => Some(Command::RobustStats(lost, counting)),
         Command::Loss(most) => Some(Command::RobustLoss(most, lost)),
+        Command::SendFrames(_none) => Some(Command::SendFrames(lost)),
         _ => None,
     }
 }
@@ -371,6 +382,8 @@ fn lacking<'a>(matches: &ArgMatches<'a>) -> &'static str {
     match matches.subcommand() {
         Some(("why", flags)) if flags.get_str("not").is_some() => NOT_ALONE,
         Some(("why", flags)) if flags.get_str("robust").is_some() => NO_ITEMS,
+        Some(("line", flags)) if flags.get_str("robust").is_some() => NO_FRAMES,
+        Some(("line", flags)) if has(flags, "frames") => NO_WIDE,
         _ => NO_ORDER,
     }
 }
@@ -438,9 +451,29 @@ fn command_of(name: &str, flags: &ArgMatches<'_>) -> Option<Command>
     } else if name == "prove" {
         Some(prove_of(has(flags, "explain")))
     } else if name == "line" {
-        Some(Command::Line(end_of(has(flags, "receive"))))
+        line_of(
+            has(flags, "receive"),
+            has(flags, "frames"),
+            has(flags, "wide"),
+        )
     } else {
         None
+    }
+}
+
+fn line_of(receives: bool, frames: bool, wide: bool) -> Option<Command>
+    ensures { result ≡ line_named receives frames wide }
+{
+    if !frames {
+        return Some(Command::Line(end_of(receives)));
+    }
+    if wide {
+        return None;
+    }
+    if receives {
+        Some(Command::ReceiveFrames)
+    } else {
+        Some(Command::SendFrames(0))
     }
 }
 

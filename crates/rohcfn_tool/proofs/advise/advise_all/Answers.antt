@@ -19,5 +19,5 @@ pub returns : goal.returns
 returns c =
     let methods = c.methods.ensures ∙ ap (λ (q : Resolved). q.methods) c.profile-profile.ensures in
     let top = c.top.ensures ∙ ap (λ (q : Resolved). q.top) c.profile-profile.ensures in
-    traced_end c.args.accepted.now c.args.start c.args.items.now _ c.args.lost _ _ _ _ _ c.print_advice.result c.loop-i-test.false c.loop-i.invariant c.as_str.ensures.value
+    traced_end c.args.accepted.now c.args.start c.args.items.now _ c.args.lost c.args.form _ _ _ _ _ c.print_advice.result c.loop-i-test.false c.loop-i.invariant c.as_str.ensures.value
     (c.shared_fields-count.ensures ∙ (λ j. shared_fields (methods j) (top j))) c.print_advice.ensures

@@ -6,8 +6,8 @@ use Rattle.rohcfn_tool.proofs.answers.answer_for.Goals as goal
 
 pub returns-in-Ok : goal.returns-in-Ok
 returns-in-Ok c =
-    passed_on (AnsweredIn c.args.direction c.args.shape c.args.shows c.args.accepted.now c.in-Ok.context c.args.input.now) (AnsweredFor c.args.direction c.args.shape c.args.shows c.args.accepted.now c.args.parts.now.context c.args.input.now) c.answer_lines.result
-    (λ s out h. from_context c.in-Ok.context c.in-Ok.ensures.found h) c.answer_lines.ensures
+    passed_on (AnsweredIn c.args.direction c.args.shape c.args.shows c.args.accepted.now c.in-Ok.context c.args.input.now) (AnsweredFor c.args.direction c.args.shape c.args.shows c.args.accepted.now c.args.parts.now.context c.args.input.now) c.answer_each.result
+    (λ s out h. from_context c.in-Ok.context c.in-Ok.ensures.found h) c.answer_each.ensures
 
 pub returns-in_ok-line-in-Err-Number : goal.returns-in_ok-line-in-Err-Number
 returns-in_ok-line-in-Err-Number c =

@@ -16,7 +16,7 @@ pub returns-in-Some : goal.returns-in-Some
 returns-in-Some c =
     let d : Item = record { header = []; asked = [] } in
     let x = get_or_read c.args.items.now c.loop-i.i c.index-items-i.result c.loop-i-test.true c.index-items-i.is d in
-    fault_here c.args.accepted.now c.args.most c.args.start c.args.items.now c.loop-i.i d _ _ _ _ _ c.in-Some.fault c.refuse.result c.loop-i-test.true x c.loop-i.invariant (rw c.in-Some.is at c.in_ok-refused.ensures) c.refuse.ensures
+    fault_here c.args.accepted.now c.args.most c.args.start c.args.items.now c.args.form c.loop-i.i d _ _ _ _ _ c.in-Some.fault c.refuse.result c.loop-i-test.true x c.loop-i.invariant (rw c.in-Some.is at c.in_ok-refused.ensures) c.refuse.ensures
 
 pub loop-i-preserved : goal.loop-i-preserved
 loop-i-preserved c =
@@ -25,4 +25,4 @@ loop-i-preserved c =
     onward c.args.accepted.now c.args.most c.args.start c.args.items.now c.loop-i.i d _ _ _ _ _ _ _ _ _ c.loop-i-test.true x c.loop-i.invariant (rw c.in_default.is at c.in_ok-refused.ensures)
 
 pub returns : goal.returns
-returns c = ending c.args.accepted.now c.args.most c.args.start c.args.items.now _ _ _ _ _ c.print_losses.result c.loop-i-test.false c.loop-i.invariant c.print_losses.ensures
+returns c = ending c.args.accepted.now c.args.most c.args.start c.args.items.now c.args.form _ _ _ _ _ c.print_losses.result c.loop-i-test.false c.loop-i.invariant c.print_losses.ensures

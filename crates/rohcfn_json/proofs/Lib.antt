@@ -1,0 +1,6 @@
+pub mod OctetsHeld
+pub mod MessagesCut
+pub mod MessagesWhole
+pub mod FilledListed
+pub mod Chains
+pub mod StatsTold

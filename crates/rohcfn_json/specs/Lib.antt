@@ -1,0 +1,9 @@
+pub mod Objects
+pub mod Stats
+pub mod Loss
+pub mod Advice
+pub mod Messages
+pub mod MessageObjects
+pub mod Lines
+pub mod Filled
+pub mod Drawing
