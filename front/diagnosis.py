@@ -5,10 +5,10 @@ import re
 import subprocess
 import sys
 
-from . import advice, definitions, mending, parts, terminal
+from . import advice, definitions, mending, objects, parts, terminal
 
 LINE = re.compile(r"profile:(\d+):(\d+): (E\d\d) (.*)")
-BITS = re.compile(rb"(items|packets):(\d+): I[12] bad (item|packet)")  # a line that is no item or no packet
+BITS = re.compile(r"(items|packets):(\d+): I[12] bad (item|packet)")  # a line that is no item or no packet
 HEX = re.compile(rb"(?:0[xX])?([0-9a-fA-F]+)(?=\s|$)")  # its first word, where that is octets in hexadecimal alone
 RED, BLUE, PLAIN = "\033[1;31m", "\033[1;34m", "\033[0m"
 WIDTH = 160  # characters of a line that are shown
@@ -29,11 +29,14 @@ def begin_of(text, line):
 
 def fault_of(printed, text):
     """The fault of a profile that the program prints, or None."""
-    found = LINE.fullmatch(printed.decode(errors="replace").rstrip("\n").rpartition("\n")[2])
-    if found is None:
-        return None
-    begin = begin_of(text, int(found.group(1)))
-    return None if begin is None else advice.Fault(text, begin + int(found.group(2)) - 1, found.group(3), found.group(4))
+    found = LINE.fullmatch(objects.fault_line(printed))
+    return None if found is None else fault_at(text, int(found.group(1)), int(found.group(2)), found.group(3), found.group(4))
+
+
+def fault_at(text, line, column, code, words):
+    """The fault at a place of a text, or None where the text has no such line."""
+    begin = begin_of(text, line)
+    return None if begin is None else advice.Fault(text, begin + column - 1, code, words)
 
 
 def seen(text):
@@ -105,11 +108,11 @@ def show(printed, name, text, above, again):
 
 def show_bits(printed, file, paint):
     """Shows what helps where a line of items or packets has octets alone, and not how many bits they are."""
-    found = BITS.fullmatch(printed.rstrip(b"\n").rpartition(b"\n")[2])
+    found = BITS.fullmatch(objects.fault_line(printed))
     if found is None:
         return
     file.seek(0)
-    lines = (parts.part_in(file.read(), found.group(1).decode()) or (b"", 0))[0].split(b"\n")
+    lines = (parts.part_in(file.read(), found.group(1)) or (b"", 0))[0].split(b"\n")
     number = int(found.group(2))
     octets = HEX.match(lines[number - 1].strip()) if number <= len(lines) else None
     if octets is not None:

@@ -4,6 +4,7 @@ A piece is given behind the last N + 1 items of those before it: so each of its 
 counted of these items by themselves was counted before, and is taken off again. A packet that is shown of them was looked at before, too."""
 import re
 
+from . import objects
 from .sums import mean, set_out
 
 BEFORE = 1  # items that come through before those that are lost
@@ -61,10 +62,25 @@ class Losses:
         verdicts = ("packets", "right", "refused", "wrong")
         yield from set_out([("  lost", *verdicts)] + [("  %d" % lost, *map(str, numbers)) for lost, numbers in enumerate(self.counts)])
         if self.lost:
-            every = [(it, self.formats[it]) for it in order if any(self.formats.get(it, ()))]
+            every = self.heard(order)
             yield from set_out([("  format", *verdicts, "reach")] + [("  " + name, *map(str, numbers), str(self.reach[name])) for name, numbers in every])
         for lost in sorted(self.shown):
             yield from self.shown[lost][1]
+
+    def heard(self, order):
+        """The formats with packets that were counted, with their counts, in this order."""
+        return [(it, self.formats[it]) for it in order if any(self.formats.get(it, ()))]
+
+    def objects(self, order):
+        """The same as objects."""
+        verdicts = ("packets", "right", "refused", "wrong")
+        yield {"kind": "all", "items": self.items, "bits": self.bits, "mean": objects.mean(mean(self.bits, self.items))}
+        for lost, numbers in enumerate(self.counts):
+            yield {"kind": "lost", "lost": lost, **dict(zip(verdicts, numbers))}
+        for name, numbers in self.heard(order) if self.lost else ():
+            yield {"kind": "format", "format": name, **dict(zip(verdicts, numbers)), "reach": self.reach[name]}
+        for lost in sorted(self.shown):
+            yield objects.case(self.shown[lost][1])
 
 
 def change(sums, numbers, sign):

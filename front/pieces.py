@@ -1,11 +1,12 @@
 """Takes items and packets of any size: what is more than a bundle holds goes through the program in pieces, each from the context that the one before left. What is
 printed is what one call would print."""
 import itertools
+import json
 import re
 import sys
 import time
 
-from . import losses, parts, sums, terminal
+from . import losses, objects, parts, sums, terminal
 from .orders import LINES
 
 PIECED = ("pack", "unpack", "fields", "stats", "loss")
@@ -75,7 +76,8 @@ class Pieces:
         self.path, self.order, self.top = filter_path, order, top
         self.given, self.profile, self.part = dict(given), profile, LINES[order.lines[0][0]] if order.lines else "items"
         self.lines = self.count = self.calls = 0  # lines and items before the piece
-        self.flags = [it for it in order.flags() if it != "--context"]
+        self.is_json = order.has("json")
+        self.flags = [it for it in order.flags() if it != "--context" and not (it == "--json" and order.command != "fields")]  # (what is counted is made objects at the end)
         self.printed, self.size = b"", FIRST if order.command == "fields" else BLOCK  # what the last call printed, and octets of lines that go into the next
         self.sums, self.told, self.rows = sums.Sums(), [], order.has("by-item")
         self.losses = losses.Losses(int(order.get("lost") or LOST)) if order.command == "loss" else None
@@ -84,7 +86,7 @@ class Pieces:
 
     def answer(self, given):
         """Runs the command on blocks of lines; its status."""
-        take = {"stats": self.count_piece, "loss": self.lose_piece}.get(self.order.command, self.pass_piece)
+        take = {"stats": self.count_piece, "loss": self.lose_piece}.get(self.order.command, self.pass_objects if self.is_json else self.pass_piece)
         try:
             for it in itertools.chain.from_iterable(map(self.parted, given)):
                 take(it)
@@ -126,11 +128,27 @@ class Pieces:
         self.writes(self.headed(printed[:begin]))
         self.given["context"] = printed[begin + len(CONTEXT):]
 
+    def pass_objects(self, lines):
+        """The same of the objects of `fields`."""
+        printed, status = self.call(self.order.command, [*self.flags, "--context"], lines)
+        found = list(map(json.loads, printed.splitlines()))
+        last = found.pop() if status == 0 else None
+        self.writes(b"".join(objects.line(self.numbered(it)).encode() for it in found))
+        if status != 0:
+            raise Stopped(status)
+        self.given["context"] = objects.context(last).encode()
+
+    def numbered(self, it):
+        """An object with the numbers of the whole."""
+        if it.get("number") is not None:
+            return it | {"number": it["number"] + self.count}
+        return it | {"line": it["line"] + self.lines} if it["kind"] == "fault" and it["part"] == self.part and it["line"] is not None else it
+
     def count_piece(self, lines):
         """Adds what the program counts of a piece, or prints its rows, and keeps the context that the items which aren't refused leave."""
         printed, status = self.call("stats", [it for it in self.flags if it != "--all" and not it.startswith("--at-most")], lines)
         if status != 0:
-            self.writes(self.renumbered(printed.rstrip(b"\n")) + b"\n" if printed else b"")
+            self.writes(self.faults([self.renumbered(printed.rstrip(b"\n"))]) if printed else b"")
             raise Stopped(status)
         every = printed.splitlines()
         refused = [it for it in every if REFUSED.match(it)]
@@ -143,7 +161,7 @@ class Pieces:
         printed, status = self.call("loss", self.flags, self.earlier + lines)
         back = items_in(self.earlier)
         if status != 0:
-            self.writes(self.renumbered(printed.rstrip(b"\n"), back) + b"\n" if printed else b"")
+            self.writes(self.faults([self.renumbered(printed.rstrip(b"\n"), back)]) if printed else b"")
             raise Stopped(status)
         earlier, status = self.call("loss", self.flags, self.earlier) if back else (b"", 0)
         if status != 0:
@@ -166,29 +184,45 @@ class Pieces:
         rows = [it.split(b"\t") for it in every[1:]]
         self.sums.items += len(rows)
         self.sums.bits += sum(int(it[2]) for it in rows)
+        if self.is_json:
+            found = ({"kind": "item", "number": int(it[0]) + self.count, "format": it[1].decode(), "bits": int(it[2])} for it in rows)
+            self.writes(b"".join(objects.line(it).encode() for it in found))
+            return
         head = [every[0]] if not self.lines else []
         self.writes(b"".join(it + b"\n" for it in head + [b"\t".join([b"%d" % (int(it[0]) + self.count), *it[1:]]) for it in rows]))
+
+    def faults(self, lines):
+        """Fault lines, as text or as objects."""
+        return b"".join(objects.line(objects.fault(it.decode())).encode() if self.is_json else it + b"\n" for it in lines)
 
     def last(self):
         """Prints what comes last; the status."""
         if self.losses:
-            self.writes(b"".join(it.encode() + b"\n" for it in self.losses.lines(self.methods()[self.top])))
+            order = self.methods()[self.top]
+            self.writes("".join(map(objects.line, self.losses.objects(order)) if self.is_json else (it + "\n" for it in self.losses.lines(order))).encode())
             return 0
         if self.order.command != "stats":
             if self.order.has("context"):
-                self.writes(CONTEXT + self.given.get("context", b""))
+                self.writes(self.last_context())
             return 0
-        table = [] if self.rows else self.table()
-        self.writes(b"".join(it + b"\n" for it in table + self.told))
+        self.writes((b"" if self.rows else self.table()) + self.faults(self.told))
         above = self.order.has("at-most") and self.sums.bits > int(self.order.get("at-most")) * self.sums.items
         return 1 if above or self.order.has("all") and self.told else 0
 
+    def last_context(self):
+        """What is printed of the last context."""
+        lines = self.given.get("context", b"")
+        if not self.is_json:
+            return CONTEXT + lines
+        entries = [{"path": path, "bits": objects.bits(bits)} for path, bits in (it.split(" ") for it in lines.decode().splitlines())]
+        return objects.line({"kind": "context", "entries": entries}).encode()
+
     def table(self):
-        """The lines of what is counted of all pieces."""
+        """What is counted of all pieces."""
         unsure = self.sums.complete(self.methods())
         if unsure:
             terminal.says("below %s formats without bits are counted only in pieces in which the field has bits" % ", ".join(unsure))
-        return [it.encode() for it in self.sums.lines()]
+        return "".join(map(objects.line, self.sums.objects()) if self.is_json else (it + "\n" for it in self.sums.lines())).encode()
 
     def methods(self):
         """The formats of each method."""

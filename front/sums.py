@@ -4,6 +4,8 @@ A field that has no bits in a piece has no row there. So what it lacks is added 
 row below it went by a format of its method that can be without bits."""
 import re
 
+from . import objects
+
 FORMAT = re.compile(r"(method) (\S+)|format (\S+) least (\d+) most \d+")
 
 
@@ -94,6 +96,15 @@ class Sums:
         self.collect(rows, self.top, 1)
         yield "items %d bits %d mean %s" % (self.items, self.bits, mean(self.bits, self.items))
         yield from set_out(rows)
+
+    def objects(self):
+        """The same as objects."""
+        rows = []
+        self.collect(rows, self.top, 0)
+        yield {"kind": "all", "items": self.items, "bits": self.bits, "mean": objects.mean(mean(self.bits, self.items))}
+        for name, items, bits, found in rows:
+            depth = (len(name) - len(name.lstrip(" "))) // 2
+            yield {"kind": "field" if depth % 2 else "format", "depth": depth, "name": name.lstrip(" "), "items": int(items), "bits": int(bits), "mean": objects.mean(found)}
 
     def collect(self, rows, above, depth):
         for name, row in above.ordered():

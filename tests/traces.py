@@ -157,7 +157,7 @@ def in_pieces():
     every += [[it, "slip.fn", "--items", "good", "--diagnose"] for it in ("pack", "stats")]
     every += [["loss", it, "--items", name, *more] for it in ("probe.fn", "probe6.fn") for name, more in (("threes", []), ("threes", ["--lost", "2"]), ("jumps", ["--lost=40"]))]
     every += [["stats", "probe6.fn", "--items", "jumps"], ["pack", "udp.profile", "--pcap", "udp"], ["pack", "udp.profile", "--pcap", "udp", "--flow", "9"]]
-    return every
+    return every + [[*it, "--json"] for it in every if it[0] in ("fields", "stats", "loss")]
 
 
 def pieces(place):
