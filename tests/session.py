@@ -145,7 +145,7 @@ cat >"$0.input"
 grep -c . "$0.input" >>"$0.calls"
 if grep -q sleeps "$0.input"; then echo $$ >>"$0.slow"; exec sleep 60; fi
 if grep -q fails "$0.input"; then exit 3; fi
-if [ "$1" = check ]; then echo accepted; fi
+if [ "$1" = check ]; then echo '{"kind":"accepted"}'; fi
 """
 
 
@@ -292,7 +292,15 @@ def newest():
     runs.terminal = kept
 
 
-MADE = '#!/bin/sh\ncat >/dev/null\nif [ "$1" = check ]; then echo "profile:1:3: E10 unexpected token"; fi\nexit 1\n'
+MADE = """#!/bin/sh
+cat >/dev/null
+if [ "$1" = check ]; then
+  echo '{"kind":"fault","part":"profile","line":1,"column":3,"number":null,"code":"E10","text":"unexpected token"}'
+else
+  echo "profile:1:3: E10 unexpected token"
+fi
+exit 1
+"""
 
 
 def unbuilt(folder):

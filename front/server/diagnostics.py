@@ -52,15 +52,16 @@ class Finder:
         if heading is not None:
             yield self.at(heading.start(), 4, ERROR, None, "a line that begins with `=== ` can't stand in a bundle")
             return
-        printed = self.ask(["check", "--explain"], self.text.text)
-        first = diagnosis.fault_of(printed, self.text.text)
+        printed = self.ask(["check", "--explain", "--json"], self.text.text)
+        fault = told.fault(printed)
+        first = None if fault is None else diagnosis.fault_at(self.text.text, *fault.place, fault.code, fault.words)
         if first is not None:
             yield from map(self.fault, diagnosis.faults(first, lambda copy: self.ask(["show"], copy)))
             return
-        refusal = told.refusal(printed)
+        refusal = fault or told.refusal(printed)
         if refusal is not None:
             yield self.refused(refusal)
-        for it in told.warnings(self.ask(["lint"], self.text.text)):
+        for it in told.warnings(self.ask(["lint", "--json"], self.text.text)):
             yield self.warned(it)
 
     def at(self, start, width, severity, code, message, related=()):
@@ -91,7 +92,7 @@ class Finder:
         start = self.top_start() if start is None else start
         related = list(self.formats(refusal.names)) if refusal.code == "P2" else []
         message, severity = "\n".join([refusal.words, *refusal.more]), ERROR
-        if refusal.code in ("P1", "P2") and told.is_accepted(self.ask(["check", "--v2"], self.text.text)):
+        if refusal.code in ("P1", "P2") and told.is_accepted(self.ask(["check", "--v2", "--json"], self.text.text)):
             message, severity = message + "\nwith --v2 there is a certificate, of version 2", INFORMATION
         return self.at(start, self.width(start), severity, refusal.code, message, related)
 
