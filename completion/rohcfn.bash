@@ -19,7 +19,7 @@ _rohcfn_has_profile() {
     case ${COMP_WORDS[at]} in
       = | : | [\<\>]*) at=$((at + 1)) ;;
       --top | --robust | --not | --at-most | --lost | --item | --items | --packet | --packets | --from-context | --certificate | --events | \
-        --octets | --pcap | --cut | --flow)
+        --octets | --pcap | --cut | --flow | -o)
         at=$((at + 1))
         if [[ ${COMP_WORDS[at]} == = ]]; then at=$((at + 1)); fi
         ;;
@@ -34,7 +34,7 @@ _rohcfn() {
     COMP_WORDS=("${COMP_WORDS[0]}" "${COMP_WORDS[@]:2}") COMP_CWORD=$((COMP_CWORD - 1))
   fi
   local word=${COMP_WORDS[COMP_CWORD]} before=${COMP_WORDS[COMP_CWORD - 1]} options=''
-  local commands='pack unpack fields why stats loss advise show lint draw check prove line help lsp'
+  local commands='pack unpack fields why stats loss advise show lint draw check prove line help report lsp'
   COMPREPLY=()
   if [[ $before == = ]]; then before=${COMP_WORDS[COMP_CWORD - 2]}; fi
   case $word in
@@ -47,7 +47,7 @@ _rohcfn() {
     return
   fi
   case $before in
-    [\<\>]* | --items | --packets | --from-context | --certificate | --events | --octets | --pcap)
+    [\<\>]* | --items | --packets | --from-context | --certificate | --events | --octets | --pcap | -o)
       _rohcfn_files "$word"
       return
       ;;
@@ -61,38 +61,42 @@ _rohcfn() {
       options='--top --v2 --context --help --packet --packets --from-context --certificate --diagnose'
       ;;
     fields)
-      options='--top --v2 --context --help --items --item --bare --packet --packets --from-context --certificate --pcap --cut --flow --diagnose'
+      options='--top --v2 --context --help --json --items --item --bare --packet --packets --from-context --certificate --pcap --cut --flow --diagnose'
       ;;
     why)
-      options='--top --v2 --context --robust --help --items --not --item --bare --packet --packets --from-context --certificate --pcap --cut --flow
+      options='--top --v2 --context --robust --help --json --items --not --item --bare --packet --packets --from-context --certificate --pcap --cut --flow
 --diagnose'
       ;;
     stats)
-      options='--top --v2 --robust --help --by-item --all --at-most --item --items --bare --from-context --certificate --pcap --cut --flow --diagnose'
+      options='--top --v2 --robust --help --json --by-item --all --at-most --item --items --bare --from-context --certificate --pcap --cut --flow
+--diagnose'
       ;;
     loss)
-      options='--top --v2 --robust --help --lost --item --items --bare --from-context --certificate --pcap --cut --flow --diagnose'
+      options='--top --v2 --robust --help --json --lost --item --items --bare --from-context --certificate --pcap --cut --flow --diagnose'
       ;;
     advise)
-      options='--top --v2 --help --lost --item --items --bare --from-context --certificate --pcap --cut --flow --diagnose'
+      options='--top --v2 --help --json --lost --item --items --bare --from-context --certificate --pcap --cut --flow --diagnose'
       ;;
     show)
       options='--top --help --diagnose'
       ;;
     lint)
-      options='--top --help --strict --from-context --diagnose'
+      options='--top --help --json --strict --from-context --diagnose'
       ;;
     draw)
-      options='--top --help --diagnose'
+      options='--top --help --json --diagnose'
       ;;
     check)
-      options='--top --v2 --help --explain --certificate --diagnose'
+      options='--top --v2 --help --json --explain --certificate --diagnose'
       ;;
     prove)
-      options='--top --v2 --help --explain --diagnose'
+      options='--top --v2 --help --json --explain --diagnose'
       ;;
     line)
       options='--top --v2 --help --receive --wide --certificate --events --octets --pcap --cut --diagnose'
+      ;;
+    report)
+      options='-o --top --item --items --bare --pcap --cut --flow --from-context --certificate --v2 --lost --help'
       ;;
     help)
       if ((COMP_CWORD == 2)); then options=$commands; fi

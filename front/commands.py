@@ -17,18 +17,19 @@ class Table:
     """What the table says: the commands, the options of the program and of front/, and the words in the place of a command."""
 
     def __init__(self, text):
-        self.commands, self.flags, self.files, self.own = {}, [], [], {}
+        self.commands, self.flags, self.files, self.own, self.called, self.taken = {}, [], [], {}, {}, {}
         for line in text.splitlines():
             kind, _, rest = line.partition(" ")
             if kind != "#":
                 self.take(kind, *[it.strip() for it in rest.split("|")])
 
     def take(self, kind, name, second, does=""):
-        """Takes a line. Of a command its second part is what it does, and of options the commands that take them."""
+        """Takes a line. Of a command, and of a word in its place, the second part is what it does, and of options the commands that take them."""
         if kind == "command":
             self.commands[name] = Command(name, second, does.split())
         elif kind == "own":
-            self.own[name] = second
+            word = name.partition(" ")[0]
+            self.own[word], self.called[word], self.taken[word] = second, name, does.split()
         else:
             word, _, value = name.partition(" ")
             named = list(self.commands) if second == "all" else second.split()

@@ -13,6 +13,7 @@ COMMAND = re.compile(r"^  (\w+)  +(.*)$", re.MULTILINE)
 OPTION = re.compile(r"^ +(?:(-\w), )?(--[\w-]+)(?: <?([A-Z]+)>?)?  +(\S.*)$", re.MULTILINE)
 USAGE = re.compile(r"^(?:Usage: |  bin/)(rohcfn .*[A-Z].*)$", re.MULTILINE)
 OF = re.compile(r"((?:\w+, )*\w+): (.*)")  # the commands that take an option, and what it does
+WRITTEN = "-o"  # the option of the file that is written
 STATUS = re.compile(r"^\| (\d) \| (.*) \|$", re.MULTILINE)
 SOURCE = "Made by front/manual.py from front/commands.txt; change that, and make this anew."
 
@@ -226,21 +227,22 @@ def told(option, commands):
     return ".TP\n%s%s\n%s%s" % (names, value, roff(option.text()), of)
 
 
-def synopsis(known, apart):
+def synopsis(known, table):
     """The calls: by files, of each command by a bundle, those of words that bin/rohcfn answers itself, and the others."""
     calls = USAGE.findall(known.texts["files"])[:1]
     calls = [re.sub(r"  +.*", "", it) for it in calls]
     calls += ["%s <BUNDLE" % USAGE.search(known.texts[it])[1].replace("<NAME>", "NAME") for it in known.kept]
-    calls += ["rohcfn " + it for it in apart]
+    calls += ["rohcfn " + table.called[it] for it in table.apart()]
     return "\n.br\n".join(map(roff, [*calls, "rohcfn [COMMAND --top NAME] --diagnose <BUNDLE", "rohcfn help [COMMAND]", "rohcfn --version"]))
 
 
-def page(known, apart, formats):
+def page(known, table, formats):
     """The man page."""
+    apart = table.apart()
     statuses = formats.partition("| Status | When |\n")[2].partition("\n\n")[0]
     sections = [
         ("NAME", ["rohcfn \\- %s" % roff(known.summary[0].lower() + known.summary[1:])]),
-        ("SYNOPSIS", [synopsis(known, apart)]),
+        ("SYNOPSIS", [synopsis(known, table)]),
         ("COMMANDS", [".TP\n%s\n%s." % (bold(it), roff(text)) for it, text in {**known.commands, **apart}.items()]),
         ("OPTIONS", [told(known.options[it], known.kept) for it in known.plain]),
         ("BUNDLES", paragraphs(known.texts["each"])),
@@ -253,12 +255,19 @@ def page(known, apart, formats):
     return '.\\" %s\n.TH ROHCFN 1 "" Tuxabelo "User Commands"\n%s' % (SOURCE, body)
 
 
+def taken(known, table):
+    """Of each word that bin/rohcfn answers itself and that has options these, but the file that is written."""
+    every = {it.long: it for it in known.options.values()}
+    return {word: [every[commands.option(it)] for it in (*names, "help")] for word, names in table.taken.items() if names}
+
+
 def bash(known, table):
     """The completion for bash."""
-    cases = ["    %s)\n      options='%s'\n      ;;" % (it, textwrap.fill(" ".join(option.long for option in known.of(it)), 140, break_on_hyphens=False)) for it in known.kept]
+    offers = {it: [option.long for option in known.of(it)] for it in known.kept} | {it: [WRITTEN, *[option.long for option in of]] for it, of in taken(known, table).items()}
+    cases = ["    %s)\n      options='%s'\n      ;;" % (it, textwrap.fill(" ".join(of), 140, break_on_hyphens=False)) for it, of in offers.items()]
     words = {"commands": " ".join([*known.commands, *table.apart()]), "cases": "\n".join(cases), "first": " ".join(it for it in table.own if it.startswith("-"))}
-    words |= {"files": " | ".join(known.valued("FILE")), "others": " | ".join(known.valued("FILE", other=True))}
-    return BASH.format(source=SOURCE, valued=patterns(known.valued("", other=True)), **words)
+    words |= {"files": " | ".join([*known.valued("FILE"), WRITTEN]), "others": " | ".join(known.valued("FILE", other=True))}
+    return BASH.format(source=SOURCE, valued=patterns([*known.valued("", other=True), WRITTEN]), **words)
 
 
 def quoted(text):
@@ -281,8 +290,8 @@ def zsh(known, table):
     """The completion for zsh."""
     words = ["    '%s:%s'" % (it, quoted(text).replace(":", "\\:")) for it, text in {**known.commands, **table.apart()}.items()]
     cases = []
-    for it in known.kept:
-        specs = [*map(spec, known.of(it)), "'1:PROFILE:_files'"]
+    for it, options in ({it: known.of(it) for it in known.kept} | taken(known, table)).items():
+        specs = [*(["'%s+[the file that is written]:FILE:_files'" % WRITTEN] if it in table.taken else []), *map(spec, options), "'1:PROFILE:_files'"]
         cases.append("        %s)\n          _arguments \\\n            %s\n          ;;" % (it, " \\\n            ".join(specs)))
     own = {it[2:].removeprefix("as-"): quoted(does) for it, does in table.own.items() if it.startswith("-")}
     return ZSH.format(source=SOURCE, commands="\n".join(words), cases="\n".join(cases), **own)
@@ -293,7 +302,7 @@ def made():
     table = commands.table()
     text = helped(table, (ROOT / "front" / "prose.txt").read_text())
     known, formats = Help(text), (ROOT / "docs" / "FORMATS.md").read_text()
-    return {"front/help.txt": text, "man/rohcfn.1": page(known, table.apart(), formats), "completion/rohcfn.bash": bash(known, table), "completion/_rohcfn": zsh(known, table)}
+    return {"front/help.txt": text, "man/rohcfn.1": page(known, table, formats), "completion/rohcfn.bash": bash(known, table), "completion/_rohcfn": zsh(known, table)}
 
 
 def main():

@@ -24,11 +24,11 @@ for bundle in examples/*.bundle examples/bundles/*.bundle; do
 done
 echo "examples: $passed passed, $failed failed"
 
-# As many modules run side by side as there are processors, the long ones first; what each prints comes in the order of the second list. hostile runs after them, by
-# itself: its calls have at most so many seconds of the processor, and beside other work each takes up to half as many more.
-longest=(first_call loss library files 'why stored' refusals traces 'why drawn' server robust certificates roundtrip advise trees cases lint lines walks warned session)
-ordered=(sentences pages walks left_out editors tuning 'flows line' cases prefixes certificates forged trees roundtrip fields stats advise 'why stored' 'why drawn' avoided
-  lint warned lines loss robust refusals ends first_call files server session traces hostile library manual)
+# As many modules run side by side as there are processors, the long ones first; what each prints comes in the order of the second list. hostile and report run after
+# them, by themselves: their calls have at most so many seconds, and beside other work each takes up to half as many more.
+longest=(first_call loss library files 'why stored' refusals traces 'why drawn' server robust certificates roundtrip advise trees cases json_lines lint lines walks warned session)
+ordered=(sentences pages walks left_out editors tuning 'flows line' cases prefixes certificates forged trees roundtrip fields stats advise json_lines 'why stored' 'why drawn' avoided
+  lint warned lines loss robust refusals ends first_call files server session traces hostile report library manual)
 printed=$(mktemp -d)
 trap 'rm -rf "$printed"' EXIT
 python=$(python3 -c 'import sys; print(sys.executable)') # (one in the PATH may be a script that takes its time)
@@ -39,8 +39,9 @@ module() {
   echo $? >"$printed/$1.status"
 }
 export -f module
-printf '%s\n' "${longest[@]}" "${ordered[@]}" | awk '$0 != "hostile" && !seen[$0]++' | xargs -d '\n' -P "$(nproc)" -I{} bash -c 'module "{}"'
+printf '%s\n' "${longest[@]}" "${ordered[@]}" | awk '$0 != "hostile" && $0 != "report" && !seen[$0]++' | xargs -d '\n' -P "$(nproc)" -I{} bash -c 'module "{}"'
 module hostile
+module report
 for name in "${ordered[@]}"; do
   cat "$printed/$name"
   [ "$(cat "$printed/$name.status" 2>/dev/null)" = 0 ] || failed=1

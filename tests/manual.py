@@ -44,7 +44,9 @@ def stored():
 
 
 def options_of(command):
-    """The options of a command by the table of words."""
+    """The options of a command by the table of words, or of a word in its place."""
+    if command in TABLE.taken:
+        return sorted({"-o", "--help", *map(commands.option, TABLE.taken[command])})
     return sorted({"--help"} | {commands.option(it.name) for files in (False, True) for it in TABLE.of(command, files)})
 
 
@@ -110,7 +112,7 @@ def in_bash(folder):
     """Bash offers commands, the options of each command, and files where one is due."""
     due = [([""], WORDS), (["l"], ["line", "lint", "loss", "lsp"]), (["lsp", ""], []), (["lsp", "-"], []), (["p"], ["pack", "prove"]), (["-"], FIRST), (["--as-built", "un"], ["unpack"]), (["--as-built", "show", "pro"], ["probe.fn"]), (["help", ""], WORDS), (["help", "un"], ["unpack"])]
     due += [(["help", "pack", ""], []), (["foo", ""], []), (["foo", "-"], []), (["--version", ""], []), (["--d"], ["--diagnose"]), (["--diagnose", ""], []), (["--diagnose", "<", ""], HERE)]
-    for it in TABLE.commands:
+    for it in (*TABLE.commands, "report"):
         due += [([it, "-"], options_of(it)), ([it, "probe.fn", ""], options_of(it)), ([it, ""], HERE), ([it, "pro"], ["probe.fn"])]
         due += [([it, "--top", ""], []), ([it, "--top", "plain", ""], HERE), ([it, "--top", "=", "plain", ""], HERE), ([it, "--top", "="], [])]
     for it in ("items", "packets", "from-context", "certificate", "events", "octets", "pcap"):
@@ -120,6 +122,7 @@ def in_bash(folder):
     due += [(["pack", "probe.fn", "--item", *rest], []) for rest in ([""], ["="], ["24", ":"], ["24", ":", "01"])]
     due += [(["pack", "--item", "=", "24", ":", "0140", "f"], ["folder"]), (["pack", "-", "--it"], ["--item", "--items"]), (["show", "nothing"], [])]
     due += [(["loss", "--lost", *rest], offers) for rest, offers in (([""], []), (["="], []), (["3", ""], HERE), (["=", "3", ""], HERE), (["3", "--top", "plain", "f"], ["folder"]))]
+    due += [(["report", "probe.fn", "-o", *rest], offers) for rest, offers in (([""], HERE), (["a"], ["a file"]), (["page", ""], options_of("report")))]
     due += [(["show", "--top", "plain", *rest], HERE) for rest in (["<"], ["<", ""])] + [(["show", "probe.fn", it, "a"], ["a file"]) for it in (">", ">>")]
     found, said = offered(folder, [words for words, _ in due])
     check("bash", (len(found), said) == (len(due), ""), said)
@@ -134,11 +137,11 @@ def in_zsh():
         check("zsh", (ran.returncode, ran.stderr) == (0, ""), ran.stderr)
     head, *cases = re.split(r"^        (\w+)\)\n", ZSH.read_text(), flags=re.MULTILINE)
     check("zsh offers at first", re.findall(r"^    '(?:\(- \*\))?'?\{?(?:-h,)?(--[\w-]+)", head, re.MULTILINE) == FIRST, head)
-    check("zsh has the commands", cases[::2] == [*TABLE.commands], cases[::2])
+    check("zsh has the commands", cases[::2] == [*TABLE.commands, "report"], cases[::2])
     seen = re.findall(r"^    '([a-z]+):", head, re.MULTILINE)
     check("zsh tells all words", seen == WORDS, seen)
     for command, text in zip(cases[::2], cases[1::2]):
-        seen = sorted(re.findall(r"^            '.*?(--[\w-]+)[=}\[]", text, re.MULTILINE))
+        seen = sorted(re.findall(r"^            '.*?(--?[\w-]+)[=}+\[]", text, re.MULTILINE))
         check("zsh offers for %s" % command, seen == options_of(command), seen)
 
 
