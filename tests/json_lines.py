@@ -1,6 +1,6 @@
 """Through the built program: what `--json` prints, against the stored texts. Each stored case of a command that takes `--json` is called with it: each line is an object as docs/schema/ has it, with its
 keys in that order. From the objects alone reference/texts.py makes the text that the command prints without, by docs/FORMATS.md; that has to be the stored one, octet by octet, with the same status. So
-nothing is lost and nothing invented. The same of the profiles of examples/profiles/ with the headers of examples/data/, against what the program prints without `--json`.
+nothing is lost and nothing invented. What the text doesn't show has to agree with the rest (reference/agreeing.py). The same of the profiles of examples/profiles/ with the headers of examples/data/, against what the program prints without `--json`.
 
     python3 -m tests.json_lines [COMMAND ..]
 """
@@ -10,10 +10,11 @@ import re
 import sys
 
 from examples import headers
+from front import parts
 from . import cases
 from .counting import Checks
 from .program import EXAMPLES, bundle, run
-from .reference import schema, texts
+from .reference import agreeing, schema, texts
 
 WORDS = re.compile(rb"^=== words\r?\n([^\r\n]*)", re.MULTILINE)
 PLAIN = ("pack", "unpack", "show", "line")  # commands without it
@@ -49,7 +50,7 @@ def objects(printed):
     return found
 
 
-def faults(words, printed, text):
+def faults(words, printed, text, profile):
     """What is wrong with lines of which the text is this one."""
     try:
         found = objects(printed)
@@ -63,6 +64,9 @@ def faults(words, printed, text):
             return "not as docs/schema/ has it: %s" % it
         if not SCHEMA.is_ordered(it, of):
             return "keys in another order: %s" % it
+    odd = agreeing.agrees(words, found, profile)
+    if odd is not None:
+        return "doesn't agree with the rest: %s" % odd
     seen = texts.text(words, found)
     return None if seen == text else "another text: %.300r" % (first_other(seen, text),)
 
@@ -82,7 +86,8 @@ def try_one(name, given, status, text):
     if status not in (0, 1):
         check(name, (printed, ended) == ("", status), (printed, ended))
         return
-    wrong = faults(words, printed, text)
+    profile = (parts.part_in(given, "profile") or (b"", 0))[0].decode(errors="replace")
+    wrong = faults(words, printed, text, profile)
     check(name, wrong is None and ended == status, (wrong, ended))
 
 
@@ -105,7 +110,7 @@ def try_call(name, words, profile, items):
     """Tries a call against what the program prints without `--json`."""
     text, status = run(bundle(words, profile, items=items))
     printed, ended = run(bundle(words + " --json", profile, items=items))
-    wrong = faults(words.split(" "), printed, text)
+    wrong = faults(words.split(" "), printed, text, profile)
     check(name, (text or words.startswith("lint")) and wrong is None and ended == status, (wrong, ended))
 
 

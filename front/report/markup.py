@@ -46,4 +46,4 @@ def mean(it):
 
 def bar(share):
     """A bar of a share of 1."""
-    return '<div class="share"><i style="width:%.2f%%"></i></div>' % (100 * share)
+    return '<div class="share">%s</div>' % ('<i style="width:%.2f%%"></i>' % (100 * share) if share else "")

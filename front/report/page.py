@@ -26,7 +26,7 @@ FRAME = """<!DOCTYPE html>
 </body>
 </html>
 """
-NAMES = {"text": "Profile", "formats": "Formats", "trees": "Decision trees", "headers": "Headers", "losses": "Lost packets", "refused": "Refused"}
+NAMES = {"headers": "Headers", "losses": "Lost packets", "refused": "Refused", "text": "Profile", "formats": "Formats", "trees": "Decision trees"}
 
 
 def card(value, what, kind=""):
@@ -64,11 +64,10 @@ def cards(told):
 def page(told, name, top, text, lost, lines, again):
     """The page: what is told, the name of the profile's file, its top and its text, how many packets are lost at most, the lines of the certificate, and what gives
     the faults of a copy."""
-    parts = [profile.text_section(told, text, again), profile.formats_section(told, text), profile.trees_section(lines)]
-    if "stats" in told:
-        parts.append(headers.headers_section(told))
+    parts = [headers.headers_section(told)] if "stats" in told else []
     if of_kind(told.get("stats", []), "all"):
         parts += [headers.losses_section(told, lost), headers.refusals_section(told)]
+    parts += [profile.text_section(told, text, again), profile.formats_section(told, text), profile.trees_section(lines)]
     context = [it for it in of_kind(told.get("lint", []), "warning") if it["line"] is None]
     parts += [section("context", "The context", *['<p class="warn">%s: %s</p>' % (unbroken(it["subject"] or ""), unbroken(it["text"])) for it in context])] if context else []
     body = "\n".join([cards(told), *filter(None, parts)])
