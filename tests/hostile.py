@@ -178,25 +178,28 @@ def endless():
     for name in ("quotes", "open", "constants", "comments", "names", "numbers", "marks", "lines", "unknown"):
         yield Row("a text of 1 MB: %s.fn" % name, '"$0" check %s.fn' % name, 1, "profile:", "", 2, 200, 1)
         yield Row("a text of 1 MB, --diagnose: %s.fn" % name, '"$0" check %s.fn --diagnose' % name, 1, "profile:", None, 2, 300, 12)
+        yield Row("a text of 1 MB, report: %s.fn" % name, '"$0" report %s.fn -o %s.html && head -c 15 %s.html' % (name, name, name), 0, "<!DOCTYPE html>", "", 3, 300)
+    for given in ("report /dev/zero", 'report p.fn --items "long items"'):
+        yield Row("4 MiB, %s" % given, '"$0" %s -o page' % given, 1, "", "rohcfn: no page is made: bundle: I6 above 4 MiB\n", 2, 220)
 
 
 CALLS = {
     "files": '"$0" pack p.fn --item 24:014007', "refused": '"$0" pack p.fn --item 24:024007', "usage": '"$0" pack p.fn', "own usage": '"$0" pack --tip',
     "no command": '"$0" fly', "help": '"$0" --help', "version": '"$0" --version',
-    "no file": '"$0" pack nowhere --item 24:014007', "bundle": '"$0" <bundle', "diagnosed": '"$0" pack p.fn --item 24:014007 --diagnose', "diagnosed usage": '"$0" show --diagnose',
+    "report": '"$0" report p.fn -o -', "no file": '"$0" pack nowhere --item 24:014007', "bundle": '"$0" <bundle', "diagnosed": '"$0" pack p.fn --item 24:014007 --diagnose', "diagnosed usage": '"$0" show --diagnose',
 }
 # The status of each of these calls with a stream that is odd.
 STREAMS = {
-    "": (0, 1, 2, 2, 2, 0, 0, 3, 0, 0, 2),
-    "<&-": (0, 1, 2, 2, 2, 0, 0, 3, 0, 0, 2),
-    "</": (0, 1, 2, 2, 2, 0, 0, 3, 0, 0, 2),
-    ">&-": (3, 3, 2, 2, 2, 0, 3, 3, 3, 3, 2),
-    ">/dev/full": (3, 3, 2, 2, 2, 0, 3, 3, 3, 3, 2),
-    "2>&-": (0, 1, 3, 3, 3, 3, 0, 3, 0, 0, 3),
-    "2>/dev/full": (0, 1, 3, 3, 3, 3, 0, 3, 0, 0, 3),
-    "2>/dev/full | cat": (0, 1, 3, 3, 3, 3, 0, 3, 0, 0, 3),
-    "2>&- | cat": (0, 1, 3, 3, 3, 3, 0, 3, 0, 0, 3),
-    "<&- >&- 2>&-": (3, 3, 3, 3, 3, 3, 3, 3, 3, 3, 3),
+    "": (0, 1, 2, 2, 2, 0, 0, 0, 3, 0, 0, 2),
+    "<&-": (0, 1, 2, 2, 2, 0, 0, 0, 3, 0, 0, 2),
+    "</": (0, 1, 2, 2, 2, 0, 0, 0, 3, 0, 0, 2),
+    ">&-": (3, 3, 2, 2, 2, 0, 3, 3, 3, 3, 3, 2),
+    ">/dev/full": (3, 3, 2, 2, 2, 0, 3, 3, 3, 3, 3, 2),
+    "2>&-": (0, 1, 3, 3, 3, 3, 0, 0, 3, 0, 0, 3),
+    "2>/dev/full": (0, 1, 3, 3, 3, 3, 0, 0, 3, 0, 0, 3),
+    "2>/dev/full | cat": (0, 1, 3, 3, 3, 3, 0, 0, 3, 0, 0, 3),
+    "2>&- | cat": (0, 1, 3, 3, 3, 3, 0, 0, 3, 0, 0, 3),
+    "<&- >&- 2>&-": (3, 3, 3, 3, 3, 3, 3, 3, 3, 3, 3, 3),
 }
 
 

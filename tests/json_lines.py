@@ -1,6 +1,9 @@
-"""Through the built program: what `--json` prints, against the stored texts. Each stored case of a command that takes `--json` is called with it: each line is an object as docs/schema/ has it, with its
-keys in that order. From the objects alone reference/texts.py makes the text that the command prints without, by docs/FORMATS.md; that has to be the stored one, octet by octet, with the same status. So
-nothing is lost and nothing invented. What the text doesn't show has to agree with the rest (reference/agreeing.py). The same of the profiles of examples/profiles/ with the headers of examples/data/, against what the program prints without `--json`.
+"""Through the built program: what `--json` prints, against the stored texts.
+
+Each stored case of a command that takes `--json` is called with it. Each line is an object as docs/schema/ has it, with its keys in that order. Of the objects alone
+reference/texts.py makes the text that the command prints without, by docs/FORMATS.md; that has to be the stored one, octet by octet, with the same status. So nothing
+is lost and nothing invented. What the text doesn't show has to agree with the rest (reference/agreeing.py). The same is tried of the profiles of examples/profiles/
+with the headers of examples/data/, against what the program prints without `--json`.
 
     python3 -m tests.json_lines [COMMAND ..]
 """

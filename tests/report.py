@@ -229,6 +229,17 @@ def of_profiles(folder):
         bars_part(kind, page_text, len(flow))
 
 
+def stored_page(folder):
+    """examples/report.html is the page of the udp profile with a flow of a capture; where nodes of trees stand depends on dot."""
+    folder.put("trace.pcap", captures.capture("udp"))
+    due = folder.made("examples/report.html", str(EXAMPLES / "profiles" / "udp.profile"), "--pcap", "trace.pcap", "--flow", "3")
+    seen = (EXAMPLES / "report.html").read_text()
+    sound("examples/report.html", seen)
+    apart = re.compile(r'<svg[^>]* class="tree".*?</svg>', re.DOTALL)
+    check("examples/report.html", apart.sub("", seen) == apart.sub("", due) and len(apart.findall(seen)) == len(apart.findall(due)))
+    check("examples/report.png", 10_000 < (EXAMPLES / "report.png").stat().st_size < 150_000)
+
+
 def bars_part(name, text, count):
     """There is a bar for each item."""
     bars = [it for it in drawings(text) if it.find(SVG + "title") is not None and it.find(SVG + "title").text == "The packed bits of each item"]
@@ -416,6 +427,7 @@ def main():
         of_hostile(folder)
         of_faults(folder)
         of_profiles(folder)
+        stored_page(folder)
         of_many(folder)
         in_browser(folder, in_time(folder))
     return check.status()

@@ -44,7 +44,7 @@ def written(path, text):
     """Writes the page."""
     octets = text.encode("utf-8", "replace")
     if path == "-":
-        fault = diagnosis.fault_in(octets)
+        fault = diagnosis.fault_in(octets) if sys.stdout is not None else OSError(0, "it is closed")
         if fault is not None:
             raise parts.BadInput("standard output: %s" % fault.strerror, 3)
         return

@@ -6,7 +6,8 @@ from .markup import code, marked, plural, section, table
 from .program import of_kind
 from .svg import unbroken
 
-LINES, NODES = 4000, 1000  # lines of a text, and nodes of trees, that are shown
+LONGEST = 1 << 18  # characters of a text in which is looked for what helps
+LINES, NODES, FORMATS = 4000, 1000, 300  # lines of a text, nodes of trees, and formats that are shown
 KINDS = {"bits": "constant", "compressed_value": "constant"}
 DOES = {
     "static": "nothing is sent: the field is what the context holds for it",
@@ -24,9 +25,10 @@ DOES = {
 
 
 def help_of(fault):
-    """What helps with a fault."""
+    """What helps with a fault. (In a long text that is looked for no further.)"""
     said, _ = advice.page(fault.code)
-    return "".join("<br>help: %s" % unbroken(it) for it in [*advice.hints(fault), *([said] if said else [])])
+    hints = advice.hints(fault) if len(fault.text) <= LONGEST else []
+    return "".join("<br>help: %s" % unbroken(it) for it in [*hints, *([said] if said else [])])
 
 
 def message(words, kind):
@@ -107,8 +109,8 @@ def formats_section(told, text):
     diagrams, encodings = of_kind(told.get("draw", []), "diagram"), Encodings(text)
     if not diagrams:
         return ""
-    known, parts, used, begun = {it["method"] for it in diagrams}, [], {}, set()
-    for it in diagrams:
+    known, parts, used, begun = {it["method"] for it in diagrams[:FORMATS]}, [], {}, set()
+    for it in diagrams[:FORMATS]:
         fields = encodings.of(it["method"], it["format"])
         used.update({field.kind: True for field in fields})
         if it["method"] not in begun:
@@ -116,6 +118,8 @@ def formats_section(told, text):
             begun.add(it["method"])
         parts.append(format_part(it, fields, known))
     legend = table(("encoding", "what it does"), [(code({"bits": "'..'", "call": "a method's name"}.get(it, it)), DOES[it]) for it in DOES if it in used])
+    if len(diagrams) > FORMATS:
+        parts.append("<p>There are %d formats, of which %d are shown.</p>" % (len(diagrams), FORMATS))
     return section("formats", "Formats", "<p>The packed bits of each format, in rows of octets. A field whose place or length differs has a dashed row.</p>", legend, *parts)
 
 

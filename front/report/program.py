@@ -47,6 +47,8 @@ def told(program, lost, has_items):
     """What the commands tell, by a name for each call. Of a profile that is at fault `check` alone is asked, and without a certificate no headers are packed."""
     found = {"check": program.objects("check", "--explain", *program.flags)}
     faults = of_kind(found["check"], "fault")
+    if any(it["part"] == "bundle" for it in faults):
+        raise parts.BadInput("no page is made: bundle: %s %s" % (faults[0]["code"], faults[0]["text"]), 1)
     if any(it["part"] == "profile" for it in faults):
         return found
     calls = {"lint": ("lint",), "draw": ("draw",)}

@@ -33,11 +33,11 @@ def trend(it, items):
 
 
 def own(it, lost):
-    """A row of the third table: shares where there are arguments alone, and one of losses where there are losses."""
+    """A row of the third table: shares where there are arguments alone. With none lost both are the same."""
     shares = it["share_0"], it["share_lost"]
     if it["k"] is None:
         return it["offset"] is None and shares == (None, None)
-    return it["offset"] is not None and (shares[1] is None if lost == 0 or shares[0] is None else shares[1] is not None)
+    return it["offset"] is not None and (shares[0] is None) == (shares[1] is None) and (lost > 0 or shares[0] == shares[1])
 
 
 def case(it):
