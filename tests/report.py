@@ -41,6 +41,7 @@ class Page(html.parser.HTMLParser):
     def __init__(self, text):
         super().__init__()
         self.open, self.faults, self.texts, self.tables, self.links, self.ids, self.heads = [], [], [], [], [], [], []
+        self.under = []
         self.feed(text)
         self.close()
         self.faults += ["not closed: %s" % self.open] if self.open else []
@@ -68,6 +69,7 @@ class Page(html.parser.HTMLParser):
         self.heads += [""] if tag == "h3" else []
         if tag == "table":
             self.tables.append([])
+            self.under.append(self.heads[-1] if self.heads else "")
         elif tag == "tr" and self.tables:
             self.tables[-1].append([])
         elif tag in ("td", "th") and self.tables:
@@ -225,7 +227,9 @@ def of_profiles(folder):
         lost = {"udp": 8, "rtp": 2}[kind]
         page_text = folder.made(kind, str(EXAMPLES / "profiles" / (kind + ".profile")), "--items", "items", *([] if lost == 8 else ["--lost", str(lost)]))
         page = sound(kind + " with headers", page_text)
-        counts_part(kind, page, lambda words: run(bundle("%s --top %s" % (words, top), text, items=items))[0], lost)
+        call = lambda words: run(bundle("%s --top %s" % (words, top), text, items=items))[0]
+        counts_part(kind, page, call, lost)
+        encodings_part(kind, page, call("fields --items"), top)
         bars_part(kind, page_text, len(flow))
 
 
@@ -238,6 +242,23 @@ def stored_page(folder):
     apart = re.compile(r'<svg[^>]* class="tree".*?</svg>', re.DOTALL)
     check("examples/report.html", apart.sub("", seen) == apart.sub("", due) and len(apart.findall(seen)) == len(apart.findall(due)))
     check("examples/report.png", 10_000 < (EXAMPLES / "report.png").stat().st_size < 150_000)
+
+
+def encodings_part(name, page, listed, top):
+    """Each field of a format that an item takes is encoded as `fields` prints it of that item."""
+    due, form = {}, None
+    for line in listed.splitlines():
+        words = line.split()
+        if words[0] == "item":
+            form = words[2]
+        elif line.startswith("  ") and line[2] != " ":
+            due.setdefault(form, {})[words[0]] = {"-": "not encoded"}.get(words[4], words[4].partition(".")[0])
+    for form, fields in due.items():
+        seen = {}
+        for under, rows in zip(page.under, page.tables):
+            if under.startswith("%s.%s " % (top, form)) and rows[0][0] == "field":
+                seen |= {cells[0]: "compressed_value" if cells[-1].startswith("'") else cells[-1].partition("(")[0] for cells in rows[1:]}
+        check("%s: encodings of %s" % (name, form), seen == fields, {it for it in seen.items() ^ fields.items()})
 
 
 def bars_part(name, text, count):
@@ -328,6 +349,9 @@ def of_trees():
     lines = ["rohcfn-certificate 1", "method a", "bit 0", "leaf x", "param p -1", "bit 12", "leaf y", "none", "ref f 3", "leaf long_name_of_a_format", "leaf -", "format x", "end"]
     (name, root), = trees.trees(lines)
     hand = trees.by_hand(root)
+    check("the subtrees", [(it, below.text) for node in (root, root.below[1][1]) for it, below in node.below] == [("0", "x"), ("1", "p = -1"), ("yes", "bit 12"), ("no", "f = 3")])
+    labels = [(text, a < b) for (a, _), (b, _), text in [(points[0], points[-1], text) for points, text, _ in hand.edges]]
+    check("by hand: the first to the left", all(right == (text in ("1", "no")) for text, right in labels), labels)
     check("by hand", name == "a" and sorted(it[0] for it in hand.nodes) == sorted(["bit 0", "x", "p = -1", "bit 12", "y", "none", "f = 3", "long_name_of_a_format", "-"]))
     boxes = [(x - w / 2, x + w / 2, y) for _, _, x, y, w, _ in hand.nodes]
     check("by hand: apart", not [1 for at, one in enumerate(boxes) for other in boxes[:at] if one[2] == other[2] and one[0] < other[1] and other[0] < one[1]])
