@@ -118,7 +118,9 @@ def try_call(name, words, profile, items):
 
 
 def refused():
-    """The other commands don't take it."""
+    """The other commands don't take it. What is told before the words are looked at is text."""
+    for given, due in (("=== words\ncheck --top t --json\n=== x\n", "bundle: I4 bad part x\n"), ("=== words\ncheck --top t --json\n=== profile\n" + "\n" * (4 << 20), "bundle: I6 above 4 MiB\n")):
+        check("before the words: %s" % due, run(given) == (due, 1), run(given))
     for command in PLAIN:
         printed, status = run(bundle("%s --top t --json" % command, "t { UNCOMPRESSED { a [8]; } COMPRESSED { a =:= irregular(8) [8]; } }\n", items="8:00\n"))
         check("%s --json" % command, (printed, status) == ("", 2), (printed, status))

@@ -106,9 +106,10 @@ def format_part(diagram, fields, known):
 
 def formats_section(told, text):
     """Each format in octets."""
-    diagrams, encodings = of_kind(told.get("draw", []), "diagram"), Encodings(text)
+    diagrams = of_kind(told.get("draw", []), "diagram")
     if not diagrams:
         return ""
+    encodings = Encodings(text)
     known, parts, used, begun = {it["method"] for it in diagrams[:FORMATS]}, [], {}, set()
     for it in diagrams[:FORMATS]:
         fields = encodings.of(it["method"], it["format"])

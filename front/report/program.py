@@ -3,7 +3,7 @@ import concurrent.futures
 import json
 import subprocess
 
-from .. import bundles, parts, terminal
+from .. import bundles, objects, parts, terminal
 
 ROBUST = (0, 1, 3, 8)  # packets in a row that may be lost, as far as that many are asked for
 
@@ -26,8 +26,8 @@ class Program:
         return ran.stdout
 
     def objects(self, command, *flags):
-        """What a command tells."""
-        return [json.loads(it) for it in self.printed(command, *flags, "--json").splitlines()]
+        """What a command tells. (Of a bundle whose words aren't looked at yet a fault is told as text.)"""
+        return [json.loads(it) if it.startswith(b"{") else objects.fault(it.decode()) for it in self.printed(command, *flags, "--json").splitlines()]
 
     def of_copy(self, text):
         """What `show` prints of a copy of the profile."""
