@@ -1,8 +1,8 @@
 """The pages that `bin/rohcfn report` writes, through the built program: of the profiles of examples/, some with headers, and of hostile texts.
 
-Each page is read by a parser: its elements nest, it has no script and takes nothing from elsewhere, each drawing is well-formed XML, and what stands in it are the numbers that the commands print as text.
-The size has a bound, and so has the time, as in hostile.py. Where a browser is installed (Chromium, by the name chromium, chromium-browser or google-chrome) the page is laid out by it at 360 and
-1,440 pixels, light and dark."""
+Each page is read by a parser: its elements nest, it has no script and takes nothing from elsewhere, each drawing is well-formed XML, and what stands in them are the
+numbers that the commands print as text. The size has a bound, and so has the time, as in hostile.py. Where a browser is installed (Chromium, by the name chromium,
+chromium-browser or google-chrome) the page is laid out by it at 360 and 1,440 pixels, light and dark."""
 import html.parser
 import json
 import os

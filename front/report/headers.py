@@ -16,13 +16,18 @@ def refused_items(objects):
 
 
 def grouped(items):
-    """The height and the format of each bar: of an item, or of a group the mean and the most frequent one; and how many items a bar has."""
+    """The place, the height and the format of each bar: of an item, or of a group the middle, the mean and the most frequent one; and how many items a bar has."""
     if len(items) <= SINGLE:
-        return [it["bits"] for it in items], [it["format"] for it in items], 1
+        return [(it["number"], it["bits"], it["format"]) for it in items], 1
     size = -(-len(items) // GROUPS)
     groups = [items[at:at + size] for at in range(0, len(items), size)]
-    named = [[it["format"] for it in group] for group in groups]
-    return [sum(it["bits"] for it in group) / len(group) for group in groups], [max(dict.fromkeys(it), key=it.count) for it in named], size
+    return [middle(group) for group in groups], size
+
+
+def middle(group):
+    """The bar of a group."""
+    named = [it["format"] for it in group]
+    return (group[0]["number"] + group[-1]["number"]) / 2, sum(it["bits"] for it in group) / len(group), max(dict.fromkeys(named), key=named.count)
 
 
 def swatch(colour):
@@ -35,9 +40,10 @@ def time_part(told):
     if not items:
         return ""
     colours = {it["name"]: at for at, it in enumerate(formats)}
-    heights, names, size = grouped(items)
+    found, size = grouped(items)
     refused = [it["number"] for it in refused_items(told["items"])]
-    drawn = svg.bars("The packed bits of each item", heights, [colours[it] for it in names], max(it["number"] for it in [*items, {"number": max(refused, default=0)}]), "item", refused)
+    count = max(items[-1]["number"], max(refused, default=0))
+    drawn = svg.bars("The packed bits of each item", [(at, height, colours[name]) for at, height, name in found], count, "item", refused)
     legend = "".join("<li>%s%s <span class=\"soft\">%s</span></li>" % (swatch(colours[it["name"]]), code(it["name"]), plural(it["items"], "item")) for it in formats if it["items"])
     words = "A bar for each item: its height is the bits of the packet, its colour the format." if size == 1 else \
         "A bar for each group of %d items: its height is the mean of their bits, its colour the format that most of them have." % size
@@ -115,11 +121,13 @@ def lost_part(told):
     """What is read after losses, as a table and as curves."""
     lost = of_kind(told["loss"], "lost")
     rows = [(it["lost"], it["packets"], it["right"], it["refused"], it["wrong"]) for it in lost]
-    shares = [(name, kind, [(it["lost"], PERCENT * it[name] / it["packets"]) for it in lost if it["packets"]]) for name, kind in (("right", ""), ("refused", "third"), ("wrong", "second"))]
+    counted = [it for it in lost if it["packets"]]
+    shares = [(name, kind, [(it["lost"], PERCENT * it[name] / it["packets"]) for it in counted]) for name, kind in (("right", ""), ("refused", "third"), ("wrong", "second"))]
     drawn = svg.curves("Packets that are read right, refused and read wrong", shares, "lost in a row", "percent", PERCENT)
     legend = '<p class="soft">The line that is whole is read right, the dotted one refused, the dashed one read wrong, in percent of the packets.</p>'
     formats = [(code(it["format"]), it["packets"], it["right"], it["refused"], it["wrong"], it["reach"]) for it in of_kind(told["loss"], "format")]
-    more = table(("format", "packets", "right", "refused", "wrong", "reach"), formats, "By format, with 1 and more lost; up to <i>reach</i> all is read right", range(1, 6)) if formats else ""
+    caption = "By format, with 1 and more lost; up to <i>reach</i> all is read right"
+    more = table(("format", "packets", "right", "refused", "wrong", "reach"), formats, caption, range(1, 6)) if formats else ""
     return '<div class="scroll">%s</div>%s%s%s' % (drawn, legend, table(("lost", "packets", "right", "refused", "wrong"), rows, numbers=range(5)), more)
 
 

@@ -100,7 +100,8 @@ def format_part(diagram, fields, known):
     drawn = svg.octets(diagram, kinds) if diagram["most"] else '<p class="soft">A packet of this format has no bits.</p>'
     tables = table(("field", "part", "bits sent", "encoding"), rows, numbers=(2,)) if rows else ""
     if unsent:
-        tables += "<details><summary>%s no bits</summary>%s</details>" % (plural(len(unsent), "field") + (" takes" if len(unsent) == 1 else " take"), table(("field", "part", "encoding"), unsent))
+        count = plural(len(unsent), "field") + (" takes" if len(unsent) == 1 else " take")
+        tables += "<details><summary>%s no bits</summary>%s</details>" % (count, table(("field", "part", "encoding"), unsent))
     return '%s<div class="format"><div>%s</div><div>%s</div></div>' % (heading, drawn, tables)
 
 

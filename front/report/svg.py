@@ -163,12 +163,11 @@ def axes(most_x, most_y, what_x, what_y, first=0):
     return parts
 
 
-def bars(title, heights, colours, count, what, refused=()):
-    """A bar for each of the heights, in the colour of its number; below them marks at some places of those that a count has."""
-    most, wide = max([1, *heights]), PLOT / max(1, len(heights))
-    paths = {}
-    for at, (height, colour) in enumerate(zip(heights, colours)):
-        paths.setdefault(colour, []).append("M%s,%sv-%s" % (("%.2f" % (LEFT + wide * (at + 0.5))), TOP + HIGH, number(HIGH * height / most)))
+def bars(title, found, count, what, refused=()):
+    """Bars, each with its place among a count, its height and its colour, of which each takes as much of the count; below them marks at some places."""
+    most, wide, paths = max([1, *[height for _, height, _ in found]]), PLOT / max(1, len(found) + len(refused)), {}
+    for at, height, colour in found:
+        paths.setdefault(colour, []).append("M%.2f,%dv-%s" % (LEFT + PLOT * (at - 0.5) / count, TOP + HIGH, number(HIGH * height / most)))
     parts = axes(count, most, what, "bits")
     parts += [tag("path", d="".join(it), kind="bar c%d" % (colour % COLOURS), stroke_width="%.2f" % max(0.3, wide * 0.9)) for colour, it in sorted(paths.items())]
     parts += [tag("path", d="".join("M%.2f,%dv6" % (LEFT + PLOT * (it - 0.5) / count, TOP + HIGH) for it in refused), kind="refused")] if refused else []
@@ -184,5 +183,7 @@ def curves(title, series, what_x, what_y, most_y=None):
         placed = [(LEFT + PLOT * x / most_x, TOP + HIGH - HIGH * y / most_y) for x, y in points]
         parts.append(tag("path", d="M" + "L".join("%s,%s" % (number(x), number(y)) for x, y in placed), kind="curve " + kind) if placed else "")
         marks = zip(placed, points)
-        parts += [tag("g", tag("title", unbroken("%s: %s at %s" % (name, number(float(y)), x))) + tag("circle", cx=float(a), cy=float(b), r=4, kind="mark " + kind)) for (a, b), (x, y) in marks]
+        for (a, b), (x, y) in marks:
+            told = tag("title", unbroken("%s: %s at %s" % (name, number(float(y)), x)))
+            parts.append(tag("g", told + tag("circle", cx=float(a), cy=float(b), r=4, kind="mark " + kind)))
     return drawing(title, LEFT + PLOT + 8, TOP + HIGH + BELOW, parts, "plot", "min-width:480px")
