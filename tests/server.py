@@ -134,8 +134,23 @@ def told(editor):
         related = [chosen(text, it["location"]["range"]) for it in shown[0].get("relatedInformation", [])]
         places = [it["location"]["range"]["start"] for it in shown[0].get("relatedInformation", [])]
         check("%s and the first place" % code, shown[0]["code"] == code and related == [first.split()[0]] and places == [place(text, at(text, first))], shown)
+    of_warnings(editor)
     of_certificates(editor)
     of_tops(editor)
+
+
+def of_warnings(editor):
+    """Warnings that stand behind what they are about in another way, or are about nothing."""
+    never = "top { UNCOMPRESSED { a [8]; } COMPRESSED co { d =:= '0' [1]; a =:= static [0]; } }\n"
+    words = "top.co is never used: it needs a in the context, which no format that can come before puts there"
+    shown = editor.found(URI, never)
+    agrees("never used", never, shown)
+    check("never used", words in [it["message"] for it in shown], shown)
+    meant = "top { UNCOMPRESSED { a [8]; }\n // lint: meant\n COMPRESSED co { a =:= irregular(8) [8]; } }\n"
+    shown = editor.found(URI, meant)
+    agrees("meant", meant, shown)
+    seen = [(it["message"], it["range"]["start"]) for it in shown]
+    check("meant", seen == [("nothing is warned of on this line, which says that it is meant", {"line": 1, "character": 0})], shown)
 
 
 def of_certificates(editor):
@@ -152,6 +167,10 @@ def of_certificates(editor):
     shown = editor.found(URI, turn)
     due = [("P1", 3, "with --v2 there is a certificate, of version 2")]
     check("a certificate of version 2", [(it["code"], it["severity"], it["message"].rpartition("\n")[2]) for it in shown] == due, shown)
+    waits = "t { UNCOMPRESSED { x [4]; y [4]; ENFORCE(y.UVALUE == x.UVALUE + 1); ENFORCE(x.UVALUE == y.UVALUE - 1); } COMPRESSED { d =:= irregular(1) [1]; } }\n"
+    shown = [it for it in editor.found(URI, waits) if it["code"] == "P1"]
+    due = [("NoPlan t - read x U y U\nthe value of x, by constraint 3, waits for the uncompressed bits of y", place(waits, 76), "x")]
+    check("P1 at its constraint", [(it["message"], it["range"]["start"], chosen(waits, it["range"])) for it in shown] == due, shown)
     large = "top { UNCOMPRESSED { x [8]; } COMPRESSED { a =:= irregular(16) [16]; b =:= irregular(1) [1]; x =:= irregular(8) [8]; } }"
     seen = [(it["code"], it["message"].partition("\n")[0], it["severity"]) for it in editor.found(URI, large)]
     due = [("V6", "candidates", 1), ("lint", "top: 131072 candidates an item, and the limit is 65536", 2),
