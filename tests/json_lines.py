@@ -16,7 +16,7 @@ from examples import headers
 from front import parts
 from . import cases
 from .counting import Checks
-from .program import EXAMPLES, bundle, run
+from .program import DOCS, EXAMPLES, bundle, run
 from .reference import agreeing, schema, texts
 
 WORDS = re.compile(rb"^=== words\r?\n([^\r\n]*)", re.MULTILINE)
@@ -126,6 +126,14 @@ def refused():
         check("%s --json" % command, (printed, status) == ("", 2), (printed, status))
 
 
+def page():
+    """The example of docs/FORMATS.md, with the profile of docs/USAGE.md."""
+    profile = re.search(r"^`probe.fn`:\n\n```\n(.*?)^```$", (DOCS / "USAGE.md").read_text(), re.MULTILINE | re.DOTALL)[1]
+    due = re.search(r"^\$ bin/rohcfn stats probe.fn --item (\S+) --item (\S+) --json\n(.*?)^```$", (DOCS / "FORMATS.md").read_text(), re.MULTILINE | re.DOTALL)
+    seen, _ = run(bundle("stats --top probe --json", profile, items="%s\n%s\n" % due.group(1, 2)))
+    check("docs/FORMATS.md", seen == due[3], seen)
+
+
 def main():
     chosen = sys.argv[1:] or list(texts.TOLD)
     every = [it for it in stored() if (words_of(it[1]) or [""])[0] in chosen]
@@ -134,6 +142,7 @@ def main():
         list(pool.map(lambda it: try_one(*it), every))
         list(pool.map(lambda it: try_call(*it), calls))
     refused()
+    page()
     return check.status()
 
 

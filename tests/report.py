@@ -325,6 +325,7 @@ def of_words(folder):
     for words, status, said in (
             (("good.fn",), 2, "error: -o FILE is needed: the page to be written"), (("-o", "x.html"), 2, "error: the file of a profile is needed"), (("good.fn", "-o"), 2, "error: -o needs a value"),
             (("good.fn", "-o", "a", "-o", "b"), 2, "error: -o stands twice"), (("good.fn", "--robust", "1", "-o", "a"), 2, "error: unexpected argument '--robust' found"),
+            (("good.fn", "--lost", "3", "-o", "a"), 2, "error: --lost goes with --item, --items or --pcap"), (("good.fn", "--from-context=x", "-o", "a"), 2, "error: --from-context goes with --item"),
             (("good.fn", "--lost", "64", "--item", "24:014007", "-o", "a"), 2, "error: invalid value '64' for '--lost <N>'"), (("gone.fn", "-o", "a"), 3, "rohcfn: gone.fn: No such file"),
             (("good.fn", "-o", "gone/a"), 3, "rohcfn: gone/a: No such file"), (("good.fn", "--items", "gone", "-o", "a"), 3, "rohcfn: gone: No such file"), (("good.fn", "-o", "."), 3, "rohcfn: .: Is a directory")):
         ran = folder.call(*words)

@@ -5,11 +5,12 @@ import sys
 
 from .. import bundles, commands, diagnosis, parts, terminal
 from ..__main__ import ended
-from ..orders import LINES, PACKED, Usage, order_of
+from ..orders import PACKED, Usage, order_of
 from ..terminal import shown
 from . import page, program
 
 LOST = "8"  # packets in a row, where none is said
+ALONE = ("top", "v2", "certificate")  # options without items
 
 
 def parted(words, table):
@@ -37,6 +38,9 @@ def parted(words, table):
 def ordered(words):
     """What the words ask for: as those of `advise`, which takes items and packets that may be lost, or where no items are named of `check`."""
     has_items = any(it.partition("=")[0] in map(commands.option, PACKED) for it in words)
+    for it in words if not has_items else ():
+        if it.startswith("--") and it[2:].partition("=")[0] not in ALONE:
+            raise Usage("%s goes with --item, --items or --pcap" % it.partition("=")[0])
     return order_of(["advise" if has_items else "check", *words]), has_items
 
 
