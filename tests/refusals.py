@@ -14,6 +14,7 @@ A drawing (fn_sketch) can't answer want of memory: where a growth is refused to 
 drawn up grows one list, that of its fields, and nothing else in the rows of `rohcfn`. So each of these says how many levels are drawn up for it, and just so many
 growths may end so. In the rows of calls that draw, two growths in a row are refused as well: that of a drawing and the first one of the walk after it."""
 import concurrent.futures
+import json
 import os
 import pathlib
 import shutil
@@ -148,6 +149,8 @@ def rows():
     yield from of_surveys()
     yield from explained()
     yield from named()
+    yield from messages()
+    yield from figures()
 
 
 def of_tick():
@@ -264,6 +267,64 @@ def named():
         stored = [it for it in cases.stored(EXAMPLES / "cases" / ("E%d.cases" % code)) if b": E%d " % code in it[3]]
         _, given, status, output = min(stored, key=lambda it: len(it[1]))
         yield "E%d" % code, given.decode(), output.decode(), status, 0
+
+
+def written(*found):
+    """Objects as lines."""
+    return "".join(json.dumps(it, separators=(",", ":")) + "\n" for it in found)
+
+
+def fault(number):
+    """The object of an item that no format has."""
+    return {"kind": "fault", "part": "item", "line": None, "column": None, "number": number, "code": "F3", "text": "NoFormat"}
+
+
+def messages():
+    """Rows of commands that tell messages, with --json."""
+    exchanged = CERTIFICATES["tick"].replace("leaf short\nleaf full", "leaf full\nleaf short")
+    yield "tick accepted as an object", bundle("check --json --top tick", TICK), written({"kind": "accepted"}), 0, 0
+    refused = {"kind": "fault", "part": "check", "line": None, "column": None, "number": None, "code": "V4", "text": "tick node 1 short"}
+    notes = [{"kind": "note", "part": part, "line": line, "column": column, "text": text} for part, line, column, text in (("profile", 1, 1, "in tick.short"), ("certificate", 4, None, "here"))]
+    yield "a leaf explained as objects", bundle("check --explain --json --top tick", TICK, certificate=exchanged), written(refused, *notes), 1, 0
+    proved = {"kind": "certificate", "version": 1, "lines": CERTIFICATES["tick"].splitlines()}
+    yield "tick proved as an object", bundle("prove --json --top tick", TICK), written(proved), 0, 0
+    clean = "top { UNCOMPRESSED { sn [8]; } COMPRESSED one { sn =:= lsb(4, 1) [4]; } }\n"
+    warned = {"kind": "warning", "part": "profile", "line": 1, "column": 1, "subject": "top.one", "text": "a wrong reference is not noticed"}
+    yield "lint as an object", bundle("lint --json --top top", clean, context="sn 8:00\n"), written(warned), 0, 0
+    waits = "top { UNCOMPRESSED { sn [8]; } COMPRESSED near { d =:= '0' [1]; sn =:= lsb(4, 1) [4]; } COMPRESSED same { d =:= '1' [1]; sn =:= static [0]; } }\n"
+    lacks = [{"kind": "reason", "line": 1, "column": column, "depth": 0, "subject": subject, "text": "%s of sn: the context has no entry sn, and INITIAL gives none" % encoding}
+             for column, subject, encoding in ((82, "top.near", "lsb"), (136, "top.same", "static"))]
+    yield "why as objects", bundle("why --json --top top --items", waits, items="8:05\n"), written(fault(1), *lacks), 0, 2
+
+
+def side(bits, octets=""):
+    return {"bits": bits, "hex": octets}
+
+
+def figures():
+    """Rows of commands that tell figures, with --json."""
+    counted = [("format", 0, "short", 0, 0, None), ("format", 0, "full", 1, 9, 9.0), ("field", 1, "d", 1, 1, 1.0), ("field", 1, "sn", 1, 8, 8.0)]
+    rows = [dict(zip(("kind", "depth", "name", "items", "bits", "mean"), it)) for it in counted]
+    yield "tick counted as objects", bundle("stats --json --top tick", TICK, items="8:01\n9:0000\n"), written({"kind": "all", "items": 1, "bits": 9, "mean": 9.0}, *rows, fault(2)), 0, 4
+    bare = "bare { UNCOMPRESSED { sn [8]; } COMPRESSED near { d =:= '0' [1]; sn =:= lsb(2, 0) [2]; } COMPRESSED full { d =:= '1' [1]; sn =:= irregular(8) [8]; } }\n"
+    use = {"path": "sn", "method": "lsb", "k": 2, "offset": 0, "has": side(8, "01"), "needs": side(8, "06"), "step": 5, "from": 0, "to": 3}
+    told = [{"kind": "all", "items": 3, "bits": 15, "mean": 5.0}, {"kind": "lost", "lost": 0, "packets": 3, "right": 3, "refused": 0, "wrong": 0},
+            {"kind": "lost", "lost": 1, "packets": 1, "right": 0, "refused": 0, "wrong": 1}, {"kind": "format", "format": "near", "packets": 1, "right": 0, "refused": 0, "wrong": 1, "reach": 0},
+            {"kind": "case", "lost": 1, "item": 3, "format": "near", "heard": "wrong", "code": None, "method": None, "at": None, "uses": [use]}]
+    yield "a wrong reading as objects", bundle("loss --json --lost 1 --top bare", bare, items="8:01\n8:03\n8:06\n"), written(*told), 0, 5
+    keys = ("depth", "name", "part", "uncompressed", "compressed", "method", "format")
+    fields = [(0, "ttl", "header", side(8, "40"), side(0), "static_or_irreg", "static_enc"), (1, "field", "header", side(8, "40"), side(0), "static", None), (0, "flag", "local", side(1, "00"), side(1, "00"), "irregular", None)]
+    packet = {"kind": "packet", "number": 1, "format": "-", "bits": 1, "fields": [dict(zip(keys, it)) for it in fields]}
+    yield "opt told as objects", bundle("fields --json --top opt", OPT, context="ttl.field 8:40\n", packets="1:00\n"), written(packet), 0, 2
+    keys = ("field", "calls", "offset_least", "offset_most", "bits_least", "bits_most", "constant")
+    drawn = {"short": [("d", None, 0, 0, 1, 1, "0"), ("sn", None, 1, 1, 4, 4, None), ("c", None, 5, 5, 3, 3, None)], "full": [("d", None, 0, 0, 1, 1, "1"), ("sn", None, 1, 1, 8, 8, None)]}
+    shown = [{"kind": "diagram", "method": "tick", "format": form, "least": bits, "most": bits, "columns": [dict(zip(keys, it)) for it in drawn[form]]} for form, bits in (("short", 8), ("full", 9))]
+    yield "tick drawn as objects", bundle("draw --json --top tick", TICK), written(*shown), 0, 0
+    near = {"kind": "near", "field": "sn", "lost": 0, **dict.fromkeys(("p90", "p99", "p100"), {"k": 1, "offset": -1})}
+    trend = {"kind": "field", "field": "sn", "part": "header", "least": 8, "most": 8, "goes": "steps", "values": [], "as_before": None, "steps": {"least": 1, "most": 2, "frequent": 1, "share": 66}, "without": 0}
+    own = {"kind": "own", "field": "sn", "format": "short", "k": 4, "offset": 1, "share_0": 100, "share_lost": 100}
+    advised = written({"kind": "all", "items": 4, "lost": 0}, trend, near, own)
+    yield "tick advised as objects", bundle("advise --json --lost 0 --top tick", TICK, items="8:01\n8:02\n8:03\n8:05\n"), advised, 0, 5
 
 
 def usages():
