@@ -93,7 +93,7 @@ _rohcfn() {
       options='--top --v2 --help --json --explain --diagnose'
       ;;
     line)
-      options='--top --v2 --help --receive --wide --certificate --events --octets --pcap --cut --diagnose'
+      options='--top --v2 --robust --help --receive --wide --frames --certificate --events --octets --pcap --cut --diagnose'
       ;;
     report)
       options='-o --top --item --items --bare --pcap --cut --flow --from-context --certificate --v2 --lost --help'

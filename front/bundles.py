@@ -13,7 +13,7 @@ from .commands import option
 from .terminal import shown
 
 FILTER = os.path.join(os.path.dirname(os.path.dirname(os.path.realpath(__file__))), "bin", "rohcfn")
-FLOWS, WIDE = 16, 64  # of a line, and of the wide one
+FLOWS, WIDE = 16, 64  # of a line, and of the wide one or one of frames
 EVENT = len("send 0 ")  # characters of an event before its item, or more
 TEXT = 1 << 20  # octets of a profile; one that is longer is refused by its length alone (E04)
 BLOCK = 4096  # items of a capture that are made at a time
@@ -50,7 +50,7 @@ def flows_of(order, cut, octets, file, see=None):
     chosen, name, what = order.get("flow"), shown(order.get("pcap")), shown(cut.words())
     number = None if chosen is None else int(chosen.lstrip("0")[:9] or "0")  # (no capture has so many flows that more digits tell)
     if order.command == "line":
-        flows = Flows(cut, octets + EVENT, limit=WIDE if order.has("wide") else FLOWS)
+        flows = Flows(cut, octets + EVENT, limit=WIDE if order.has("wide") or order.has("frames") else FLOWS)
     else:
         flows = Flows(cut, octets, number, see=see)
     flows.gather(cut.packets(file))

@@ -60,6 +60,6 @@ def case(lines):
     return found | {"uses": list(map(use, lines[1:]))}
 
 
-def context(it):
-    """The entries of an object of a context, as the lines of one."""
-    return "".join("%s %d:%s\n" % (entry["path"], entry["bits"]["bits"], entry["bits"]["hex"]) for entry in it["entries"])
+def remark(text):
+    """A line of text that has no object of its own."""
+    return {"kind": "remark", "text": text}

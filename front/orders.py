@@ -96,6 +96,10 @@ def judge(order):
         return
     if order.command == "why" and order.has("robust") and any(map(order.has, READ)):
         raise Usage("--robust goes with items: packets are read and not sent")
+    if order.has("frames") and order.has("wide"):
+        raise Usage("--frames has 64 flows, and goes without --wide")
+    if order.command == "line" and order.has("robust") and (not order.has("frames") or order.has("octets") or order.has("receive")):
+        raise Usage("--robust goes with --frames, where events are sent")
     if order.profile is None:
         raise Usage("the file of a profile is needed")
     judge_parts(order)

@@ -132,11 +132,11 @@ class Pieces:
         """The same of the objects of `fields`."""
         printed, status = self.call(self.order.command, [*self.flags, "--context"], lines)
         found = list(map(json.loads, printed.splitlines()))
-        last = found.pop() if status == 0 else None
-        self.writes(b"".join(objects.line(self.numbered(it)).encode() for it in found))
+        begin = found.index(objects.remark(CONTEXT.decode().rstrip())) if status == 0 else len(found)
+        self.writes(b"".join(objects.line(self.numbered(it)).encode() for it in found[:begin]))
         if status != 0:
             raise Stopped(status)
-        self.given["context"] = objects.context(last).encode()
+        self.given["context"] = "".join(it["text"] + "\n" for it in found[begin + 1:]).encode()
 
     def numbered(self, it):
         """An object with the numbers of the whole."""
@@ -211,11 +211,8 @@ class Pieces:
 
     def last_context(self):
         """What is printed of the last context."""
-        lines = self.given.get("context", b"")
-        if not self.is_json:
-            return CONTEXT + lines
-        entries = [{"path": path, "bits": objects.bits(bits)} for path, bits in (it.split(" ") for it in lines.decode().splitlines())]
-        return objects.line({"kind": "context", "entries": entries}).encode()
+        text = CONTEXT + self.given.get("context", b"")
+        return "".join(objects.line(objects.remark(it)) for it in text.decode().splitlines()).encode() if self.is_json else text
 
     def table(self):
         """What is counted of all pieces."""

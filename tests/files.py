@@ -127,6 +127,9 @@ COMPOSED = [
     (["line", "a profile.fn", "--receive", "--octets", "sent"], ["line", *TOP, "--receive"], {"octets": "0080\n"}),
     (["line", "a profile.fn", "--wide", "--events", "events"], ["line", *TOP, "--wide"], {"events": "reset 0\n"}),
     (["line", "a profile.fn", "--wide", "--octets", "octets"], ["line", *TOP, "--receive", "--wide"], {"octets": "00\n80\n"}),
+    (["line", "a profile.fn", "--frames", "--events", "events"], ["line", *TOP, "--frames"], {"events": "reset 0\n"}),
+    (["line", "a profile.fn", "--frames", "--robust", "2", "--events", "events"], ["line", *TOP, "--robust=2", "--frames"], {"events": "reset 0\n"}),
+    (["line", "a profile.fn", "--frames", "--octets", "octets"], ["line", *TOP, "--receive", "--frames"], {"octets": "00\n80\n"}),
 ]
 # Texts of a profile, and the method that is the top of each.
 LAST = (("none", "", "top"), ("cut", "a { } b {", "b"), ("bad", "a { } ? c(d { {", "a"), ("bits", "a { x =:= '0}'; } }", "a"))
@@ -192,6 +195,9 @@ FAULTY = {
     ("fields", "a profile.fn", "--pcap", "x", "--packets", "y"): "--pcap and --packets don't go together",
     ("fields", "a profile.fn", "--item", "8:01", "--pcap", "x"): "--item and --pcap don't go together",
     ("fields", "a profile.fn", "--item", "8:01", "--wide"): "--wide is no option of fields",
+    ("line", "a profile.fn", "--events", "events", "--frames", "--wide"): "--frames has 64 flows, and goes without --wide",
+    ("line", "a profile.fn", "--events", "events", "--robust", "1"): "--robust goes with --frames, where events are sent",
+    ("line", "a profile.fn", "--octets", "octets", "--frames", "--robust", "1"): "--robust goes with --frames, where events are sent",
     ("stats", "a profile.fn"): "stats needs one of --item, --items, --pcap",
     ("stats", "a profile.fn", "--packet", "8:01"): "--packet is no option of stats",
     ("stats", "a profile.fn", "--item", "8:01", "--context"): "--context is no option of stats",

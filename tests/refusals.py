@@ -196,6 +196,9 @@ def of_flows():
     events, items = "send 40 8:01\nreset 40\nsend 63 8:01\n", "40 8:01\n63 8:01\n"
     yield "two flows of 64", bundle("line --wide --top tick", TICK, events=events), "288080683f8080\n" + items, 0, 4
     yield "two flows of 64 received", bundle("line --wide --receive --top tick", TICK, octets="288080683f8080\n"), items, 0, 2
+    yield "frames", bundle("line --frames --top tick", TICK, events="send 0 8:01\nsend 1 8:01\nsend 0 8:02\n"), "0002808001028080000114\n0 8:01\n1 8:01\n0 8:02\n", 0, 5
+    yield "frames received", bundle("line --frames --receive --top tick", TICK, octets="0002808001020000000114\n"), "0 8:01\n1 refused U2 Refused tick.short\n0 8:02\n", 0, 3
+    yield "frames for a loss", bundle("line --frames --robust 1 --top tick", TICK, events="send 0 8:01\nreset 0\nsend 0 8:02\n"), "000280808000028100\n0 8:01\n0 8:02\n", 0, 4
 
 
 def of_version_2():
