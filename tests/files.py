@@ -128,7 +128,7 @@ COMPOSED = [
     (["line", "a profile.fn", "--wide", "--events", "events"], ["line", *TOP, "--wide"], {"events": "reset 0\n"}),
     (["line", "a profile.fn", "--wide", "--octets", "octets"], ["line", *TOP, "--receive", "--wide"], {"octets": "00\n80\n"}),
     (["line", "a profile.fn", "--frames", "--events", "events"], ["line", *TOP, "--frames"], {"events": "reset 0\n"}),
-    (["line", "a profile.fn", "--frames", "--robust", "2", "--events", "events"], ["line", *TOP, "--robust=2", "--frames"], {"events": "reset 0\n"}),
+    (["line", "a profile.fn", "--frames", "--robust", "2", "--events", "events"], ["line", *TOP, "--frames", "--robust=2"], {"events": "reset 0\n"}),
     (["line", "a profile.fn", "--frames", "--octets", "octets"], ["line", *TOP, "--receive", "--frames"], {"octets": "00\n80\n"}),
 ]
 # Texts of a profile, and the method that is the top of each.
