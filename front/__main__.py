@@ -52,13 +52,14 @@ def ended(status, text):
     return status if terminal.writes(text) else 3
 
 
-def main(folder, *words):
+def ran(folder, answer):
+    """Does what is asked for, in a folder that is a stream's number; its status, or that of what went wrong, of which a line is told."""
     os.fchdir(int(folder))
     os.close(int(folder))
     terminal.fill()
     signal.signal(signal.SIGINT, signal.SIG_DFL)
     try:
-        return answer(order_of(list(words)))
+        return answer()
     except Usage as why:
         return ended(2, "error: %s\n\nFor more information, try '--help'.\n" % why)
     except parts.BadInput as why:
@@ -67,6 +68,10 @@ def main(folder, *words):
         return ended(3, "error: out of memory\n")
     except OSError as why:
         return ended(3, "rohcfn: %s\n" % why.strerror)
+
+
+def main(folder, *words):
+    return ran(folder, lambda: answer(order_of(list(words))))
 
 
 if __name__ == "__main__":

@@ -1,10 +1,9 @@
 """Writes the report: `PROFILE [OPTION ..] -o FILE`. Before these words stands the number of a stream that is the caller's folder. docs/USAGE.md shows its use."""
 import os
-import signal
 import sys
 
-from .. import bundles, commands, diagnosis, parts, terminal
-from ..__main__ import ended
+from .. import bundles, commands, diagnosis, parts
+from ..__main__ import ran
 from ..orders import PACKED, Usage, order_of
 from ..terminal import shown
 from . import page, program
@@ -76,20 +75,7 @@ def answer(words):
 
 
 def main(folder, *words):
-    os.fchdir(int(folder))
-    os.close(int(folder))
-    terminal.fill()
-    signal.signal(signal.SIGINT, signal.SIG_DFL)
-    try:
-        return answer(list(words))
-    except Usage as why:
-        return ended(2, "error: %s\n\nFor more information, try '--help'.\n" % why)
-    except parts.BadInput as why:
-        return ended(why.status, "rohcfn: %s\n" % why)
-    except MemoryError:
-        return ended(3, "error: out of memory\n")
-    except OSError as why:
-        return ended(3, "rohcfn: %s\n" % why.strerror)
+    return ran(folder, lambda: answer(list(words)))
 
 
 if __name__ == "__main__":
