@@ -17,5 +17,6 @@ pub mod interval;
 pub mod known;
 pub mod laws;
 pub mod ranges;
+mod short;
 pub mod valuation;
 pub mod values;

@@ -6,11 +6,24 @@ ghost use Rattle.fn_expr.specs.Values as spec;
 ghost use Rattle.fn_expr.specs.Spread.{IsRanged, AreRanged, IsCalculable};
 
 use crate::expr::{Comparison, Cond, Expr, Operator};
+use crate::short::short_value;
 use crate::valuation::Valuation;
 
 /// The value of an expression, where it has one, as over unbounded whole numbers.
 /// It is asked where `range` accepts the expression, for ranges in which the known numbers lie.
+/// What is beyond 64 bits on the way is reckoned in 128.
 pub fn value<V: Valuation>(expr: &Expr, known: &V) -> Option<i128>
+    requires ready { V.is_ready known.now }
+    requires ranged { IsRanged (V.assignment known.now) expr.now }
+    ensures { result ≡ val (V.assignment known.now) expr.now }
+{
+    match short_value(expr, known) {
+        Some(number) => Some(number as i128),
+        None => wide_value(expr, known),
+    }
+}
+
+fn wide_value<V: Valuation>(expr: &Expr, known: &V) -> Option<i128>
     requires ready { V.is_ready known.now }
     requires ranged { IsRanged (V.assignment known.now) expr.now }
     ensures { result ≡ val (V.assignment known.now) expr.now }
@@ -20,8 +33,8 @@ pub fn value<V: Valuation>(expr: &Expr, known: &V) -> Option<i128>
         Expr::Parameter(_, index) => known.parameter(*index),
         Expr::Attribute(_, attribute) => known.attribute(*attribute),
         Expr::Binary(_, operator, left, right) => {
-            let left = value(left, known)?;
-            let right = value(right, known)?;
+            let left = wide_value(left, known)?;
+            let right = wide_value(right, known)?;
             calculate(*operator, left, right)
         }
     }

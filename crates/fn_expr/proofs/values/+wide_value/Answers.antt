@@ -1,7 +1,7 @@
 use Rattle.std.proofs.Common.{◌∙◌, ap}
 use Rattle.fn_expr.specs.Values.{val}
 use Rattle.fn_expr.proofs.RangedLie.{calculable_at}
-use Rattle.fn_expr.proofs.values.+value.Goals as goal
+use Rattle.fn_expr.proofs.values.+wide_value.Goals as goal
 
 pub calculate-requires : goal.calculate-requires
 calculate-requires g t c =
