@@ -1,7 +1,7 @@
 //! The method that sends a checksum, and its register.
 ghost use Rattle.std.specs.Prelude.{◌≡◌, ℕ, ◌+◌, ◌%◌, ◌^◌, ◌<◌, ◌≤◌, ◌↔◌, Bool, false, List, Option, length, reverse, take, drop, fold, IsTrue, IfOk, IfSome, IfNone};
 ghost use Rattle.fn_bits.specs.Number.{num, enc};
-ghost use Rattle.fn_lib.specs.Crc.{crc_step, crc_register};
+ghost use Rattle.fn_lib.specs.Crc.{crc_step, four_steps, crc_register, IsTable};
 ghost use Rattle.fn_lib.specs.Methods.{Lib, IsOnly, CrcHolds, crc};
 
 use fn_bits::{Bits, has_spelling};
@@ -59,6 +59,7 @@ pub fn crc_down(
 
 /// The register of so many bits after the covered bits, octet by octet, each octet's lowest bit first: for each bit it is
 /// shifted right by one, and the polynomial is put over it where its lowest bit differed. Nothing is put over it at the end.
+/// Four bits are taken at a time: what they make of the register stands in a table of 16 entries, made once a call.
 pub fn crc_of(bits: usize, polynomial: u64, initial: u64, covered: &Bits) -> u64
     requires some_bits { 1 ≤ bits }
     requires short { bits ≤ 64 }
@@ -68,24 +69,62 @@ pub fn crc_of(bits: usize, polynomial: u64, initial: u64, covered: &Bits) -> u64
     ensures value { result ≡ crc_register polynomial initial covered.now }
     ensures fits { result < 2 ^ bits }
 {
+    let table = table_of(polynomial);
     let mut register = initial;
     for place in 0..covered.len() / 8 {
         let octet = covered.octet(place).unwrap_or(0);
-        register = after_octet(polynomial, register, octet);
+        register = after_octet(&table, register, octet);
     }
     register
 }
 
 /// The register after an octet, its lowest bit first.
-fn after_octet(polynomial: u64, before: u64, octet: u8) -> u64
-    ensures { result ≡ fold (crc_step polynomial) before (reverse (enc 8 octet)) }
+#[inline(always)]
+fn after_octet(table: &[u64; 16], before: u64, octet: u8) -> u64
+    ensures { (poly : ℕ) → IsTable poly table.now → result ≡ fold (crc_step poly) before (reverse (enc 8 octet)) }
 {
     // The octet is put over the register at once: so a bit differs where the lowest bit is one.
-    let mut mixed = before ^ u64::from(octet);
-    for k in 0..8u32 {
-        mixed = after_bit(polynomial, mixed);
-    }
-    mixed
+    let mixed = before ^ u64::from(octet);
+    after_four(table, after_four(table, mixed))
+}
+
+/// The register after four more bits, where the bits that are left are put over it.
+#[inline(always)]
+fn after_four(table: &[u64; 16], mixed: u64) -> u64
+    ensures { (poly : ℕ) → IsTable poly table.now → result ≡ four_steps poly mixed }
+{
+    table[(mixed % 16) as usize] ^ (mixed / 16)
+}
+
+/// The register after four more bits, from each number below 16.
+fn table_of(polynomial: u64) -> [u64; 16]
+    ensures { IsTable polynomial result }
+{
+    let eight = polynomial;
+    let four = after_bit(polynomial, eight);
+    let two = after_bit(polynomial, four);
+    let one = after_bit(polynomial, two);
+    // From two numbers put over each other comes what comes from the one, put over what comes from the other.
+    let three = two ^ one;
+    let twelve = eight ^ four;
+    [
+        0,
+        one,
+        two,
+        three,
+        four,
+        four ^ one,
+        four ^ two,
+        four ^ three,
+        eight,
+        eight ^ one,
+        eight ^ two,
+        eight ^ three,
+        twelve,
+        twelve ^ one,
+        twelve ^ two,
+        twelve ^ three,
+    ]
 }
 
 /// The register after one more bit, where the bits that are left are put over it.

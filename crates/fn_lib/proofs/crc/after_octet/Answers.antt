@@ -1,12 +1,8 @@
-use Rattle.std.proofs.Common.{◌∙◌, sym, arith}
-use Rattle.fn_lib.proofs.CrcRegisters.{mixed_first, mixed_more, mixed_last}
+use Rattle.std.proofs.Common.{◌∙◌, ap}
+use Rattle.fn_lib.specs.Crc.{four_steps}
+use Rattle.fn_lib.proofs.CrcRegisters.{octet_mixed}
 use Rattle.fn_lib.proofs.crc.after_octet.Goals as goal
 
-pub loop-k-init : goal.loop-k-init
-loop-k-init c = mixed_first c.args.polynomial c.args.before c.args.octet c.from.result c.from.ensures
-
-pub loop-k-preserved : goal.loop-k-preserved
-loop-k-preserved c = mixed_more c.args.polynomial c.loop-k.mixed c.after_bit-mixed.result c.args.octet c.loop-k.k c.loop-k-test.true c.after_bit-mixed.ensures ∙ c.loop-k.invariant
-
 pub returns : goal.returns
-returns c = sym (mixed_last c.args.polynomial c.loop-k.mixed c.args.octet c.loop-k.k c.loop-k-test.false c.ranges.octet.fits) ∙ c.loop-k.invariant
+returns c = λ poly is.
+    c.after_four-2.ensures poly is ∙ ap (four_steps poly) (c.after_four.ensures poly is) ∙ octet_mixed poly c.args.before c.args.octet c.from.result c.from.ensures c.ranges.octet.fits

@@ -9,7 +9,7 @@ loop-place-preserved c =
     let inside : c.loop-place.place < length c.args.covered.now / 8 = omega (arith, c.len-place-end.ensures.value) in
     let octet = octet_there c.octet.result c.args.covered.now c.loop-place.place c.unwrap_or-octet.result (omega arith) c.octet.ensures c.unwrap_or-octet.ensures in
     let bits = octet_bits c.args.covered.now (8 * c.loop-place.place) c.unwrap_or-octet.result (omega arith) octet in
-    octets_more c.args.polynomial c.loop-place.register c.after_octet-register.result c.args.covered.now (length c.args.covered.now / 8) c.loop-place.place inside (c.after_octet-register.ensures ∙ ap (λ b. fold (crc_step c.args.polynomial) c.loop-place.register (reverse b)) bits) ∙ c.loop-place.invariant
+    octets_more c.args.polynomial c.loop-place.register c.after_octet-register.result c.args.covered.now (length c.args.covered.now / 8) c.loop-place.place inside (c.after_octet-register.ensures c.args.polynomial c.table_of-table.ensures ∙ ap (λ b. fold (crc_step c.args.polynomial) c.loop-place.register (reverse b)) bits) ∙ c.loop-place.invariant
 
 pub returns-clause-fits : goal.returns-clause-fits
 returns-clause-fits c =
