@@ -10,13 +10,74 @@ use std::alloc::Global;
 
 /// The value of an expression, if one is found by what was drawn so far.
 pub(crate) fn value(alloc: Global, sheet: &Sheet<'_>, expr: &Expr) -> Option<i128> {
+    match short_value(sheet, expr) {
+        Some(number) => Some(number as i128),
+        None => wide_value(alloc, sheet, expr),
+    }
+}
+
+/// The same, where the whole isn't asked for and each number on the way is within 64 bits.
+fn short_value(sheet: &Sheet<'_>, expr: &Expr) -> Option<i64> {
+    let Expr::Binary(_, operator, left, right) = expr else {
+        return leaf(sheet, expr);
+    };
+    let left = match &**left {
+        Expr::Binary(..) => short_value(sheet, left)?,
+        _ => leaf(sheet, left)?,
+    };
+    let right = match &**right {
+        Expr::Binary(..) => short_value(sheet, right)?,
+        _ => leaf(sheet, right)?,
+    };
+    short_calculated(*operator, left, right)
+}
+
+/// The same, where the expression has no parts: so it takes no call.
+#[inline(always)]
+fn leaf(sheet: &Sheet<'_>, expr: &Expr) -> Option<i64> {
+    match expr {
+        Expr::Number(_, number) => i64::try_from(*number).ok(),
+        Expr::Parameter(_, index) => i64::try_from(*sheet.arguments.get(*index)?).ok(),
+        Expr::Attribute(_, attribute) => short_attribute(sheet, *attribute),
+        Expr::Binary(..) => None,
+    }
+}
+
+#[inline(always)]
+fn short_calculated(operator: Operator, left: i64, right: i64) -> Option<i64> {
+    match operator {
+        Operator::Add => left.checked_add(right),
+        Operator::Subtract => left.checked_sub(right),
+        Operator::Multiply => left.checked_mul(right),
+        Operator::Divide if right > 0 => Some(left.div_euclid(right)),
+        Operator::Remainder if right > 0 => Some(left.rem_euclid(right)),
+        Operator::Power if left == 2 && 0 <= right && right < 62 => Some(1 << right),
+        Operator::Power | Operator::Divide | Operator::Remainder => None,
+    }
+}
+
+fn short_attribute(sheet: &Sheet<'_>, attribute: Attribute) -> Option<i64> {
+    let Subject::Field(field) = attribute.subject else {
+        return None;
+    };
+    match attribute.measure {
+        Measure::Length => i64::try_from(sheet.length(field, attribute.side)).ok(),
+        Measure::Value => match sheet.bits(field, attribute.side) {
+            Ok(bits) => i64::try_from(bits.value()?).ok(),
+            Err(_) => None,
+        },
+    }
+}
+
+/// The same for every number.
+fn wide_value(alloc: Global, sheet: &Sheet<'_>, expr: &Expr) -> Option<i128> {
     match expr {
         Expr::Number(_, number) => Some(*number),
         Expr::Parameter(_, index) => sheet.arguments.get(*index).copied(),
         Expr::Attribute(_, attribute) => attribute_value(alloc, sheet, *attribute),
         Expr::Binary(_, operator, left, right) => {
-            let left = value(alloc, sheet, left)?;
-            let right = value(alloc, sheet, right)?;
+            let left = wide_value(alloc, sheet, left)?;
+            let right = wide_value(alloc, sheet, right)?;
             calculated(*operator, left, right)
         }
     }
