@@ -187,6 +187,17 @@ def counts(program):
     return whole("stats --top t", profile) + b"=== items\n" + b"0:\n" * 100_000
 
 
+def rows(program):
+    """2,000 packets of no bits, each with 1,920 fields in 16 methods, one inside the other: 3,840,000 rows, for which `fields` prints 246 MB."""
+    names, out = ["x%d" % it for it in range(119)], ""
+    for it in range(16):
+        head, last = ("c;", "c =:= m%d;" % (it + 1)) if it < 15 else ("x119 [0];", "x119 =:= irregular(0);")
+        header = " ".join("%s [0];" % at for at in names) + " " + head
+        listed = " ".join("%s =:= irregular(0);" % at for at in names) + " " + last
+        out += "%s {\n  UNCOMPRESSED { %s }\n  COMPRESSED f { %s }\n}\n" % ("m%d" % it if it else "t", header, listed)
+    return whole("fields --top t", out) + b"=== packets\n" + b"0:\n" * 2_000
+
+
 def trends(program):
     """20,000 items of 64 bits that are drawn, with up to 63 lost: of nearly all 1,280,000 steps each is another one."""
     draw = random.Random(65)
@@ -239,7 +250,7 @@ def leaves(program):
 
 
 # seconds and MiB at most: some three times what was measured, or a second
-BOUNDS = {waiting: (1, 36), operands: (1, 45), steps: (1, 45), encodings: (2, 350), brackets: (3, 730), conditions: (30, 60), paths: (1, 60), collisions: (2, 60), sites: (1, 100), names: (1, 100), counts: (6, 60), trends: (5, 110), wholes: (1, 40), others: (1, 40), levels: (1, 20), commented: (1, 20), leaves: (2, 20)}
+BOUNDS = {waiting: (1, 36), operands: (1, 45), steps: (1, 45), encodings: (2, 350), brackets: (3, 730), conditions: (30, 60), paths: (1, 60), collisions: (2, 60), sites: (1, 100), names: (1, 100), counts: (6, 60), rows: (1, 700), trends: (5, 110), wholes: (1, 40), others: (1, 40), levels: (1, 20), commented: (1, 20), leaves: (2, 20)}
 
 
 def own():

@@ -13,7 +13,7 @@ PIECED = ("pack", "unpack", "fields", "stats", "loss")
 LOST = "8"  # packets in a row, where none is said
 BLOCK = 1 << 20  # octets of lines that go into a call, and that are read at a time
 FIRST = 1 << 8  # octets of lines that go into the first call of `fields`, which prints many for each
-PRINTED = 1 << 22  # octets that each of its further calls is to print, by what the one before printed
+PRINTED = 1 << 24  # octets that each of its further calls is to print, by what the one before printed
 CONTEXT = b"=== context\n"
 NUMBERED = re.compile(rb"^(item|packet) (\d+)(?=: )|^(items|packets):(\d+)(?=: )")
 REFUSED = re.compile(rb"^item (\d+): ")
@@ -121,11 +121,12 @@ class Pieces:
         """Prints what the program prints of a piece, and keeps the context."""
         printed, status = self.call(self.order.command, [*self.flags, "--context"], lines)
         if status != 0:
-            whole, _, fault = printed.rstrip(b"\n").rpartition(b"\n")
-            self.writes((self.headed(whole) + b"\n" if whole else b"") + (self.renumbered(fault) + b"\n" if printed else b""))
+            end = printed.rstrip(b"\n").rfind(b"\n") + 1
+            self.writes(self.headed(printed, end))
+            self.writes(self.renumbered(printed[end:].rstrip(b"\n")) + b"\n" if printed else b"")
             raise Stopped(status)
         begin = 0 if printed.startswith(CONTEXT) else printed.rfind(b"\n" + CONTEXT) + 1
-        self.writes(self.headed(printed[:begin]))
+        self.writes(self.headed(printed, begin))
         self.given["context"] = printed[begin + len(CONTEXT):]
 
     def pass_objects(self, lines):
@@ -225,14 +226,19 @@ class Pieces:
         """The formats of each method."""
         return sums.methods_of(self.call("show", [], b"")[0].decode())
 
-    def headed(self, printed):
-        """What is printed of a piece, with the numbers of the whole in the head lines of `fields`."""
-        if self.order.command != "fields" or not self.count:
-            return printed
-        mark = b"\nitem " if self.part == "items" else b"\npacket "  # (all other lines begin with blanks)
-        first, *heads = (b"\n" + printed).split(mark)
-        numbered = (it.partition(b" ") for it in heads)
-        return b"".join([first, *[b"%s%d %s" % (mark, int(number) + self.count, rest) for number, _, rest in numbered]])[1:]
+    def headed(self, printed, end):
+        """What is printed of a piece up to an end, with the numbers of the whole in the head lines of `fields`. (It is cut without copies, of which each takes as
+        much memory again.)"""
+        whole, mark = memoryview(printed), b"item " if self.part == "items" else b"packet "  # (all other lines begin with blanks)
+        if self.order.command != "fields" or not self.count or not printed.startswith(mark):
+            return whole[:end]
+        begin, found = 0, []
+        while begin < end:
+            blank = printed.index(b" ", begin + len(mark))
+            number = int(printed[begin + len(mark):blank])
+            begin = printed.find(b"\n" + mark, blank, end) + 1 or end
+            found += b"%s%d" % (mark, number + self.count), whole[blank:begin]
+        return b"".join(found)
 
     def renumbered(self, line, back=0):
         """A fault line with the numbers of the whole, of a piece that stands behind so many items of those before it."""

@@ -5,3 +5,4 @@ pub mod StatsInside
 pub mod Insides
 pub mod AvoidedBlocks
 pub mod WhyLines
+pub mod RowsPlaced

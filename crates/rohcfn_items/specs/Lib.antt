@@ -9,5 +9,6 @@ pub mod Why
 pub mod Step
 pub mod Loss
 pub mod Reach
+pub mod Rows
 pub mod Avoided
 pub mod Inside

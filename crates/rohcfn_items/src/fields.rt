@@ -1,19 +1,21 @@
 //! What `fields` prints of a filling.
 
-ghost use Rattle.std.specs.Prelude.{◌≡◌, ◌∷◌, ◌++◌, [], IfOk, OnOk, codes, decimal, option_map, string_bytes};
+ghost use Rattle.std.specs.Prelude.{◌≡◌, ◌∷◌, ◌++◌, [], IfOk, OnOk, codes, decimal, map, option_map, replicate, string_bytes};
 ghost use Rattle.std.specs.Option.{option_copied};
 ghost use Rattle.fn_filling.specs.Fillings.{inner_of, sides_of};
 ghost use Rattle.fn_filling.specs.declared.filling.Filling.{out-Filling};
 ghost use Rattle.rohcfn_items.specs.BitTexts.{bits_text};
+ghost use Rattle.rohcfn_items.specs.Rows.{row_of, words_of};
 ghost use Rattle.rohcfn_items.specs.Fields as spec;
 ghost use Rattle.rohcfn_names.specs.Names.{method_name as name_of};
 ghost use Rattle.rohcfn_names.specs.CheckFaults.{format_words};
 
+use crate::rows::{FieldRow, MethodWords, push_rows};
 use fn_bits::Bits;
 use fn_filling::{FilledField, Filling};
 use fn_normal::{Encoding, Library, Method, Part};
 use rohcfn_names::names::{field_at, format_name, method_name};
-use rohcfn_names::table::{Cell, push_table};
+use rohcfn_names::table::Cell;
 use sqlite_items::Items;
 use std::alloc::{AllocError, Global};
 
@@ -37,10 +39,10 @@ pub fn fields_text(
     ensures { IfOk result (λ text. string_bytes text ≡ spec.fields_text methods.now top head.entry.what.now head.entry.number head.entry.bits filling.now) }
 {
     let mut rows = Items::new(alloc);
-    add_rows(filling, alloc, &mut rows, methods, top, "")?;
+    add_rows(filling, alloc, &mut rows, methods, top, 0)?;
     let format = format_name(methods, top, filling.format);
     let mut text = head_line(alloc, head, format)?;
-    push_table(alloc, &mut text, rows.as_slice())?;
+    push_rows(alloc, &mut text, rows.as_slice())?;
     Ok(text)
 }
 
@@ -52,35 +54,44 @@ pub fn head_line(alloc: Global, head: Head<'_>, format: &str) -> Result<String, 
     format!(in alloc; "{what} {number} {format} {bits} bits")
 }
 
-/// Adds the rows of a filling of a method, by its number. The names of its fields stand after some blanks.
-fn add_rows(
-    filling: &Filling,
+/// Adds the rows of a filling of a method, by its number. The names of its fields stand after so many blanks.
+fn add_rows<'a>(
+    filling: &'a Filling,
     alloc: Global,
-    rows: &mut Items<Items<Cell>>,
-    methods: &[Method],
+    rows: &mut Items<FieldRow<'a>>,
+    methods: &'a [Method],
     method: usize,
-    indent: &str,
+    indent: usize,
 ) -> Result<(), AllocError>
-    ensures { OnOk result (rows.new ≡ rows.old ++ (spec.listed methods.now filling.now).rows method indent.now) }
+    ensures { OnOk result (map row_of rows.new ≡ map row_of rows.old ++ (spec.listed methods.now filling.now).rows method (replicate indent 32)) }
 {
     for (i, field) in filling.fields.as_slice().iter().enumerate() {
         let encoding = encoding_at(methods, method, filling.format, i);
-        rows.push(field_row(alloc, methods, encoding, indent, field)?)?;
+        add_row(rows, field_row(methods, encoding, indent, field))?;
         if let Some(inner) = &field.inner {
             if let Some(callee) = callee(encoding) {
-                let further = further_in(alloc, indent)?;
-                add_rows(inner, alloc, rows, methods, callee, further.as_str())?;
+                let further = further_in(indent)?;
+                add_rows(inner, alloc, rows, methods, callee, further)?;
             }
         }
     }
     Ok(())
 }
 
-/// Two blanks more.
-fn further_in(alloc: Global, indent: &str) -> Result<String, AllocError>
-    ensures { IfOk result (λ text. string_bytes text ≡ indent.now ++ codes "  ") }
+fn add_row<'a>(rows: &mut Items<FieldRow<'a>>, row: FieldRow<'a>) -> Result<(), AllocError>
+    ensures { OnOk result (map row_of rows.new ≡ map row_of rows.old ++ row_of row.entry ∷ []) }
 {
-    format!(in alloc; "{indent}  ")
+    rows.push(row)
+}
+
+/// Two blanks more. No text has so many that they could not be counted.
+fn further_in(indent: usize) -> Result<usize, AllocError>
+    ensures { IfOk result (λ further. replicate further 32 ≡ replicate indent 32 ++ codes "  ") }
+{
+    match indent.checked_add(2) {
+        Some(further) => Ok(further),
+        None => Err(AllocError),
+    }
 }
 
 /// How a field of a format is encoded, where there is such a field.
@@ -107,29 +118,22 @@ pub fn callee(encoding: Option<&Encoding>) -> Option<usize>
 }
 
 /// The row of a field.
-fn field_row(
-    alloc: Global,
-    methods: &[Method],
-    encoding: Option<&Encoding>,
-    indent: &str,
-    field: &FilledField,
-) -> Result<Items<Cell>, AllocError>
-    ensures { IfOk result (λ row. row ≡ spec.field_row methods.now (option_copied encoding.entry) indent.now (sides_of field.now).declared (sides_of field.now).uncompressed (sides_of field.now).compressed (option_map (λ f. (out-Filling f).format) (inner_of field.now))) }
+fn field_row<'a>(
+    methods: &'a [Method],
+    encoding: Option<&'a Encoding>,
+    indent: usize,
+    field: &'a FilledField,
+) -> FieldRow<'a>
+    ensures { row_of result ≡ spec.field_row methods.now (option_copied encoding.entry) (replicate indent 32) (sides_of field.now).declared (sides_of field.now).uncompressed (sides_of field.now).compressed (option_map (λ f. (out-Filling f).format) (inner_of field.now)) }
 {
-    let mut row = Items::new(alloc);
-    row.push(name_cell(alloc, indent, field.declared.name.as_str())?)?;
-    row.push(Cell::of(alloc, part_word(field.declared.part))?)?;
-    row.push(bits_cell(alloc, &field.uncompressed)?)?;
-    row.push(bits_cell(alloc, &field.compressed)?)?;
-    row.push(method_cell(alloc, methods, encoding, format_of(&field.inner))?)?;
-    Ok(row)
-}
-
-fn name_cell(alloc: Global, indent: &str, name: &str) -> Result<Cell, AllocError>
-    ensures { IfOk result (λ cell. cell ≡ indent.now ++ name.now) }
-{
-    let text = format!(in alloc; "{indent}{name}")?;
-    Ok(Cell::new(text))
+    FieldRow {
+        indent,
+        name: field.declared.name.as_str(),
+        part: part_word(field.declared.part),
+        uncompressed: &field.uncompressed,
+        compressed: &field.compressed,
+        method: method_words(methods, encoding, format_of(&field.inner)),
+    }
 }
 
 pub(crate) fn bits_cell(alloc: Global, bits: &Bits) -> Result<Cell, AllocError>
@@ -160,32 +164,64 @@ pub fn part_word(part: Part) -> &'static str
 }
 
 /// What encodes a field, by the format of the filling inside it.
-pub(crate) fn method_cell(
-    alloc: Global,
-    methods: &[Method],
-    encoding: Option<&Encoding>,
+fn method_words<'a>(
+    methods: &'a [Method],
+    encoding: Option<&'a Encoding>,
     inside: Option<usize>,
-) -> Result<Cell, AllocError>
-    ensures { IfOk result (λ cell. cell ≡ spec.method_word methods.now (option_copied encoding.entry) inside) }
+) -> MethodWords<'a>
+    ensures { words_of result ≡ spec.method_word methods.now (option_copied encoding.entry) inside }
 {
-    match encoding {
-        None => Cell::of(alloc, "-"),
-        Some(encoding) => encoding_cell(alloc, methods, encoding, inside),
+    match inside {
+        Some(format) => words_inside(methods, encoding, format),
+        None => alone(encoding_word(methods, encoding)),
     }
 }
 
-fn encoding_cell(
-    alloc: Global,
-    methods: &[Method],
-    encoding: &Encoding,
-    inside: Option<usize>,
-) -> Result<Cell, AllocError>
-    ensures { IfOk result (λ cell. cell ≡ spec.method_word methods.now (Some encoding.now) inside) }
+/// What encodes a field that has a filling of this format inside it: the format stands after a point behind a method of the profile.
+fn words_inside<'a>(
+    methods: &'a [Method],
+    encoding: Option<&'a Encoding>,
+    format: usize,
+) -> MethodWords<'a>
+    ensures { words_of result ≡ spec.method_word methods.now (option_copied encoding.entry) (Some format) }
 {
     match encoding {
-        Encoding::Bare => Cell::of(alloc, "-"),
-        Encoding::Library(library) => Cell::of(alloc, library_word(library)),
-        Encoding::Call { method, .. } => call_cell(alloc, methods, *method, inside),
+        Some(Encoding::Call { method, .. }) => called(methods, *method, format),
+        _ => alone(encoding_word(methods, encoding)),
+    }
+}
+
+/// The words of a method of the profile and a format of it.
+fn called(methods: &[Method], method: usize, format: usize) -> MethodWords<'_>
+    ensures { words_of result ≡ name_of methods.now method ++ format_words methods.now method (Some format) }
+{
+    MethodWords {
+        method: method_name(methods, method),
+        point: ".",
+        format: format_name(methods, method, format),
+    }
+}
+
+/// A word without a format behind it.
+fn alone(method: &str) -> MethodWords<'_>
+    ensures { words_of result ≡ method.now }
+{
+    MethodWords {
+        method,
+        point: "",
+        format: "",
+    }
+}
+
+/// What encodes a field, without a format.
+pub(crate) fn encoding_word<'a>(methods: &'a [Method], encoding: Option<&'a Encoding>) -> &'a str
+    ensures { result.now ≡ spec.method_word methods.now (option_copied encoding.entry) None }
+{
+    match encoding {
+        None => "-",
+        Some(Encoding::Bare) => "-",
+        Some(Encoding::Library(library)) => library_word(library),
+        Some(Encoding::Call { method, .. }) => method_name(methods, *method),
     }
 }
 
@@ -201,27 +237,4 @@ pub fn library_word(library: &Library) -> &'static str
         Library::Lsb { .. } => "lsb",
         Library::Crc(_) => "crc",
     }
-}
-
-/// A method of the profile, and the format of its filling after a point, where there is one.
-fn call_cell(
-    alloc: Global,
-    methods: &[Method],
-    method: usize,
-    inside: Option<usize>,
-) -> Result<Cell, AllocError>
-    ensures { IfOk result (λ cell. cell ≡ name_of methods.now method ++ format_words methods.now method inside) }
-{
-    let name = method_name(methods, method);
-    match inside {
-        Some(format) => pointed(alloc, name, format_name(methods, method, format)),
-        None => Cell::of(alloc, name),
-    }
-}
-
-fn pointed(alloc: Global, method: &str, format: &str) -> Result<Cell, AllocError>
-    ensures { IfOk result (λ cell. cell ≡ method.now ++ codes "." ++ format.now) }
-{
-    let text = format!(in alloc; "{method}.{format}")?;
-    Ok(Cell::new(text))
 }

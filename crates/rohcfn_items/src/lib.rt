@@ -9,6 +9,7 @@ pub mod fields;
 pub mod inside;
 pub mod loss;
 pub mod reach;
+mod rows;
 pub mod stats;
 pub mod step;
 pub mod why;

@@ -9,7 +9,7 @@ ghost use Rattle.rohcfn_items.specs.Why as spec;
 ghost use Rattle.rohcfn_names.specs.Names.{constraints_at};
 
 use crate::asked::front_words;
-use crate::fields::{bits_cell, encoding_at, method_cell};
+use crate::fields::{bits_cell, encoding_at, encoding_word};
 use fn_bits::Bits;
 use fn_expr::{Input, Measure, Side, Subject};
 use fn_filling::AskedValue;
@@ -286,12 +286,8 @@ fn coded_words(
     ensures { IfOk result (λ text. string_bytes text ≡ spec.coded_words methods.now method format field) }
 {
     let encoding = encoding_at(methods, method, format, field);
-    let coding = method_cell(alloc, methods, encoding, None)?;
-    of_words(
-        alloc,
-        coding.as_str(),
-        field_name(methods, method, format, field),
-    )
+    let coding = encoding_word(methods, encoding);
+    of_words(alloc, coding, field_name(methods, method, format, field))
 }
 
 fn of_words(alloc: Global, coding: &str, name: &str) -> Result<String, AllocError>
@@ -370,12 +366,8 @@ fn inside_words(
     ensures { IfOk result (λ text. string_bytes text ≡ codes "nothing goes in " ++ spec.field_name methods.now method format field ++ codes ", by no format of " ++ method_word methods.now (encoding_of methods.now method format field) None) }
 {
     let encoding = encoding_at(methods, method, format, field);
-    let called = method_cell(alloc, methods, encoding, None)?;
-    called_words(
-        alloc,
-        field_name(methods, method, format, field),
-        called.as_str(),
-    )
+    let called = encoding_word(methods, encoding);
+    called_words(alloc, field_name(methods, method, format, field), called)
 }
 
 fn called_words(alloc: Global, name: &str, called: &str) -> Result<String, AllocError>

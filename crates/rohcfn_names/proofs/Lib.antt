@@ -1,2 +1,3 @@
 pub mod CandidatesCapped
 pub mod TableLists
+pub mod TableBlanks

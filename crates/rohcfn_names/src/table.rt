@@ -1,11 +1,14 @@
 //! Texts in columns.
 
-ghost use Rattle.std.specs.Prelude.{◌≡◌, ◌-◌, ◌++◌, IfOk, OnOk, codes, get_or, length, replicate, slice_get, string_bytes};
+ghost use Rattle.std.specs.Prelude.{◌≡◌, ◌≤◌, ◌-◌, ◌++◌, IfOk, OnOk, codes, get_or, length, replicate, slice_get, string_bytes};
 ghost use Rattle.rohcfn_names.specs.Table as spec;
 
 use sqlite_items::Items;
 use std::alloc::{AllocError, Global};
 use std::marker::Model;
+
+/// 64 blanks.
+const BLANKS: &str = "                                                                ";
 
 /// A text in a table, without a line feed. Contracts see its octets.
 #[derive(Drop)]
@@ -130,10 +133,18 @@ fn push_cell(output: &mut String, gap: usize, cell: &str) -> Result<(), AllocErr
 pub fn push_blanks(output: &mut String, count: usize) -> Result<(), AllocError>
     ensures { OnOk result (string_bytes output.new ≡ string_bytes output.old ++ replicate count 32) }
 {
-    for _ in 0..count {
-        output.push(' ')?;
+    for _ in 0..count / 64 {
+        output.push_str(blanks(64))?;
     }
-    Ok(())
+    output.push_str(blanks(count % 64))
+}
+
+/// Up to 64 blanks.
+fn blanks(count: usize) -> &'static str
+    requires { count ≤ 64 }
+    ensures { result.now ≡ replicate count 32 }
+{
+    &BLANKS[..count]
 }
 
 /// The width of a column, 0 where it is none.
