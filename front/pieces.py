@@ -14,6 +14,7 @@ LOST = "8"  # packets in a row, where none is said
 BLOCK = 1 << 20  # octets of lines that go into a call, and that are read at a time
 FIRST = 1 << 8  # octets of lines that go into the first call of `fields`, which prints many for each
 PRINTED = 1 << 24  # octets that each of its further calls is to print, by what the one before printed
+OBJECTS = 1 << 22  # the same of objects, which take more memory here
 CONTEXT = b"=== context\n"
 NUMBERED = re.compile(rb"^(item|packet) (\d+)(?=: )|^(items|packets):(\d+)(?=: )")
 REFUSED = re.compile(rb"^item (\d+): ")
@@ -104,7 +105,8 @@ class Pieces:
             piece, lines = lines[:end], lines[end:]
             yield piece
             if self.order.command == "fields":
-                self.size = max(1, min(BLOCK, PRINTED * len(piece) // max(1, len(self.printed))))
+                printed = OBJECTS if self.is_json else PRINTED
+                self.size = max(1, min(BLOCK, printed * len(piece) // max(1, len(self.printed))))
 
     def call(self, command, flags, lines):
         """What the program prints of a piece, with its status. All but the first call say nothing beside, unless they fail."""
