@@ -46,6 +46,12 @@ def fault_line(printed):
     return "%s%s%s: %s %s" % (it["part"], "" if it["number"] is None else " %d" % it["number"], place, it["code"], it["text"])
 
 
+def told(printed):
+    """What the program prints with --json. A fault that it tells before it looks at the words (I4, I6) is a line of text: it becomes an object."""
+    text = printed.decode(errors="replace").rstrip("\n")
+    return line(fault(text)).encode() if FAULT.fullmatch(text) else printed
+
+
 def use(text):
     """A line of a reference that doesn't serve."""
     path, method, k, offset, has, needs, *steps = USE.fullmatch(text).groups()
@@ -60,6 +66,12 @@ def case(lines):
     return found | {"uses": list(map(use, lines[1:]))}
 
 
-def remark(text):
-    """A line of text that has no object of its own."""
-    return {"kind": "remark", "text": text}
+def context(entries):
+    """A context by its lines."""
+    found = (it.split(" ") for it in entries.splitlines())
+    return {"kind": "context", "entries": [{"path": path, "bits": bits(text)} for path, text in found]}
+
+
+def entries(it):
+    """The lines of a context."""
+    return "".join("%s %d:%s\n" % (entry["path"], entry["bits"]["bits"], entry["bits"]["hex"]) for entry in it["entries"])

@@ -134,12 +134,12 @@ class Pieces:
     def pass_objects(self, lines):
         """The same of the objects of `fields`."""
         printed, status = self.call(self.order.command, [*self.flags, "--context"], lines)
-        found = list(map(json.loads, printed.splitlines()))
-        begin = found.index(objects.remark(CONTEXT.decode().rstrip())) if status == 0 else len(found)
-        self.writes(b"".join(objects.line(self.numbered(it)).encode() for it in found[:begin]))
-        if status != 0:
+        found = list(map(json.loads, objects.told(printed).splitlines()))
+        last = found.pop() if status == 0 else None
+        self.writes(b"".join(objects.line(self.numbered(it)).encode() for it in found))
+        if last is None:
             raise Stopped(status)
-        self.given["context"] = "".join(it["text"] + "\n" for it in found[begin + 1:]).encode()
+        self.given["context"] = objects.entries(last).encode()
 
     def numbered(self, it):
         """An object with the numbers of the whole."""
@@ -214,8 +214,8 @@ class Pieces:
 
     def last_context(self):
         """What is printed of the last context."""
-        text = CONTEXT + self.given.get("context", b"")
-        return "".join(objects.line(objects.remark(it)) for it in text.decode().splitlines()).encode() if self.is_json else text
+        entries = self.given.get("context", b"")
+        return objects.line(objects.context(entries.decode())).encode() if self.is_json else CONTEXT + entries
 
     def table(self):
         """What is counted of all pieces."""

@@ -319,6 +319,8 @@ def figures():
     fields = [(0, "ttl", "header", side(8, "40"), side(0), "static_or_irreg", "static_enc"), (1, "field", "header", side(8, "40"), side(0), "static", None), (0, "flag", "local", side(1, "00"), side(1, "00"), "irregular", None)]
     packet = {"kind": "packet", "number": 1, "format": "-", "bits": 1, "fields": [dict(zip(keys, it)) for it in fields]}
     yield "opt told as objects", bundle("fields --json --top opt", OPT, context="ttl.field 8:40\n", packets="1:00\n"), written(packet), 0, 2
+    context = {"kind": "context", "entries": [{"path": path, "bits": side(8, "40")} for path in ("ttl.field", "ttl")]}
+    yield "opt and its context as objects", bundle("fields --json --context --top opt", OPT, context="ttl.field 8:40\n", packets="1:00\n"), written(packet, context), 0, 2
     keys = ("field", "calls", "offset_least", "offset_most", "bits_least", "bits_most", "constant")
     drawn = {"short": [("d", None, 0, 0, 1, 1, "0"), ("sn", None, 1, 1, 4, 4, None), ("c", None, 5, 5, 3, 3, None)], "full": [("d", None, 0, 0, 1, 1, "1"), ("sn", None, 1, 1, 8, 8, None)]}
     shown = [{"kind": "diagram", "method": "tick", "format": form, "least": bits, "most": bits, "columns": [dict(zip(keys, it)) for it in drawn[form]]} for form, bits in (("short", 8), ("full", 9))]

@@ -44,8 +44,9 @@ def warning(it):
     return ["%s: warning %s%s%s" % (where, it["subject"], " " if it["text"].startswith(NEVER) else ": ", it["text"])]
 
 
-def remark(it):
-    return [it["text"]]
+def context(it):
+    """The last context, behind its heading."""
+    return ["=== context", *["%s %s" % (entry["path"], bits(entry["bits"])) for entry in it["entries"]]]
 
 
 def head(it):
@@ -53,7 +54,7 @@ def head(it):
     return ["%s %d %s %d bits" % (it["kind"], it["number"], it["format"], it["bits"])]
 
 
-MESSAGES = {"fault": fault, "note": note, "warning": warning, "remark": remark, "item": head, "packet": head}
+MESSAGES = {"fault": fault, "note": note, "warning": warning, "context": context, "item": head, "packet": head}
 
 
 def messages(objects, more=None):
@@ -305,7 +306,7 @@ TOLD = {
     "lint": messages,
     "draw": lambda objects: messages(objects, {"diagram": diagram}),
     "fields": lambda objects: messages(objects, {"item": filling, "packet": filling}),
-    "why": lambda objects: messages(objects, {"reason": reason, "avoided": avoided, "against": against}),
+    "why": lambda objects: messages(objects, {"reason": reason, "remark": lambda it: [it["text"]], "avoided": avoided, "against": against}),
     "stats": stats,
     "loss": loss,
     "advise": advise,

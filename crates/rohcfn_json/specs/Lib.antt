@@ -4,6 +4,7 @@ pub mod Loss
 pub mod Advice
 pub mod Messages
 pub mod MessageObjects
+pub mod Entries
 pub mod Lines
 pub mod Filled
 pub mod Drawing

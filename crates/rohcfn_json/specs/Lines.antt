@@ -4,6 +4,7 @@ use Rattle.rohcfn_input.specs.declared.status.Status.{Status}
 use Rattle.rohcfn_input.specs.declared.status.Status.TheVariants as status
 use Rattle.rohcfn_words.specs.declared.words.Command.{Command}
 use Rattle.rohcfn_words.specs.declared.words.Command.TheVariants as command
+use Rattle.rohcfn_json.specs.Entries.{after_heading, before_heading, context, has_heading}
 use Rattle.rohcfn_json.specs.MessageObjects.{certificate_json, lines_of, object}
 use Rattle.rohcfn_json.specs.Messages.{told_of}
 use Rattle.rohcfn_json.specs.Objects as json
@@ -44,9 +45,13 @@ is_object (octet ∷ more) = octet == 123
 abbrev pub line_object : Telling → List ℕ → List ℕ
 line_object which line = if length line == 0 then [] else (if is_object line then line ++ end else json.line (object (told_of which line)))
 
-abbrev pub lines_json : Telling → List ℕ → List ℕ
-lines_json which text = flat_map (line_object which) (lines_of text)
+-- an object of the context behind these lines, where there is one
+abbrev pub context_object : List (List ℕ) → List ℕ
+context_object lines = if has_heading lines then json.line (context (after_heading lines)) else []
 
--- The objects of an answer: one of a certificate, else those of its lines.
+abbrev pub lines_json : Telling → List ℕ → List ℕ
+lines_json which text = flat_map (line_object which) (before_heading (lines_of text)) ++ context_object (lines_of text)
+
+-- The objects of an answer: one of a certificate, else those of its lines, and behind them one of the last context.
 abbrev pub as_objects : Command → Status → List ℕ → List ℕ
 as_objects c s text = if makes_certificate c && is_done s then certificate_json text else lines_json (telling_of c) text

@@ -3,6 +3,7 @@
 
 pub mod advice;
 pub mod drawing;
+pub mod entries;
 pub mod filled;
 pub mod lines;
 pub mod loss;

@@ -1,17 +1,19 @@
 //! The lines of an answer, each as an object of JSON.
 
-ghost use Rattle.std.specs.Prelude.{◌≡◌, ◌++◌, IfOk, OnOk, string_bytes};
+ghost use Rattle.std.specs.Prelude.{◌≡◌, ◌||◌, ◌++◌, IfOk, OnOk, flat_map, string_bytes};
+ghost use Rattle.rohcfn_json.specs.Entries as entries;
 ghost use Rattle.rohcfn_json.specs.Lines as spec;
 ghost use Rattle.rohcfn_json.specs.MessageObjects as messages;
 
+use crate::entries::{is_heading, push_context};
 use crate::message::{Telling, read_message};
 use crate::messages::{certificate_json, push_message};
 use rohcfn_input::status::Status;
 use rohcfn_words::words::Command;
 use std::alloc::{AllocError, Global};
 
-/// The objects of an answer to a command that ended so, one a line: a certificate is one; of other answers each line is one, but for the empty ones. A line that is an
-/// object already, as those of counts, stays as it is. The error is want of memory.
+/// The objects of an answer to a command that ended so, one a line: a certificate is one; of other answers each line is one, but for the empty ones, and the last
+/// context is one. A line that is an object already, as those of counts, stays as it is. The error is want of memory.
 pub fn as_objects(
     alloc: Global,
     command: Command,
@@ -64,10 +66,46 @@ fn lines_json(alloc: Global, telling: Telling, text: &str) -> Result<String, All
     ensures { IfOk result (λ output. string_bytes output ≡ spec.lines_json telling text.now) }
 {
     let mut output = String::new(alloc);
-    for line in text.split('\n') {
-        push_line(alloc, &mut output, telling, line)?;
+    let has_context = push_lines(alloc, &mut output, telling, text)?;
+    if has_context {
+        push_context(alloc, &mut output, text)?;
     }
     Ok(output)
+}
+
+/// Adds the objects of the lines before a heading, and tells whether there is one.
+fn push_lines(
+    alloc: Global,
+    output: &mut String,
+    telling: Telling,
+    text: &str,
+) -> Result<bool, AllocError>
+    ensures told { IfOk result (λ found. found ≡ entries.has_heading (messages.lines_of text.now)) }
+    ensures adds { OnOk result (string_bytes output.new ≡ string_bytes output.old ++ flat_map (spec.line_object telling) (entries.before_heading (messages.lines_of text.now))) }
+{
+    let mut found = false;
+    for line in text.split('\n') {
+        found = push_before(alloc, output, telling, found, line)?;
+    }
+    Ok(found)
+}
+
+/// Adds the object of a line that stands before a heading, and tells whether one has come.
+fn push_before(
+    alloc: Global,
+    output: &mut String,
+    telling: Telling,
+    found: bool,
+    line: &str,
+) -> Result<bool, AllocError>
+    ensures told { IfOk result (λ now. now ≡ found || entries.is_heading line.now) }
+    ensures adds { OnOk result (string_bytes output.new ≡ string_bytes output.old ++ flat_map (spec.line_object telling) (entries.before_on found line.now)) }
+{
+    if found || is_heading(line) {
+        return Ok(true);
+    }
+    push_line(alloc, output, telling, line)?;
+    Ok(false)
 }
 
 fn push_line(

@@ -95,7 +95,7 @@ pub enum Message<'a> {
 }
 
 /// What stands before the first colon, and what after it.
-fn cut_at_colon(text: &str) -> Option<(&str, &str)>
+pub(crate) fn cut_at_colon(text: &str) -> Option<(&str, &str)>
     ensures { option_map (λ p. (p.0.now, p.1.now)) result ≡ spec.cut 58 text.now }
 {
     text.split_once(':')

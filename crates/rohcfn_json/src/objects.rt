@@ -124,7 +124,7 @@ impl Object {
     }
 
     /// A member that is so many bits, with these digits.
-    fn counted(&mut self, key: &str, count: usize, hex: &str) -> Result<(), AllocError>
+    pub(crate) fn counted(&mut self, key: &str, count: usize, hex: &str) -> Result<(), AllocError>
         ensures { OnOk result (self.new ≡ self.old ++ spec.counted key.now count hex.now) }
     {
         self.writer.key(key)?;
