@@ -27,7 +27,7 @@ def file_of(octets):
 
 
 def answer(order):
-    """Runs the program; its status. Where nothing is to be shown besides, the program takes the place of this one."""
+    """Runs the program; its status. Where nothing is to be shown besides, nor made an object, the program takes the place of this one."""
     from .bundles import FILTER, call_of, call_on_bundle  # (these two take as long to load as all the rest, and words that are at fault need neither)
     from .pieces import Pieces
     words, bundle, profile = call_on_bundle(order) if order.takes_bundle() else call_of(order)
@@ -38,13 +38,13 @@ def answer(order):
             diagnosis.show_of(FILTER, words.printed, *profile)
         return status
     with file_of(bundle) as file:
-        call = [FILTER, *words]
-        if not is_shown(order):
+        call, is_json = [FILTER, *words], order.has("json")
+        if not is_shown(order) and not (is_json and len(bundle) > parts.BUNDLE):
             os.dup2(file.fileno(), 0)
             signal.signal(signal.SIGPIPE, signal.SIG_DFL)
             os.execv(FILTER, call)
         from . import diagnosis  # (what it needs takes as long to load as all the rest)
-        return diagnosis.shown(call, file, *profile)
+        return diagnosis.shown(call, file, is_json, *profile)
 
 
 def ended(status, text):

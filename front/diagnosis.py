@@ -133,11 +133,12 @@ def fault_in(octets):
     return None
 
 
-def passed_on(call, file):
+def passed_on(call, file, is_json):
     """Runs the program and prints what it prints; its status, the end of its output, and what stopped that on its way, or None."""
     last = b""
     with subprocess.Popen(call, stdin=file, stdout=subprocess.PIPE) as running:
         while octets := running.stdout.read1(CHUNK):
+            octets = octets if last or not is_json else objects.told(octets)
             fault = fault_in(octets) if sys.stdout is not None else OSError()
             if fault is not None:
                 running.stdout.close()
@@ -157,9 +158,9 @@ def show_of(program, printed, name, text, top, above):
     show(printed, name, text.decode(errors="replace"), above, again)
 
 
-def shown(call, file, name, text, top, above):
+def shown(call, file, is_json, name, text, top, above):
     """Runs the program, prints what it prints, and shows a fault of the profile besides, whose text begins below so many lines of its file; its status."""
-    status, printed, fault = passed_on(call, file)
+    status, printed, fault = passed_on(call, file, is_json)
     if fault is not None:
         if fault.errno != errno.EPIPE:  # (a reader that is gone is no news)
             terminal.writes("error: writing the output failed\n")

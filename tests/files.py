@@ -572,6 +572,11 @@ def in_bundles(place):
                                 ("=== words\nshow --top q\n=== profile\n", 1, "profile:1:1: E27 no such top method without parameters\n")):
         seen = place.call("--diagnose", given=bundle.encode())
         check("a bundle that lacks something: %r" % bundle, seen[:2] == (status, out) and seen[2].startswith("-:4:1: E27 ") == ("E27" in out), seen)
+    for bundle, text in (("=== x\n", "bad part x"), ("=== profile\nq {}\n=== profile\n", "bad part profile"), ("q {}\n", "bad part -"), ("=== profile\n" + "\n" * (4 << 20), "above 4 MiB")):
+        words, code = ["check", "--top", "q", "--json"], "I6" if "MiB" in text else "I4"
+        line = '{"kind":"fault","part":"bundle","line":null,"column":null,"number":null,"code":"%s","text":"%s"}\n' % (code, text)
+        check("before the words, an object: %s" % text, place.call(*words, "--diagnose", given=bundle.encode()) == (1, line, ""))
+        check("before the words, without a script a line: %s" % text, place.call(*words, given=bundle.encode()) == (1, "bundle: %s %s\n" % (code, text), ""))
 
 
 def usage_page(place):

@@ -172,6 +172,9 @@ def endless():
         given = call.replace("/dev/zero", "-")
         yield Row("/dev/zero as %s, on standard input" % name, '"$0" %s </dev/zero' % given, status, printed, "" if printed else "rohcfn: -: it has more octets, and", 2, 220, 1)
     yield Row("items of 4 MiB", '"$0" advise p.fn --items "long items"', 1, "bundle: I6 above 4 MiB\n", "")
+    too_long = '{"kind":"fault","part":"bundle","line":null,"column":null,"number":null,"code":"I6","text":"above 4 MiB"}\n'
+    yield Row("items of 4 MiB, as objects", '"$0" advise p.fn --items "long items" --json', 1, too_long, "")
+    yield Row("/dev/zero as PROFILE, as objects", '"$0" fields /dev/zero --items "long items" --json', 1, too_long, "", 4, 220, 1)
     yield Row("items of 4 MiB, in pieces", '"$0" pack p.fn --items "long items" | tail -n 1', 0, "5:38\n", "")
     for name in ("powers", "products", "raised", "digits"):
         yield Row("%s.fn" % name, '"$0" check %s.fn' % name, 1, "profile:", "", 1, lines=1)
