@@ -41,7 +41,7 @@ class Page(html.parser.HTMLParser):
     def __init__(self, text):
         super().__init__()
         self.open, self.faults, self.texts, self.tables, self.links, self.ids, self.heads = [], [], [], [], [], [], []
-        self.under = []
+        self.under, self.policies = [], []
         self.feed(text)
         self.close()
         self.faults += ["not closed: %s" % self.open] if self.open else []
@@ -64,6 +64,10 @@ class Page(html.parser.HTMLParser):
                 self.faults.append("an attribute %s=%s" % (name, value))
             if name == "style" and not re.fullmatch(r"(min-width|width|margin-left|padding-left):[\d.]+(px|em|%)", value):
                 self.faults.append("a style %s" % value)
+        if tag == "meta" and attributes.get("http-equiv", "").lower() == "content-security-policy" and self.open == ["html", "head"]:
+            self.policies.append(attributes.get("content", ""))
+        if tag in ("style", "body") and not self.policies:
+            self.faults.append("an element %s before a policy" % tag)
         self.links += [attributes["href"][1:]] if attributes.get("href", "").startswith("#") else []
         self.ids += [attributes["id"]] if "id" in attributes else []
         self.heads += [""] if tag == "h3" else []
@@ -94,6 +98,13 @@ class Page(html.parser.HTMLParser):
         return next((it[1:] for it in self.tables if it and [cell.strip() for cell in it[0]] == list(heads)), None)
 
 
+def is_closed(policy):
+    """Whether a Content-Security-Policy lets a page take nothing from anywhere and run nothing: styles alone may stand in it."""
+    sources = dict((name, set(more)) for name, *more in filter(None, map(str.split, policy.split(";"))))
+    allowed = sources.pop("style-src", set())
+    return sources.get("default-src") == {"'none'"} and allowed <= {"'none'", "'unsafe-inline'"} and all(it == {"'none'"} for it in sources.values())
+
+
 def drawings(text):
     """The drawings of a page; each has to be well-formed."""
     return [xml.etree.ElementTree.fromstring(it) for it in re.findall(r"<svg.*?</svg>", text, re.DOTALL)]
@@ -103,6 +114,7 @@ def sound(name, text):
     """Tries what holds of every page; the page that was read."""
     page = Page(text)
     check("%s: sound" % name, not page.faults, page.faults[:3])
+    check("%s: a policy" % name, any(map(is_closed, page.policies)), page.policies)
     check("%s: links lead somewhere" % name, set(page.links) <= set(page.ids) and len(set(page.ids)) == len(page.ids), set(page.links) - set(page.ids))
     check("%s: nothing unseen" % name, UNSEEN.search(text) is None, UNSEEN.findall(text))
     check("%s: size" % name, len(text.encode()) <= SIZE, len(text.encode()))
