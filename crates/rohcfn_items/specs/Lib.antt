@@ -8,6 +8,7 @@ pub mod Asked
 pub mod Why
 pub mod Step
 pub mod Loss
+pub mod Told
 pub mod Reach
 pub mod Rows
 pub mod Avoided

@@ -9,16 +9,14 @@ use Rattle.fn_engine.specs.declared.reader.UnpackFault.TheVariants.{Truncated, R
 use Rattle.fn_reader.specs.declared.fault.Blamed.{Blamed}
 use Rattle.fn_loss.specs.declared.hearing.Heard.{Heard}
 use Rattle.fn_loss.specs.declared.hearing.Heard.TheVariants as heard
-use Rattle.fn_loss.specs.declared.hearing.Kind.TheVariants as kinds
 use Rattle.fn_loss.specs.declared.judging.Case.{Case}
 use Rattle.fn_loss.specs.declared.judging.Reading.{Reading}
-use Rattle.fn_loss.specs.declared.scores.Group.TheVariants.{After, Of}
+use Rattle.fn_loss.specs.declared.scores.Group.TheVariants.{After}
 use Rattle.fn_loss.specs.declared.scores.Score.{Score}
 use Rattle.fn_loss.specs.declared.uses.Referring.{Referring}
 use Rattle.fn_loss.specs.declared.uses.Referring.TheVariants.{Static, Lsb}
 use Rattle.fn_loss.specs.declared.unserved.Unserved.{Unserved}
-use Rattle.fn_loss.specs.Judging.{first_case}
-use Rattle.fn_loss.specs.Scores.{reach, score}
+use Rattle.fn_loss.specs.Scores.{score}
 use Rattle.fn_stats.specs.declared.counts.Tally.{Tally}
 use Rattle.rohcfn_names.specs.CheckFaults.{format_words}
 use Rattle.rohcfn_names.specs.Names.{format_name, formats_of, method_name}
@@ -26,6 +24,7 @@ use Rattle.rohcfn_names.specs.Table.{Row, table}
 use Rattle.rohcfn_items.specs.BitTexts.{bits_text}
 use Rattle.rohcfn_items.specs.Stats.{head_line}
 use Rattle.rohcfn_items.specs.Step.{step_of}
+use Rattle.rohcfn_items.specs.Told.{told_case, told_format}
 use Rattle.rohcfn_items.specs.declared.step.Step.{Step}
 
 -- ---- the table of lost packets
@@ -54,9 +53,13 @@ format_heads = heads (codes "format") ++ codes "reach" ∷ []
 abbrev pub format_row : List ℕ → Score → ℕ → Row
 format_row name s far = score_row name s ++ decimal far ∷ []
 
+abbrev pub told_rows : List ℕ → Option (Score × ℕ) → List Row
+told_rows name (Some p) = format_row name p.0 p.1 ∷ []
+told_rows name None = []
+
 -- a row for the format k, where a packet of it was read after a loss
 abbrev pub format_rows : List Method → ℕ → ℕ → List Reading → ℕ → List Row
-format_rows methods top most rs k = if nat_eq (score (Of k) rs).packets 0 then [] else format_row (format_name methods top k) (score (Of k) rs) (reach k most rs) ∷ []
+format_rows methods top most rs k = told_rows (format_name methods top k) (told_format most rs k)
 
 abbrev pub formats_rows : List Method → ℕ → ℕ → List Format → List Reading → List Row
 formats_rows methods top most formats rs = flat_map (λ (f : ℕ × Format). format_rows methods top most rs f.0) (enumerate_from 0 formats)
@@ -123,17 +126,9 @@ abbrev pub found_lines : List Method → ℕ → Option Case → List ℕ
 found_lines methods top (Some c) = lines_of methods top c
 found_lines methods top None = []
 
--- of the first case that is refused after so many lost packets
-abbrev pub refused_lines : List Method → ℕ → List Case → ℕ → List ℕ
-refused_lines methods top cs lost = found_lines methods top (first_case lost kinds.Refused cs)
-
-abbrev pub wrong_lines : List Method → ℕ → List Case → ℕ → Option Case → List ℕ
-wrong_lines methods top cs lost (Some c) = lines_of methods top c
-wrong_lines methods top cs lost None = refused_lines methods top cs lost
-
--- of the first wrong case, else of the first that is refused
+-- of the case that is told after so many lost packets
 abbrev pub case_lines : List Method → ℕ → List Case → ℕ → List ℕ
-case_lines methods top cs lost = wrong_lines methods top cs lost (first_case lost kinds.Wrong cs)
+case_lines methods top cs lost = found_lines methods top (told_case cs lost)
 
 abbrev pub cases_text : List Method → ℕ → ℕ → List Case → List ℕ
 cases_text methods top most cs = flat_map (case_lines methods top cs) (range_with_len 0 (most + 1))

@@ -12,4 +12,5 @@ pub mod reach;
 mod rows;
 pub mod stats;
 pub mod step;
+pub mod told;
 pub mod why;

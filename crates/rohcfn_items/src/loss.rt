@@ -8,11 +8,10 @@ ghost use Rattle.rohcfn_items.specs.Loss as spec;
 use crate::fields::bits_cell;
 use crate::stats::{head_line, number_cell};
 use crate::step::{Step, step_of};
+use crate::told::{told_case, told_format};
 use fn_bits::Bits;
 use fn_engine::UnpackFault;
-use fn_loss::{
-    Case, Group, Heard, Kind, Reading, Referring, Score, Unserved, case_of, reach_of, score_of,
-};
+use fn_loss::{Case, Group, Heard, Reading, Referring, Score, Unserved, score_of};
 use fn_normal::{Format, Method};
 use fn_reader::Blamed;
 use fn_stats::Tally;
@@ -174,12 +173,10 @@ fn add_format(
 ) -> Result<(), AllocError>
     ensures { OnOk result (rows.new ≡ rows.old ++ spec.format_rows methods.now top most readings.now number) }
 {
-    let score = score_of(readings, Group::Of(number))?;
-    if score.packets == 0 {
+    let Some((score, reach)) = told_format(readings, number, most)? else {
         return Ok(());
-    }
+    };
     let name = Cell::of(alloc, format_name(methods, top, number))?;
-    let reach = reach_of(readings, number, most as usize);
     rows.push(format_row(alloc, name, score, reach)?)
 }
 
@@ -215,7 +212,7 @@ fn push_cases(
     Ok(())
 }
 
-/// Adds the first wrong case after so many lost packets, else the first that is refused.
+/// Adds the case that is told after so many lost packets.
 fn push_case_of(
     alloc: Global,
     text: &mut String,
@@ -226,23 +223,7 @@ fn push_case_of(
 ) -> Result<(), AllocError>
     ensures { OnOk result (string_bytes text.new ≡ string_bytes text.old ++ spec.case_lines methods.now top cases.now lost) }
 {
-    match case_of(cases, lost, Kind::Wrong) {
-        Some(case) => push_case(alloc, text, methods, top, case),
-        None => push_refused(alloc, text, methods, top, lost, cases),
-    }
-}
-
-fn push_refused(
-    alloc: Global,
-    text: &mut String,
-    methods: &[Method],
-    top: usize,
-    lost: usize,
-    cases: &[Case],
-) -> Result<(), AllocError>
-    ensures { OnOk result (string_bytes text.new ≡ string_bytes text.old ++ spec.refused_lines methods.now top cases.now lost) }
-{
-    match case_of(cases, lost, Kind::Refused) {
+    match told_case(cases, lost) {
         Some(case) => push_case(alloc, text, methods, top, case),
         None => Ok(()),
     }

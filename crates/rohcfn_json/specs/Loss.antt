@@ -7,21 +7,20 @@ use Rattle.fn_engine.specs.declared.reader.UnpackFault.{UnpackFault}
 use Rattle.fn_engine.specs.declared.reader.UnpackFault.TheVariants.{Truncated, Refused, OutOfMemory}
 use Rattle.fn_loss.specs.declared.hearing.Heard.{Heard}
 use Rattle.fn_loss.specs.declared.hearing.Heard.TheVariants as heard
-use Rattle.fn_loss.specs.declared.hearing.Kind.TheVariants as kinds
 use Rattle.fn_loss.specs.declared.judging.Case.{Case}
 use Rattle.fn_loss.specs.declared.judging.Reading.{Reading}
-use Rattle.fn_loss.specs.declared.scores.Group.TheVariants.{After, Of}
+use Rattle.fn_loss.specs.declared.scores.Group.TheVariants.{After}
 use Rattle.fn_loss.specs.declared.scores.Score.{Score}
 use Rattle.fn_loss.specs.declared.unserved.Unserved.{Unserved}
 use Rattle.fn_loss.specs.declared.uses.Referring.{Referring}
 use Rattle.fn_loss.specs.declared.uses.Referring.TheVariants.{Static, Lsb}
-use Rattle.fn_loss.specs.Judging.{first_case}
-use Rattle.fn_loss.specs.Scores.{reach, score}
+use Rattle.fn_loss.specs.Scores.{score}
 use Rattle.fn_normal.specs.declared.profile.Format.{Format}
 use Rattle.fn_normal.specs.declared.profile.Method.{Method}
 use Rattle.fn_reader.specs.declared.fault.Blamed.{Blamed}
 use Rattle.fn_stats.specs.declared.counts.Tally.{Tally}
 use Rattle.rohcfn_items.specs.Step.{step_of}
+use Rattle.rohcfn_items.specs.Told.{told_case, told_format}
 use Rattle.rohcfn_items.specs.declared.step.Step.{Step}
 use Rattle.rohcfn_names.specs.Names.{format_name, formats_of, method_name}
 use Rattle.rohcfn_json.specs.Objects.{array_closed, array_opened, bits, closed, figure, line, null_member, number, opened, optional_bits, text}
@@ -42,9 +41,13 @@ score_lines end rs = flat_map (lost_line rs) (range_with_len 0 end)
 abbrev pub format_line : List ℕ → Score → ℕ → List ℕ
 format_line name s far = line (opened ++ text (codes "kind") (codes "format") ++ text (codes "format") name ++ score_members s ++ number (codes "reach") far)
 
+abbrev pub told_line : List ℕ → Option (Score × ℕ) → List ℕ
+told_line name (Some p) = format_line name p.0 p.1
+told_line name None = []
+
 -- of the format k, where a packet of it was read after a loss
 abbrev pub format_lines : List Method → ℕ → ℕ → List Reading → ℕ → List ℕ
-format_lines methods top most rs k = if nat_eq (score (Of k) rs).packets 0 then [] else format_line (format_name methods top k) (score (Of k) rs) (reach k most rs)
+format_lines methods top most rs k = told_line (format_name methods top k) (told_format most rs k)
 
 abbrev pub each_format : List Method → ℕ → ℕ → List Format → List Reading → List ℕ
 each_format methods top most formats rs = flat_map (λ (f : ℕ × Format). format_lines methods top most rs f.0) (enumerate_from 0 formats)
@@ -125,17 +128,9 @@ abbrev pub found_line : List Method → ℕ → Option Case → List ℕ
 found_line methods top (Some c) = case_line methods top c
 found_line methods top None = []
 
--- of the first case that is refused after so many lost packets
-abbrev pub refused_lines : List Method → ℕ → List Case → ℕ → List ℕ
-refused_lines methods top cs lost = found_line methods top (first_case lost kinds.Refused cs)
-
-abbrev pub wrong_lines : List Method → ℕ → List Case → ℕ → Option Case → List ℕ
-wrong_lines methods top cs lost (Some c) = case_line methods top c
-wrong_lines methods top cs lost None = refused_lines methods top cs lost
-
--- of the first wrong case, else of the first that is refused
+-- of the case that is told after so many lost packets
 abbrev pub case_lines : List Method → ℕ → List Case → ℕ → List ℕ
-case_lines methods top cs lost = wrong_lines methods top cs lost (first_case lost kinds.Wrong cs)
+case_lines methods top cs lost = found_line methods top (told_case cs lost)
 
 abbrev pub cases_lines : List Method → ℕ → ℕ → List Case → List ℕ
 cases_lines methods top most cs = flat_map (case_lines methods top cs) (range_with_len 0 (most + 1))

@@ -6,13 +6,12 @@ ghost use Rattle.rohcfn_json.specs.Loss as spec;
 use crate::objects::Object;
 use crate::stats::push_all;
 use fn_engine::UnpackFault;
-use fn_loss::{
-    Case, Group, Heard, Kind, Reading, Referring, Score, Unserved, case_of, reach_of, score_of,
-};
+use fn_loss::{Case, Group, Heard, Reading, Referring, Score, Unserved, score_of};
 use fn_normal::{Format, Method};
 use fn_reader::Blamed;
 use fn_stats::Tally;
 use rohcfn_items::step::{Step, step_of};
+use rohcfn_items::told::{told_case, told_format};
 use rohcfn_names::names::{format_name, formats_of, method_name};
 use std::alloc::{AllocError, Global};
 
@@ -128,12 +127,10 @@ fn push_format(
 ) -> Result<(), AllocError>
     ensures { OnOk result (string_bytes output.new ≡ string_bytes output.old ++ spec.format_lines methods.now top most readings.now number) }
 {
-    let score = score_of(readings, Group::Of(number))?;
-    if score.packets == 0 {
+    let Some((score, reach)) = told_format(readings, number, most)? else {
         return Ok(());
-    }
+    };
     let name = format_name(methods, top, number);
-    let reach = reach_of(readings, number, most as usize);
     push_format_object(alloc, output, name, score, reach)
 }
 
@@ -173,7 +170,7 @@ fn push_cases(
     Ok(())
 }
 
-/// Adds the first wrong case after so many lost packets, else the first that is refused.
+/// Adds the case that is told after so many lost packets.
 fn push_case_of(
     alloc: Global,
     output: &mut String,
@@ -184,23 +181,7 @@ fn push_case_of(
 ) -> Result<(), AllocError>
     ensures { OnOk result (string_bytes output.new ≡ string_bytes output.old ++ spec.case_lines methods.now top cases.now lost) }
 {
-    match case_of(cases, lost, Kind::Wrong) {
-        Some(case) => push_case(alloc, output, methods, top, case),
-        None => push_refused(alloc, output, methods, top, lost, cases),
-    }
-}
-
-fn push_refused(
-    alloc: Global,
-    output: &mut String,
-    methods: &[Method],
-    top: usize,
-    lost: usize,
-    cases: &[Case],
-) -> Result<(), AllocError>
-    ensures { OnOk result (string_bytes output.new ≡ string_bytes output.old ++ spec.refused_lines methods.now top cases.now lost) }
-{
-    match case_of(cases, lost, Kind::Refused) {
+    match told_case(cases, lost) {
         Some(case) => push_case(alloc, output, methods, top, case),
         None => Ok(()),
     }
