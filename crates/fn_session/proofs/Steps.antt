@@ -5,12 +5,16 @@ use Rattle.fn_bits.specs.Cursor.{Place}
 use Rattle.fn_context.specs.Entries.{Entries}
 use Rattle.fn_filling.specs.declared.filling.Item.{Item}
 use Rattle.fn_filling.specs.declared.filling.AskedValue.{AskedValue}
-use Rattle.fn_filling.specs.Fillings.{item}
+use Rattle.fn_filling.specs.declared.filling.Filling.{Filling}
+use Rattle.fn_filling.specs.Fillings.{item, asked_values, level}
 use Rattle.fn_filling.specs.Entries.{next}
 use Rattle.fn_profile.specs.declared.asked.AskedField.{AskedField}
 use Rattle.fn_accepted.specs.Accepted.{Accepting}
 use Rattle.fn_engine.specs.declared.reader.Unpacked.{Unpacked}
 use Rattle.fn_engine.specs.Reading as reading
+use Rattle.fn_pages.specs.Pages.{Shows}
+use Rattle.fn_flat.specs.declared.reading.ReadPage.{ReadPage}
+use Rattle.fn_flat.specs.Reading as flat
 use Rattle.fn_session.specs.declared.ends.Ends.{Ends}
 use Rattle.fn_session.specs.declared.ends.Sending.{Sending}
 use Rattle.fn_session.specs.declared.unpacking.Taken.{Taken}
@@ -63,6 +67,18 @@ received_is a ctx new packed count bits place rest u it slice values t header he
   asked_put = record { within = within; new_is = put_there };
   new_is = on;
 }
+
+-- the same of a page that was read
+pub page_received : (a : Accepting) (ctx new : Entries) (packed : List ℕ) (count : ℕ) (bits : List Bool) (place rest : Place) (r : ReadPage) (given slice : List AskedValue) (values : List ℕ) (t : Taken)
+    (header header_new asked asked_new : List ℕ) → IsOf packed count bits → place ≡ record { used = []; left = bits } → flat.IsRead a ctx place rest r
+    → ((f : Filling) → Shows a.profile.methods a.profile.top r.page f → given ≡ asked_values (level f)) → slice ≡ given → Spells slice values →
+    t.header_bits ≡ length r.header → t.asked_octets ≡ length values → t.bits ≡ r.bits → IsWritten r.header header header_new → length values ≤ length asked → asked_new ≡ values ++ drop (length values) asked →
+    ((f : Filling) → Shows a.profile.methods a.profile.top r.page f → new ≡ next ctx f) → IsReceived a ctx new packed count header header_new asked asked_new t
+page_received a ctx new packed count bits place rest r given slice values t header header_new asked asked_new are begins read listed same spelled long many taken put within put_there on =
+    received_is a ctx new packed count bits place rest (record { header = r.header; filling = read.filling; bits = r.bits }) (record { header = r.header; asked = given }) slice values t header header_new asked asked_new are begins
+    (record { fits = read.fits; advances = read.advances; header_is = read.header_is; bits_is = read.bits_is })
+    (λ i. record { header = read.header_is i; asked = listed read.filling read.shown i })
+    same spelled long many taken put within put_there (on read.filling read.shown)
 
 -- ---- at a flow
 

@@ -1,6 +1,7 @@
 //! From the octets of a packet to those of its item.
 
-ghost use Rattle.std.specs.Prelude.{◌≡◌, IfOk, IfErr, OnErr, length};
+ghost use Rattle.std.specs.Prelude.{◌≡◌, IfOk, IfErr, IfSome, IfNone, OnErr, length};
+ghost use Rattle.fn_session.specs.Octets.{IsOf};
 ghost use Rattle.fn_session.specs.Unpacking as spec;
 
 use crate::asked::octets_of;
@@ -11,7 +12,8 @@ use fn_bits::{Bits, Cursor};
 use fn_context::Context;
 use fn_engine::{UnpackFault, Unpacked, item_of, unpack};
 use fn_filling::advance;
-use std::alloc::Global;
+use fn_flat::{ReadPage, asked_of, goes_on, read_page};
+use std::alloc::{AllocError, Global};
 
 /// How much was written of an item, and how many bits its packet took.
 #[derive(Clone, Copy)]
@@ -39,7 +41,96 @@ pub(crate) fn receive(
     let Some(bits) = Bits::from_octets(alloc, packed, packed_bits)? else {
         return Err(UnpackRefusal::BadBits);
     };
-    let mut cursor = Cursor::new(&bits);
+    match received_at_once(
+        alloc,
+        accepted,
+        context,
+        packed,
+        packed_bits,
+        &bits,
+        header,
+        asked,
+    )? {
+        Some(taken) => Ok(taken),
+        None => received_walked(
+            alloc,
+            accepted,
+            context,
+            packed,
+            packed_bits,
+            &bits,
+            header,
+            asked,
+        ),
+    }
+}
+
+/// The same of a packet whose page is told at once, where the context has the paths of its entries and the rooms are long enough. Else nothing changes.
+fn received_at_once(
+    alloc: Global,
+    accepted: &Accepted,
+    context: &mut Context,
+    packed: &[u8],
+    packed_bits: usize,
+    bits: &Bits,
+    header: &mut [u8],
+    asked: &mut [u8],
+) -> Result<Option<Taken>, AllocError>
+    requires { IsOf packed.now packed_bits bits.now }
+    ensures some { IfOk result (λ o. IfSome o (spec.IsReceived accepted.now context.old context.new packed.now packed_bits header.old header.new asked.old asked.new)) }
+    ensures none { IfOk result (λ o. IfNone o ((context.new ≡ context.old) × (header.new ≡ header.old) × (asked.new ≡ asked.old))) }
+    ensures stays { OnErr result ((context.new ≡ context.old) × (header.new ≡ header.old) × (asked.new ≡ asked.old)) }
+{
+    let _ = packed;
+    let _ = packed_bits;
+    let mut cursor = Cursor::new(bits);
+    let Some(read) = read_page(alloc, accepted, context, &mut cursor)? else {
+        return Ok(None);
+    };
+    let ReadPage {
+        header: found,
+        page,
+        bits: count,
+    } = read;
+    let Some(given) = asked_of(alloc, accepted, &page)? else {
+        return Ok(None);
+    };
+    let values = octets_of(alloc, given.as_slice())?;
+    if !has_room(found.len(), header) || values.len() > asked.len() {
+        return Ok(None);
+    }
+    if !goes_on(alloc, accepted, context, &page)? {
+        return Ok(None);
+    }
+    write_bits(&found, header);
+    put(values.as_slice(), asked);
+    Ok(Some(Taken {
+        header_bits: found.len(),
+        asked_octets: values.len(),
+        bits: count,
+    }))
+}
+
+/// The same by what `unpack` answers.
+#[inline(never)]
+fn received_walked(
+    alloc: Global,
+    accepted: &Accepted,
+    context: &mut Context,
+    packed: &[u8],
+    packed_bits: usize,
+    bits: &Bits,
+    header: &mut [u8],
+    asked: &mut [u8],
+) -> Result<Taken, UnpackRefusal>
+    requires { IsOf packed.now packed_bits bits.now }
+    ensures ok { IfOk result (spec.IsReceived accepted.now context.old context.new packed.now packed_bits header.old header.new asked.old asked.new) }
+    ensures stays { OnErr result ((context.new ≡ context.old) × (header.new ≡ header.old) × (asked.new ≡ asked.old)) }
+    ensures fault { IfErr result (λ e. spec.BlamesReceive e accepted.now context.old packed.now packed_bits (length header.old) (length asked.old)) }
+{
+    let _ = packed;
+    let _ = packed_bits;
+    let mut cursor = Cursor::new(bits);
     match unpack(alloc, accepted, context, &mut cursor) {
         Ok(
             Unpacked {
