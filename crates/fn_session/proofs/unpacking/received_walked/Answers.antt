@@ -21,8 +21,8 @@ returns-then-taken-asked-clause-fault c = record {
   short = inr (omega (arith, c.if-taken-asked.true));
 }
 
-pub returns-in-Ok-clause-ok : goal.returns-in-Ok-clause-ok
-returns-in-Ok-clause-ok c =
+pub returns-in_ok-advance-in-Ok-clause-ok : goal.returns-in_ok-advance-in-Ok-clause-ok
+returns-in_ok-advance-in-Ok-clause-ok c =
     received_is c.args.accepted.now c.args.context.now c.advance.new.context c.args.packed.now c.args.packed_bits c.args.bits.now c.new-cursor.result c.unpack.new.cursor c.in-Ok.field-0 c.in_ok-item-in-Ok.item c.as_slice.result.now
     c.in_ok-values-in-Ok.values.items _ c.args.header.now c.write_bits.new.room c.args.asked.now c.put.new.room c.requires c.new-cursor.ensures
     c.in-Ok.ensures.read c.in_ok-item-in-Ok.ensures c.as_slice.ensures c.in_ok-values-in-Ok.ensures c.len.ensures.value (search rules) refl c.write_bits.ensures (search rules) (search rules) (search rules)
