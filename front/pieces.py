@@ -2,6 +2,7 @@
 printed is what one call would print."""
 import itertools
 import json
+import os
 import re
 import sys
 import time
@@ -13,7 +14,7 @@ PIECED = ("pack", "unpack", "fields", "stats", "loss")
 LOST = "8"  # packets in a row, where none is said
 BLOCK = 1 << 20  # octets of lines that go into a call, and that are read at a time
 FIRST = 1 << 8  # octets of lines that go into the first call of `fields`, which prints many for each
-PRINTED = 1 << 24  # octets that each of its further calls is to print, by what the one before printed
+PRINTED = 1 << 25  # octets that each of its further calls is to print, by what the one before printed
 OBJECTS = 1 << 22  # the same of objects, which take more memory here
 CONTEXT = b"=== context\n"
 NUMBERED = re.compile(rb"^(item|packet) (\d+)(?=: )|^(items|packets):(\d+)(?=: )")
@@ -110,14 +111,13 @@ class Pieces:
 
     def call(self, command, flags, lines):
         """What the program prints of a piece, with its status. All but the first call say nothing beside, unless they fail."""
-        import subprocess  # (it takes a while to load, and most calls need no pieces)
         words = [self.path, "--", command, "--top", self.top, *flags]
         bundle = parts.bundle({**self.given, self.part: lines}, self.profile)
-        ran = subprocess.run(words, input=bundle, stdout=subprocess.PIPE, stderr=subprocess.PIPE if self.calls else None, check=False)
-        self.calls, self.printed = self.calls + 1, ran.stdout
+        ran, printed = output_of(words, bundle, self.calls > 0)
+        self.calls, self.printed = self.calls + 1, printed
         if ran.returncode not in (0, 1) and ran.stderr:
             terminal.writes(ran.stderr.decode(errors="replace"))
-        return ran.stdout, ran.returncode
+        return printed, ran.returncode
 
     def pass_piece(self, lines):
         """Prints what the program prints of a piece, and keeps the context."""
@@ -264,6 +264,16 @@ class Pieces:
         if sys.stderr is not None and sys.stderr.isatty() and time.monotonic() - self.shown >= SHOWN:
             self.shown = time.monotonic()
             terminal.says("%d %s are done" % (self.count, self.part))
+
+
+def output_of(words, given, is_quiet):
+    """How a call ended, and what it printed. That goes by a file in memory, or a temporary one: a pipe takes as long again for what is printed here."""
+    import subprocess  # (they take a while to load, and most calls need no pieces)
+    import tempfile
+    with open(os.memfd_create("printed"), "w+b") if hasattr(os, "memfd_create") else tempfile.TemporaryFile() as file:
+        ran = subprocess.run(words, input=given, stdout=file, stderr=subprocess.PIPE if is_quiet else None, check=False)
+        file.seek(0)
+        return ran, file.read()
 
 
 def items_in(lines):
