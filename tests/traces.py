@@ -167,7 +167,7 @@ def pieces(place):
         shutil.copytree(place.root / it, small / it)
     (small / "crates" / "rohcfn" / "out").mkdir(parents=True)
     (small / "crates" / "rohcfn" / "out" / "rohcfn").symlink_to(built().resolve())
-    for path, old, new in (("front/parts.py", "BUNDLE = 4_194_304", "BUNDLE = 12_000"), ("front/pieces.py", "BLOCK = 1 << 20", "BLOCK = 6_000"), ("front/pieces.py", "FIRST = 1 << 8", "FIRST = 3_000"), ("front/pieces.py", "PRINTED = 1 << 24", "PRINTED = 20_000"), ("front/pieces.py", "OBJECTS = 1 << 22", "OBJECTS = 20_000"), ("front/bundles.py", "BLOCK = 4096", "BLOCK = 5"), ("front/pieces.py", "SHOWN = 2", "SHOWN = 0")):
+    for path, old, new in (("front/parts.py", "BUNDLE = 4_194_304", "BUNDLE = 12_000"), ("front/pieces.py", "BLOCK = 1 << 20", "BLOCK = 6_000"), ("front/pieces.py", "FIRST = 1 << 8", "FIRST = 3_000"), ("front/pieces.py", "PRINTED = 1 << 25", "PRINTED = 20_000"), ("front/pieces.py", "OBJECTS = 1 << 22", "OBJECTS = 20_000"), ("front/bundles.py", "BLOCK = 4096", "BLOCK = 5"), ("front/pieces.py", "SHOWN = 2", "SHOWN = 0")):
         text = (small / path).read_text()
         check("the limits of the copy", text.count(old) == 1)
         (small / path).write_text(text.replace(old, new))
