@@ -27,7 +27,7 @@ echo "examples: $passed passed, $failed failed"
 # As many modules run side by side as there are processors, the long ones first; what each prints comes in the order of the second list. hostile and report run after
 # them, by themselves: their calls have at most so many seconds, and beside other work each takes up to half as many more.
 longest=(first_call loss library files 'why stored' refusals traces 'why drawn' server robust certificates roundtrip advise trees cases json_lines lint lines frames walks warned session)
-ordered=(sentences pages readmes walks left_out editors tuning 'flows line' cases prefixes certificates forged trees roundtrip fields stats advise json_lines 'why stored' 'why drawn'
+ordered=(sentences pages readmes rooms walks left_out editors tuning 'flows line' cases prefixes certificates forged trees roundtrip fields stats advise json_lines 'why stored' 'why drawn'
   avoided lint warned lines frames loss robust refusals ends first_call files server session traces hostile report library manual)
 printed=$(mktemp -d)
 trap 'rm -rf "$printed"' EXIT
