@@ -18,7 +18,7 @@ from .measure import PROGRAM, report
 FEW, MANY = 1, 5
 STEPS = {"pack": "line", "unpack": "line --receive"}
 # how often the cost by `line` a header may cost
-MOST = {"pack": 1.0, "unpack": 1.3}
+MOST = {"pack": 1.0, "unpack": 1.0}
 SMALLEST = 16
 
 
