@@ -123,7 +123,6 @@ def readme(name, below, above, uses):
     items = items_of(folder)
     laws = re.findall(r"^pub fn (\w+)", (folder / "src" / "laws.rt").read_text(), re.M) if (folder / "src" / "laws.rt").exists() else []
     lemmas = sorted(it.stem for it in (folder / "proofs").glob("*.antt") if it.stem != "Lib")
-    edits = len(list((folder / "must-fail").glob("*.edit")))
     points = [
         ("Main types", told(main_of([it for it in items if not it[1]], uses, TYPES))),
         ("Main functions", told(main_of([it for it in items if it[1] and it[0] not in laws], uses, FUNCTIONS))),
@@ -132,7 +131,6 @@ def readme(name, below, above, uses):
         ("Stands on", [", ".join(below)] if below else []),
         ("What stands on it", [", ".join(above) if len(above) <= MANY else "%d crates" % len(above)] if above else []),
         ("Proofs", ["proofs/ has a folder for each module with one for each function%s" % (", and the lemmas " + ", ".join(lemmas) if lemmas else "")]),
-        ("Edits that must fail", [str(edits)] if edits else []),
     ]
     about = filled(title_of(top, "//!"), "") + "\n" + "".join(listed(*it) for it in points)
     return "# %s\n\n%s\nMade of the sources by `python3 -m tests.readmes --write`.\n" % (name, about)
