@@ -1,5 +1,8 @@
-"""One run of the built program: its time and its peak memory."""
+"""One run of the built program, or of what starts it: its time and its peak memory."""
+import contextlib
 import os
+import pathlib
+import re
 import resource
 import subprocess
 import sys
@@ -11,6 +14,7 @@ PROGRAM = str(built())
 # answers rows on calls that no command shows
 ROWS = str(built("fn_rows"))
 ROUNDS = 15
+CALLS = 5
 MIB = 1024 * 1024
 
 
@@ -34,6 +38,44 @@ def run(data, program=PROGRAM):
         output = pipe.read()
     os.waitpid(child, 0)
     return int(status), float(took), int(peak), output
+
+
+def below(process):
+    """A process, and those that are started below it."""
+    found = [process]
+    for it in found:
+        with contextlib.suppress(OSError):
+            for task in pathlib.Path("/proc/%d/task" % it).iterdir():
+                found += map(int, (task / "children").read_text().split())
+    return found
+
+
+def held(processes):
+    """The octets of memory that processes hold together. What several of them hold counts once, and so does a file in memory."""
+    octets, files = 0, {}
+    for it in processes:
+        with contextlib.suppress(OSError):
+            place = pathlib.Path("/proc/%d" % it)
+            octets += 1024 * sum(map(int, re.findall(r"^Pss_(?:Anon|File): +(\d+) kB$", (place / "smaps_rollup").read_text(), re.MULTILINE)))
+            for stream in (place / "fd").iterdir():
+                if os.readlink(stream).startswith("/memfd:"):
+                    files[stream.stat().st_ino] = 512 * stream.stat().st_blocks
+    return octets + sum(files.values())
+
+
+def call(words, **how):
+    """The status of a call, the seconds until it ends, the least of some runs, and its peak memory, with that of what it starts, which is looked at in one more run."""
+    times = []
+    for _ in range(CALLS):
+        start = time.perf_counter()
+        status = subprocess.run(words, **how).returncode
+        times.append(time.perf_counter() - start)
+    peak = 0
+    with subprocess.Popen(words, **how) as running:
+        while running.poll() is None:
+            peak = max(peak, held(below(running.pid)))
+            time.sleep(0.002)
+    return status or running.returncode, min(times), peak
 
 
 def best_of(data, status, output, program=PROGRAM):

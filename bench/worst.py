@@ -1,7 +1,8 @@
 """Processor time and memory of the worst texts that are known, on the built program or on another that is given as an argument.
 
-Each text is within the limits. It is run once and has to end with status 0, within its bounds of time and memory. With a folder as the second argument what is
-printed is kept there, so that two programs can be compared."""
+Each text is within the limits. It is run once and has to end with status 0, within its bounds of time and memory. Those that print most go by files, too, through
+bin/rohcfn: there the time is that until the call ends, on a quiet machine. With a folder as the second argument what is printed is kept there, so that two programs
+can be compared."""
 import itertools
 import os
 import random
@@ -10,6 +11,7 @@ import subprocess
 import sys
 import tempfile
 
+from tests.files import Place
 from . import measure
 
 TEXT = 1 << 20  # octets of a profile, or of a certificate
@@ -198,6 +200,21 @@ def rows(program):
     return whole("fields --top t", out) + b"=== packets\n" + b"0:\n" * 2_000
 
 
+def pairs(program):
+    """419,430 items of two fields, which are 4 MiB."""
+    draw = random.Random(24)
+    profile = "t {\n  UNCOMPRESSED { x [16]; y [8]; }\n  COMPRESSED { x =:= irregular(16); y =:= irregular(8); }\n}\n"
+    return whole("fields --items --top t", profile) + b"=== items\n" + b"".join(b"24:%s\n" % draw.randbytes(3).hex().encode() for _ in range(419_430))
+
+
+def many(program):
+    """100,000 items of 24 octets, each a field: more than a bundle, and 101 MB are printed."""
+    draw = random.Random(20)
+    header, listed = (" ".join(it % at for at in range(24)) for it in ("field%d [8];", "field%d =:= irregular(8);"))
+    items = b"".join(b"192:%s\n" % draw.randbytes(24).hex().encode() for _ in range(100_000))
+    return whole("fields --items --top t", "t {\n  UNCOMPRESSED { %s }\n  COMPRESSED { %s }\n}\n" % (header, listed)) + b"=== items\n" + items
+
+
 def trends(program):
     """20,000 items of 64 bits that are drawn, with up to 63 lost: of nearly all 1,280,000 steps each is another one."""
     draw = random.Random(65)
@@ -252,6 +269,9 @@ def leaves(program):
 # seconds and MiB at most: some three times what was measured, or a second
 BOUNDS = {waiting: (1, 36), operands: (1, 45), steps: (1, 45), encodings: (2, 350), brackets: (3, 730), conditions: (30, 60), paths: (1, 60), collisions: (2, 60), sites: (1, 100), names: (1, 100), counts: (6, 60), rows: (1, 700), trends: (5, 110), wholes: (1, 40), others: (1, 40), levels: (1, 20), commented: (1, 20), leaves: (2, 20)}
 
+# the same of calls of bin/rohcfn with files
+FILED = {rows: (1, 100), pairs: (1, 100), many: (1, 100)}
+
 
 def own():
     """The peak memory of this script. What the system says of a program that it starts is never less."""
@@ -262,6 +282,11 @@ def main(words):
     program = words[0] if words else measure.PROGRAM
     if not os.access(program, os.X_OK):
         sys.exit("build the program first: (cd crates/rohcfn && rt run)")
+    measure.report("worst", all([texts(program, *words[1:2]), filed(program)]))
+
+
+def texts(program, folder=None):
+    """Runs each text by the program itself; whether all stay within their bounds."""
     good = True
     print("| text | command | input octets | s | peak MiB | bounds |")
     print("|---|---|---|---|---|---|")
@@ -271,11 +296,32 @@ def main(words):
         command = data.split(b"\n")[1].split()[0].decode()
         print("| %s | %s | %d | %.2f | %d | %d s, %d MiB |" % (make.__name__, command, len(data), took, peak / measure.MIB, seconds, room), flush=True)
         good = good and status == 0 and took <= seconds and peak <= max(room * measure.MIB, own())
-        if words[1:]:
-            os.makedirs(words[1], exist_ok=True)
-            with open(os.path.join(words[1], make.__name__), "wb") as out:
+        if folder is not None:
+            os.makedirs(folder, exist_ok=True)
+            with open(os.path.join(folder, make.__name__), "wb") as out:
                 out.write(printed)
-    measure.report("worst", good)
+    return good
+
+
+def filed(program):
+    """The same of the calls with files."""
+    good = True
+    print("| text, by files | input octets | MB printed | s | peak MiB | bounds |")
+    print("|---|---|---|---|---|---|")
+    with tempfile.TemporaryDirectory() as folder:
+        place = Place(folder, "copy", program)
+        for make, (seconds, room) in FILED.items():
+            words, profile, lines = make(program).split(b"=== ")[1:]
+            part = lines.split(b"\n")[0].decode()
+            place.write("profile", profile.partition(b"\n")[2])
+            place.write(part, lines.partition(b"\n")[2])
+            with open(place.files / "printed", "wb") as out:
+                call = [place.command, "fields", "profile", "--top", "t", "--" + part, part]
+                status, took, peak = measure.call(call, cwd=place.files, env=place.environment, stdout=out)
+                printed = out.tell() / (measure.CALLS + 1) / 1e6
+            print("| %s | %d | %d | %.2f | %d | %d s, %d MiB |" % (make.__name__, len(lines), printed, took, peak / measure.MIB, seconds, room), flush=True)
+            good = good and status == 0 and took <= seconds and peak <= room * measure.MIB
+    return good
 
 
 if __name__ == "__main__":

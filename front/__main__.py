@@ -5,25 +5,13 @@ import os
 import signal
 import sys
 
-from . import parts, terminal
+from . import parts, streams, terminal
 from .orders import Usage, order_of
 
 
 def is_shown(order):
     """Whether a fault is to be shown besides: by --diagnose, or where all that is printed goes to a terminal."""
     return order.has("diagnose") or all(it is not None and it.isatty() for it in (sys.stdout, sys.stderr))
-
-
-def file_of(octets):
-    """An open file with these octets, at its begin, in no folder."""
-    if hasattr(os, "memfd_create"):
-        file = os.fdopen(os.memfd_create("bundle"), "w+b")
-    else:
-        import tempfile  # (it takes a while to load)
-        file = tempfile.TemporaryFile()
-    file.write(octets)
-    file.seek(0)
-    return file
 
 
 def answer(order):
@@ -35,9 +23,9 @@ def answer(order):
         status = words.answer(bundle)
         if is_shown(order):
             from . import diagnosis
-            diagnosis.show_of(FILTER, words.printed, *profile)
+            diagnosis.show_of(FILTER, words.last_printed, *profile)
         return status
-    with file_of(bundle) as file:
+    with streams.file_of(bundle) as file:
         call, is_json = [FILTER, *words], order.has("json")
         if not is_shown(order) and not (is_json and len(bundle) > parts.BUNDLE):
             os.dup2(file.fileno(), 0)
@@ -57,7 +45,8 @@ def ran(folder, answer):
     os.fchdir(int(folder))
     os.close(int(folder))
     terminal.fill()
-    signal.signal(signal.SIGINT, signal.SIG_DFL)
+    for it in (signal.SIGINT, signal.SIGCHLD):  # (where the caller takes no notice of what ends, it couldn't be waited for)
+        signal.signal(it, signal.SIG_DFL)
     try:
         return answer()
     except Usage as why:

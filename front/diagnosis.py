@@ -5,7 +5,7 @@ import re
 import subprocess
 import sys
 
-from . import advice, definitions, mending, objects, parts, terminal
+from . import advice, definitions, mending, objects, parts, streams, terminal
 
 LINE = re.compile(r"profile:(\d+):(\d+): (E\d\d) (.*)")
 BITS = re.compile(r"(items|packets):(\d+): I[12] bad (item|packet)")  # a line that is no item or no packet
@@ -122,24 +122,13 @@ def show_bits(printed, file, paint):
         terminal.writes(paint(BLUE, "help: ") + "the number of bits and a colon stand before the octets: %s\n" % terminal.shown(due if len(due) < WIDTH else due[:WIDTH] + "..."))
 
 
-def fault_in(octets):
-    """What stops octets on their way to standard output, or None."""
-    rest = memoryview(octets)
-    try:
-        while rest:
-            rest = rest[os.write(1, rest):]
-    except OSError as why:
-        return why
-    return None
-
-
 def passed_on(call, file, is_json):
     """Runs the program and prints what it prints; its status, the end of its output, and what stopped that on its way, or None."""
     last = b""
     with subprocess.Popen(call, stdin=file, stdout=subprocess.PIPE) as running:
         while octets := running.stdout.read1(CHUNK):
             octets = octets if last or not is_json else objects.told(octets)
-            fault = fault_in(octets) if sys.stdout is not None else OSError()
+            fault = streams.fault_in(octets) if sys.stdout is not None else OSError()
             if fault is not None:
                 running.stdout.close()
                 return 3, b"", fault

@@ -1,5 +1,6 @@
 """Takes items and packets of any size: what is more than a bundle holds goes through the program in pieces, each from the context that the one before left. What is
 printed is what one call would print."""
+import errno
 import itertools
 import json
 import os
@@ -7,15 +8,19 @@ import re
 import sys
 import time
 
-from . import losses, objects, parts, sums, terminal
+from . import losses, objects, parts, streams, sums, terminal
 from .orders import LINES
 
 PIECED = ("pack", "unpack", "fields", "stats", "loss")
 LOST = "8"  # packets in a row, where none is said
 BLOCK = 1 << 20  # octets of lines that go into a call, and that are read at a time
 FIRST = 1 << 8  # octets of lines that go into the first call of `fields`, which prints many for each
-PRINTED = 1 << 25  # octets that each of its further calls is to print, by what the one before printed
+PRINTED = 1 << 24  # octets that each of its further calls is to print, by what one before printed
 OBJECTS = 1 << 22  # the same of objects, which take more memory here
+SHARE = 1 << 18  # octets of what is printed that get the numbers of the whole at a time, and somewhat more
+LAST = 1 << 16  # octets at the end of what is printed that are kept, for a fault
+PROCESSORS = os.cpu_count() or 1
+PROGRAMS = {"built": "crates/rohcfn/out/rohcfn", "kept": "crates/rohcfn/out/unproved/rohcfn"}  # as front/built.sh and front/kept.sh have them
 CONTEXT = b"=== context\n"
 NUMBERED = re.compile(rb"^(item|packet) (\d+)(?=: )|^(items|packets):(\d+)(?=: )")
 REFUSED = re.compile(rb"^item (\d+): ")
@@ -80,7 +85,8 @@ class Pieces:
         self.lines = self.count = self.calls = 0  # lines and items before the piece
         self.is_json = order.has("json")
         self.flags = [it for it in order.flags() if it != "--context" and not (it == "--json" and order.command != "fields")]  # (what is counted is made objects at the end)
-        self.printed, self.size = b"", FIRST if order.command == "fields" else BLOCK  # what the last call printed, and octets of lines that go into the next
+        self.last_printed, self.size = b"", FIRST if order.command == "fields" else BLOCK  # the end of what a call printed, and octets of lines that go into the next
+        self.begun, self.printer = [], streams.Printer()  # calls that aren't printed yet, and what prints the one before
         self.sums, self.told, self.rows = sums.Sums(), [], order.has("by-item")
         self.losses = losses.Losses(int(order.get("lost") or LOST)) if order.command == "loss" else None
         self.earlier = b""  # the items that stand before the next piece of `loss`
@@ -90,11 +96,15 @@ class Pieces:
         """Runs the command on blocks of lines; its status."""
         take = {"stats": self.count_piece, "loss": self.lose_piece}.get(self.order.command, self.pass_objects if self.is_json else self.pass_piece)
         try:
-            for it in itertools.chain.from_iterable(map(self.parted, given)):
-                take(it)
-                self.lines += it.count(b"\n")
-                self.count += items_in(it)
-                self.show()
+            try:
+                for it in itertools.chain.from_iterable(map(self.parted, given)):
+                    take(it)
+                    self.lines += it.count(b"\n")
+                    self.count += items_in(it)
+                    self.show()
+            finally:
+                self.finish()
+                self.wait()
             return self.last()
         except Stopped as why:
             return why.args[0]
@@ -105,31 +115,68 @@ class Pieces:
             end = end_of(lines, self.size)
             piece, lines = lines[:end], lines[end:]
             yield piece
-            if self.order.command == "fields":
-                printed = OBJECTS if self.is_json else PRINTED
-                self.size = max(1, min(BLOCK, printed * len(piece) // max(1, len(self.printed))))
 
     def call(self, command, flags, lines):
-        """What the program prints of a piece, with its status. All but the first call say nothing beside, unless they fail."""
-        words = [self.path, "--", command, "--top", self.top, *flags]
+        """What the program prints of a piece, with its status."""
+        printed, status = self.end(self.begin(command, flags, lines))
+        return printed[:], status
+
+    def begin(self, command, flags, lines):
+        """Begins a call on a piece. All but the first say nothing beside, unless they fail."""
+        words = [*self.program(), command, "--top", self.top, *flags]
         bundle = parts.bundle({**self.given, self.part: lines}, self.profile)
-        ran, printed = output_of(words, bundle, self.calls > 0)
-        self.calls, self.printed = self.calls + 1, printed
-        if ran.returncode not in (0, 1) and ran.stderr:
-            terminal.writes(ran.stderr.decode(errors="replace"))
-        return printed, ran.returncode
+        self.calls += 1
+        return Call(words, bundle, self.calls > 1, (len(lines), self.count, self.lines))
+
+    def end(self, call):
+        """What a call printed, as it stands in its file, with its status."""
+        printed, said, status = call.end()
+        self.wait()
+        if status not in (0, 1) and said:
+            terminal.writes(said.decode(errors="replace"))
+        self.last_printed = printed[-LAST:]
+        if self.order.command == "fields":
+            self.size = max(1, min(BLOCK, (OBJECTS if self.is_json else PRINTED) * call.size // max(1, len(printed))))
+        return printed, status
+
+    def found(self):
+        """The program that bin/rohcfn found for further calls, or None where each asks for it anew."""
+        name = "built" if os.environ.get("ROHCFN_SETTLED") == "built" else "kept" if os.environ.get("ROHCFN_KEPT") else None
+        return name and os.path.join(os.path.dirname(os.path.dirname(self.path)), PROGRAMS[name])
+
+    def program(self):
+        """The words that call the program. The first call goes by bin/rohcfn, which says what is to be said of it."""
+        found = self.found() if self.calls else None
+        return [found] if found else [self.path, "--"]
 
     def pass_piece(self, lines):
-        """Prints what the program prints of a piece, and keeps the context."""
-        printed, status = self.call(self.order.command, [*self.flags, "--context"], lines)
-        if status != 0:
-            end = printed.rstrip(b"\n").rfind(b"\n") + 1
-            self.writes(self.headed(printed, end))
-            self.writes(self.renumbered(printed[end:].rstrip(b"\n")) + b"\n" if printed else b"")
-            raise Stopped(status)
-        begin = 0 if printed.startswith(CONTEXT) else printed.rfind(b"\n" + CONTEXT) + 1
-        self.writes(self.headed(printed, begin))
-        self.given["context"] = printed[begin + len(CONTEXT):]
+        """Prints what the program prints of a piece, while the call goes on, and keeps the context. A piece of `fields` begins before the one before is told."""
+        is_ahead = self.order.command == "fields" and self.calls > 0 and self.found() is not None and PROCESSORS > 1
+        self.begun.append(self.begin(self.order.command, [*self.flags, "--context"], lines))
+        context = self.context_after(lines) if is_ahead else None
+        if context is None:
+            self.finish()
+        else:
+            self.finish(1)
+            self.given["context"] = context
+
+    def context_after(self, lines):
+        """The context that a piece leaves, or None where a line is refused. To pack or unpack it takes less time than to tell its fields."""
+        command = "pack" if self.part == "items" else "unpack"
+        printed, _, status = self.begin(command, [it for it in self.flags if it == "--v2"] + ["--context"], lines).end()
+        return context_in(printed) if status == 0 else None
+
+    def finish(self, left=0):
+        """Prints the texts of the calls that are begun, but for the last ones, of which so many are left, and keeps the context."""
+        while len(self.begun) > left:
+            call = self.begun.pop(0)
+            printed, status = self.end(call)
+            begin, end = last_line(printed) if status else (printed.rfind(b"\n" + CONTEXT) + 1, None)
+            fault = [renumbered(printed[begin:end], call.count, call.lines) + b"\n"] if status and printed else []
+            self.printer.begin(itertools.chain(self.headed(printed, begin, call.count), fault))
+            if status:
+                self.stop(status)
+            self.given["context"] = context_in(printed)
 
     def pass_objects(self, lines):
         """The same of the objects of `fields`."""
@@ -151,11 +198,11 @@ class Pieces:
         """Adds what the program counts of a piece, or prints its rows, and keeps the context that the items which aren't refused leave."""
         printed, status = self.call("stats", [it for it in self.flags if it != "--all" and not it.startswith("--at-most")], lines)
         if status != 0:
-            self.writes(self.faults([self.renumbered(printed.rstrip(b"\n"))]) if printed else b"")
+            self.writes(self.faults([self.whole(printed.rstrip(b"\n"))]) if printed else b"")
             raise Stopped(status)
         every = printed.splitlines()
         refused = [it for it in every if REFUSED.match(it)]
-        self.told += map(self.renumbered, refused)
+        self.told += map(self.whole, refused)
         (self.pass_rows if self.rows else self.sums.add)([it for it in every if not REFUSED.match(it)])
         self.go_on(without(lines, {int(REFUSED.match(it).group(1)) for it in refused}) if refused else lines)
 
@@ -164,7 +211,7 @@ class Pieces:
         printed, status = self.call("loss", self.flags, self.earlier + lines)
         back = items_in(self.earlier)
         if status != 0:
-            self.writes(self.faults([self.renumbered(printed.rstrip(b"\n"), back)]) if printed else b"")
+            self.writes(self.faults([self.whole(printed.rstrip(b"\n"), back)]) if printed else b"")
             raise Stopped(status)
         earlier, status = self.call("loss", self.flags, self.earlier) if back else (b"", 0)
         if status != 0:
@@ -180,7 +227,7 @@ class Pieces:
         context, status = self.call("pack", [it for it in self.flags if it == "--v2"] + ["--context"], lines)
         if status != 0:
             raise Stopped(status)
-        self.given["context"] = context[(context.rfind(b"\n" + CONTEXT) + 1) + len(CONTEXT):]
+        self.given["context"] = context_in(context)
 
     def pass_rows(self, every):
         """Prints the rows of a piece with the numbers of the whole."""
@@ -228,36 +275,45 @@ class Pieces:
         """The formats of each method."""
         return sums.methods_of(self.call("show", [], b"")[0].decode())
 
-    def headed(self, printed, end):
-        """What is printed of a piece up to an end, with the numbers of the whole in the head lines of `fields`. (It is cut without copies, of which each takes as
-        much memory again.)"""
-        whole, mark = memoryview(printed), b"item " if self.part == "items" else b"packet "  # (all other lines begin with blanks)
-        if self.order.command != "fields" or not self.count or not printed.startswith(mark):
-            return whole[:end]
-        begin, found = 0, []
+    def headed(self, printed, end, count):
+        """What is printed of a piece up to an end, in blocks, with the numbers of the whole in the head lines of `fields`, where so many items stand before it."""
+        mark = b"item " if self.part == "items" else b"packet "  # (all other lines begin with blanks)
+        if self.order.command != "fields" or not count or printed[:len(mark)] != mark:
+            yield memoryview(printed)[:end]
+            return
+        begin, between = 0, b"\n" + mark
         while begin < end:
-            blank = printed.index(b" ", begin + len(mark))
-            number = int(printed[begin + len(mark):blank])
-            begin = printed.find(b"\n" + mark, blank, end) + 1 or end
-            found += b"%s%d" % (mark, number + self.count), whole[blank:begin]
-        return b"".join(found)
+            after = printed.find(between, begin + SHARE, end) + 1 or end
+            trees = (it.partition(b" ") for it in printed[begin + len(mark):after].split(between))
+            yield mark + between.join(b"%d %s" % (int(number) + count, rest) for number, _, rest in trees)
+            begin = after
 
-    def renumbered(self, line, back=0):
+    def whole(self, line, back=0):
         """A fault line with the numbers of the whole, of a piece that stands behind so many items of those before it."""
-        def whole(found):
-            if found.group(1):
-                return b"%s %d" % (found.group(1), int(found.group(2)) + self.count - back)
-            return b"%s:%d" % (found.group(3), int(found.group(4)) + self.lines - back)
-        return NUMBERED.sub(whole, line)
+        return renumbered(line, self.count - back, self.lines - back)
 
     def writes(self, octets):
-        """Prints octets; where that can't be, the call ends, as the program does."""
-        from .diagnosis import fault_in
-        fault = fault_in(octets) if sys.stdout is not None else OSError()
-        if fault is not None:
-            if not isinstance(fault, BrokenPipeError):
+        """Prints octets, behind what is being printed."""
+        self.wait()
+        self.judge(streams.number_in([octets]))
+
+    def wait(self):
+        """Waits until what is being printed is out."""
+        self.judge(self.printer.end())
+
+    def judge(self, number):
+        """Ends the call, as the program does, where a fault of this number stopped what is printed."""
+        if number:
+            if number != errno.EPIPE:
                 terminal.writes("error: writing the output failed\n")
-            raise Stopped(3)
+            self.stop(3)
+
+    def stop(self, status):
+        """Ends the call with a status. No more is printed of what is begun."""
+        for it in self.begun:
+            it.drop()
+        self.begun = []
+        raise Stopped(status)
 
     def show(self):
         """Says on a terminal how far the call is."""
@@ -266,19 +322,55 @@ class Pieces:
             terminal.says("%d %s are done" % (self.count, self.part))
 
 
-def output_of(words, given, is_quiet):
-    """How a call ended, and what it printed. That goes by a file in memory, or a temporary one: a pipe takes as long again for what is printed here."""
-    import subprocess  # (they take a while to load, and most calls need no pieces)
-    import tempfile
-    with open(os.memfd_create("printed"), "w+b") if hasattr(os, "memfd_create") else tempfile.TemporaryFile() as file:
-        ran = subprocess.run(words, input=given, stdout=file, stderr=subprocess.PIPE if is_quiet else None, check=False)
-        file.seek(0)
-        return ran, file.read()
+class Call:
+    """A call of the program on a piece, by files in memory: a pipe takes as long again for what is printed here. The piece has `size` octets of lines, and behind
+    `count` items and so many `lines` it stands."""
+
+    def __init__(self, words, given, is_quiet, place):
+        import subprocess  # (it takes a while to load, and most calls need no pieces)
+        self.size, self.count, self.lines = place
+        self.printed, self.said = streams.file_of(), streams.file_of()
+        with streams.file_of(given) as source:
+            self.running = subprocess.Popen(words, stdin=source, stdout=self.printed, stderr=self.said if is_quiet else None)
+
+    def end(self):
+        """What it printed, what it said, where that is kept, and its status, once it ends."""
+        status = self.running.wait()
+        with self.printed, self.said:
+            return streams.mapped(self.printed), streams.mapped(self.said)[:], status
+
+    def drop(self):
+        """Ends it at once."""
+        self.running.kill()
+        self.end()
+
+
+def context_in(printed):
+    """The entries of the context at the end of what is printed."""
+    return printed[printed.rfind(b"\n" + CONTEXT) + 1 + len(CONTEXT):]
+
+
+def renumbered(line, count, lines):
+    """A fault line with the numbers of the whole, of a piece that stands behind so many items and lines."""
+    def whole(found):
+        if found.group(1):
+            return b"%s %d" % (found.group(1), int(found.group(2)) + count)
+        return b"%s:%d" % (found.group(3), int(found.group(4)) + lines)
+    return NUMBERED.sub(whole, line)
+
+
+def last_line(printed):
+    """Where the last line begins and ends that isn't empty."""
+    end = len(printed)
+    while end and printed[end - 1] == ord("\n"):
+        end -= 1
+    return printed.rfind(b"\n", 0, end) + 1, end
 
 
 def items_in(lines):
     """How many of the lines aren't empty."""
-    return sum(1 for it in lines.split(b"\n") if it and it != b"\r")
+    every = lines.split(b"\n")
+    return len(every) - every.count(b"") - every.count(b"\r")
 
 
 def without(lines, numbers):

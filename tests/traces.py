@@ -5,6 +5,7 @@ import concurrent.futures
 import re
 import shutil
 import struct
+import subprocess
 import sys
 import tempfile
 
@@ -160,17 +161,40 @@ def in_pieces():
     return every + [[*it, "--json"] for it in every if it[0] in ("fields", "stats", "loss")]
 
 
-def pieces(place):
-    """Traces that are longer than a bundle, in a copy that takes less: what is printed is what one call prints, which is tried by another copy."""
-    small = place.root / "small"
+# What a copy has that takes less: a file, what stands there, and what stands there in its place. And what makes it go on one call after the other, and print by itself.
+SMALL = (("front/parts.py", "BUNDLE = 4_194_304", "BUNDLE = 12_000"), ("front/pieces.py", "BLOCK = 1 << 20", "BLOCK = 6_000"), ("front/pieces.py", "FIRST = 1 << 8", "FIRST = 3_000"),
+         ("front/pieces.py", "PRINTED = 1 << 24", "PRINTED = 20_000"), ("front/pieces.py", "SHARE = 1 << 18", "SHARE = 3_000"), ("front/pieces.py", "OBJECTS = 1 << 22", "OBJECTS = 20_000"),
+         ("front/bundles.py", "BLOCK = 4096", "BLOCK = 5"), ("front/pieces.py", "SHOWN = 2", "SHOWN = 0"))
+AHEAD, ALONE = ("front/pieces.py", "PROCESSORS = os.cpu_count() or 1", "PROCESSORS = 4"), (("front/pieces.py", "PROCESSORS = os.cpu_count() or 1", "PROCESSORS = 1"), ("front/streams.py", 'hasattr(os, "memfd_create")', "False"))
+
+
+def less(place, name, changes):
+    """bin/rohcfn of a copy that has these changes."""
+    copy = place.root / name
     for it in ("bin", "front", "docs"):
-        shutil.copytree(place.root / it, small / it)
-    (small / "crates" / "rohcfn" / "out").mkdir(parents=True)
-    (small / "crates" / "rohcfn" / "out" / "rohcfn").symlink_to(built().resolve())
-    for path, old, new in (("front/parts.py", "BUNDLE = 4_194_304", "BUNDLE = 12_000"), ("front/pieces.py", "BLOCK = 1 << 20", "BLOCK = 6_000"), ("front/pieces.py", "FIRST = 1 << 8", "FIRST = 3_000"), ("front/pieces.py", "PRINTED = 1 << 25", "PRINTED = 20_000"), ("front/pieces.py", "OBJECTS = 1 << 22", "OBJECTS = 20_000"), ("front/bundles.py", "BLOCK = 4096", "BLOCK = 5"), ("front/pieces.py", "SHOWN = 2", "SHOWN = 0")):
-        text = (small / path).read_text()
+        shutil.copytree(place.root / it, copy / it)
+    (copy / "crates" / "rohcfn" / "out").mkdir(parents=True)
+    (copy / "crates" / "rohcfn" / "out" / "rohcfn").symlink_to(built().resolve())
+    for path, old, new in changes:
+        text = (copy / path).read_text()
         check("the limits of the copy", text.count(old) == 1)
-        (small / path).write_text(text.replace(old, new))
+        (copy / path).write_text(text.replace(old, new))
+    return copy / "bin" / "rohcfn"
+
+
+def unwritten(place, command):
+    """What is printed in pieces, where it can't be written: a full disk is told, and a reader that is gone is not."""
+    for it in ("fields", "fields --json"):
+        for end, said in ((">/dev/full", "error: writing the output failed\n"), ("| head -n 1", "")):
+            call = 'set -o pipefail; "$0" %s tcp.profile --items good %s' % (it, end)
+            ran = subprocess.run(["bash", "-c", call, command], cwd=place.files, env=place.environment, capture_output=True, timeout=120, check=False)
+            seen = ran.returncode, ran.stdout.count(b"\n"), ran.stderr.decode()
+            check("in pieces, and not written: %s" % call, seen == (3, 0 if said else 1, said), seen)
+
+
+def pieces(place):
+    """Traces that are longer than a bundle, in copies that take less: what is printed is what one call prints, which is tried by another copy."""
+    small, alone = less(place, "small", [*SMALL, AHEAD]), less(place, "alone", [*SMALL, *ALONE])
     good = "".join((EXAMPLES / "data" / "tcp-client.items").read_text().splitlines(keepends=True)[:110])
     place.write("good", "\n" + good.replace("\n", "\r\n\n", 30))
     place.write("damaged", "\n\n".join(["480:" + "00" * 60 if at in (17, 50, 51, 90) else it for at, it in enumerate(good.splitlines())]))
@@ -195,18 +219,20 @@ def pieces(place):
     every = in_pieces()
     with concurrent.futures.ThreadPoolExecutor(max_workers=4) as pool:
         whole = pool.map(lambda words: place.call(*words, timeout=120), every)
-        parted = pool.map(lambda words: place.call(*words, command=small / "bin" / "rohcfn", timeout=120), every)
-        for words, due, seen in zip(every, whole, parted):
-            check("in pieces: %s" % words, seen == due, (seen, due))
-    seen = place.call("pack", "tcp.profile", "--items", "bad", command=small / "bin" / "rohcfn")
+        parted, singly = [pool.map(lambda words, it=it: place.call(*words, command=it, timeout=120), every) for it in (small, alone)]
+        for words, due, *seen in zip(every, whole, parted, singly):
+            check("in pieces: %s" % words, seen == [due, due], (seen, due))
+    for it in (small, alone):
+        unwritten(place, it)
+    seen = place.call("pack", "tcp.profile", "--items", "bad", command=small)
     lines = seen[1].splitlines()
     check("a bad line ends the call, with its number in the whole", seen[0] == 1 and lines[-1] == "items:%d: I1 bad item" % (good.count("\n") + 1) and len(lines) > 50, lines[-1:])
-    place.command = small / "bin" / "rohcfn"
+    place.command = small
     seen = place.on_terminal("pack", "tcp.profile", "--items", "good")
     said = [int(it) for it in re.findall(r"^rohcfn: (\d+) items are done$", seen[1], re.MULTILINE)]
     check("a terminal is told how far the call is", seen[0] == 0 and len(said) > 2 and said == sorted(said) and said[-1] == good.count("\n"), said)
     for words in (["loss", "--items", "good", "--robust", "1"], ["pack", "--items", "good", "--robust", "1"], ["advise", "--items", "good"]):
-        seen = place.call(words[0], "tcp.profile", *words[1:], command=small / "bin" / "rohcfn")
+        seen = place.call(words[0], "tcp.profile", *words[1:], command=small)
         check("no pieces: %s" % words, seen[0] in (0, 1), seen)
 
 

@@ -2,7 +2,7 @@
 import os
 import sys
 
-from .. import bundles, commands, diagnosis, parts
+from .. import bundles, commands, parts, streams
 from ..__main__ import ran
 from ..orders import PACKED, Usage, order_of
 from ..terminal import shown
@@ -47,7 +47,7 @@ def written(path, text):
     """Writes the page."""
     octets = text.encode("utf-8", "replace")
     if path == "-":
-        fault = diagnosis.fault_in(octets) if sys.stdout is not None else OSError(0, "it is closed")
+        fault = streams.fault_in(octets) if sys.stdout is not None else OSError(0, "it is closed")
         if fault is not None:
             raise parts.BadInput("standard output: %s" % fault.strerror, 3)
         return
