@@ -12,7 +12,7 @@ from tests.program import built
 
 PROGRAM = str(built())
 # answers rows on calls that no command shows
-ROWS = str(built("fn_rows"))
+ROWS = str(built("rows_calls"))
 ROUNDS = 15
 CALLS = 5
 MIB = 1024 * 1024

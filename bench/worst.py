@@ -1,7 +1,7 @@
 """Processor time and memory of the worst texts that are known, on the built program or on another that is given as an argument.
 
 Each text is within the limits. It is run once and has to end with status 0, within its bounds of time and memory. Those that print most go by files, too, through
-bin/rohcfn: there the time is that until the call ends, on a quiet machine. With a folder as the second argument what is printed is kept there, so that two programs
+bin/rohcfn: there the time is that until the call ends. With a folder as the second argument what is printed is kept there, so that two programs
 can be compared."""
 import itertools
 import os
@@ -270,7 +270,7 @@ def leaves(program):
 BOUNDS = {waiting: (1, 36), operands: (1, 45), steps: (1, 45), encodings: (2, 350), brackets: (3, 730), conditions: (30, 60), paths: (1, 60), collisions: (2, 60), sites: (1, 100), names: (1, 100), counts: (6, 60), rows: (1, 700), trends: (5, 110), wholes: (1, 40), others: (1, 40), levels: (1, 20), commented: (1, 20), leaves: (2, 20)}
 
 # the same of calls of bin/rohcfn with files
-FILED = {rows: (1, 100), pairs: (1, 100), many: (1, 100)}
+FILED = {rows: (4, 100), pairs: (3, 100), many: (4, 100)}
 
 
 def own():

@@ -2,7 +2,7 @@
 
 A library that is loaded before a program stands in for malloc and realloc. A row runs once, and nothing is refused to that run; at each growth a copy of the process
 goes on to which it is, so that what stands before it isn't done again for each. In the rows of `rohcfn` a growth is refused alone, and with all that come after it:
-the run must end with status 3, say that memory is out, and have printed no more than a front of the row's output. The rows of crates/fn_refusals/stdin make one
+the run must end with status 3, say that memory is out, and have printed no more than a front of the row's output. The rows of crates/rows_refusals/stdin make one
 call each; a growth is refused alone, in the call or before it. Before it the run must end with status 3; in it, the call must leave what it was given as it was
 and give the right answer when it is made again, or say again that memory is out where it is a receiver's. At last no growth is left to refuse, and the row's
 own output must come.
@@ -10,7 +10,7 @@ own output must come.
 Where a usage fault has a suggestion ("a similar subcommand exists"), the growths in which the library for the command line looks for one are hints, which are tried
 again: such a run may end as ever, with the whole text. These are counted apart. No other row may end as ever where a growth is refused.
 
-A drawing (fn_sketch) can't answer want of memory: where a growth is refused to it alone, the walk answers, and the row's own output must come. Each level that is
+A drawing (walk_guess) can't answer want of memory: where a growth is refused to it alone, the walk answers, and the row's own output must come. Each level that is
 drawn up grows one list, that of its fields, and nothing else in the rows of `rohcfn`. So each of these says how many levels are drawn up for it, and just so many
 growths may end so. In the rows of calls that draw, two growths in a row are refused as well: that of a drawing and the first one of the walk after it."""
 import concurrent.futures
@@ -421,12 +421,12 @@ def jobs(library):
     for name, words, text, part, status, suggests in usages():
         for count in (1, ALL):
             yield name, Row(library, "rohcfn", text, "", status, words=words, part=part, suggests=suggests), count
-    for call in (CRATES / "fn_refusals" / "stdin").read_text().splitlines():
+    for call in (CRATES / "rows_refusals" / "stdin").read_text().splitlines():
         if call and not call.startswith("#"):
             refused = REPEATED if call.startswith("feed ") else AGAIN
             drawn = None if call.startswith(DRAWING) else 0
             for count in (1, 2) if drawn is None else (1,):
-                yield call, Row(library, "fn_refusals", call + "\n", "right\n", 0, drawn, refused), count
+                yield call, Row(library, "rows_refusals", call + "\n", "right\n", 0, drawn, refused), count
 
 
 def main():

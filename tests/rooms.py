@@ -15,18 +15,18 @@ CASES, COUNTS = "## Where the cases of a type are told apart\n", "## What is pro
 COLUMNS = 3  # rows side by side in the table of counts
 # what is new, and the type that then has one case more, with its crate
 TYPES = [
-    ("operator in the text of a profile", "fn_tree", "Operator"),
-    ("operator of whole numbers", "fn_expr", "Operator"),
-    ("comparison", "fn_expr", "Comparison"),
-    ("library method", "fn_normal", "Library"),
-    ("kind of encoding", "fn_normal", "Encoding"),
-    ("kind of constraint", "fn_normal", "Constraint"),
-    ("part of a packet in which fields stand", "fn_normal", "Part"),
-    ("step of a plan", "fn_cert", "Step"),
-    ("node of a decision tree", "fn_cert", "Node"),
-    ("fault of a certificate", "fn_rules", "CheckFault"),
-    ("version of the line of flows", "fn_line", "LineVersion"),
-    ("form of an answer", "rohcfn_words", "Form"),
+    ("operator in the text of a profile", "text_tree", "Operator"),
+    ("operator of whole numbers", "sem_expr", "Operator"),
+    ("comparison", "sem_expr", "Comparison"),
+    ("library method", "sem_profile", "Library"),
+    ("kind of encoding", "sem_profile", "Encoding"),
+    ("kind of constraint", "sem_profile", "Constraint"),
+    ("part of a packet in which fields stand", "sem_profile", "Part"),
+    ("step of a plan", "cert_types", "Step"),
+    ("node of a decision tree", "cert_types", "Node"),
+    ("fault of a certificate", "cert_rules", "CheckFault"),
+    ("version of the line of flows", "walk_line", "LineVersion"),
+    ("form of an answer", "tool_words", "Form"),
 ]
 
 

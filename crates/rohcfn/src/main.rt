@@ -1,15 +1,15 @@
 //! Packs and unpacks headers by a profile in the ROHC formal notation.
 #![tactic(auto)]
 
-use rohcfn_input::bundle::push_shown;
-use rohcfn_input::counted::Uncounted;
-use rohcfn_input::status::{Failure, Status};
-use rohcfn_tool::program::run;
 use std::alloc::{AllocError, Global};
 use std::env::{Args, Env, FillError};
 use std::io::Eprint;
 use std::process::ExitCode;
 use std::{env, io};
+use tool_input::bundle::push_shown;
+use tool_input::counted::Uncounted;
+use tool_input::status::{Failure, Status};
+use tool_run::program::run;
 
 fn main(rt: HostRuntime) -> ExitCode {
     let alloc = rt.alloc();
@@ -78,7 +78,7 @@ fn shown(alloc: Global, text: &str) -> Result<String, AllocError> {
     Ok(shown)
 }
 
-// The words, in a list that tells want of memory.
+// The words, in a list that tells out of memory.
 fn words_of(alloc: Global, args: Args<Global>) -> Result<Vec<String>, AllocError> {
     // A loop, since `collect` goes on after a refused growth.
     let mut words = Vec::new(alloc);

@@ -2,7 +2,7 @@
 use Rattle.std.proofs.Common.{◌≡◌, subst, ℕ, List}
 use Rattle.std.specs.Prelude.{Option, None, Result, Ok}
 use Rattle.std.specs.declared.alloc.AllocError.{AllocError}
-use Rattle.fn_accepted.specs.Accepted.{Accepting}
+use Rattle.cert_accepted.specs.Accepted.{Accepting}
 use Rattle.rohcfn_c.specs.Opening.{IsRefused, Judges}
 
 pub not_opened : (top profile certificate line line_new : List ℕ) (said said_new : ℕ) (r : Result (Option Accepting) AllocError) → r ≡ Ok None → said ≡ 0 → Judges top profile certificate r line line_new said said_new →

@@ -1,4 +1,4 @@
-pub mod Told
+pub mod CallAnswer
 pub mod Lines
 pub mod Opening
 pub mod Steps

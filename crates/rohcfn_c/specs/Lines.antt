@@ -1,11 +1,11 @@
 -- Lines of text that are written to a caller's room.
 use Rattle.std.specs.Prelude.{◌≡◌, ℕ, min, List, [], ◌++◌, length, take, drop, codes, Some, None, Option}
-use Rattle.fn_normal.specs.declared.profile.Method.{Method}
-use Rattle.fn_session.specs.declared.refusal.PackRefusal.{PackRefusal}
-use Rattle.fn_session.specs.declared.refusal.PackRefusal.TheVariants as pack
-use Rattle.fn_session.specs.declared.refusal.UnpackRefusal.{UnpackRefusal}
-use Rattle.fn_session.specs.declared.refusal.UnpackRefusal.TheVariants as unpack
-use Rattle.rohcfn_names.specs.Names.{method_name, format_name}
+use Rattle.sem_profile.specs.declared.profile.Method.{Method}
+use Rattle.walk_session.specs.declared.refusal.PackRefusal.{PackRefusal}
+use Rattle.walk_session.specs.declared.refusal.PackRefusal.TheVariants as pack
+use Rattle.walk_session.specs.declared.refusal.UnpackRefusal.{UnpackRefusal}
+use Rattle.walk_session.specs.declared.refusal.UnpackRefusal.TheVariants as unpack
+use Rattle.tool_names.specs.Names.{method_name, format_name}
 use Rattle.rohcfn_c.specs.declared.opened.Last.{Last}
 use Rattle.rohcfn_c.specs.declared.opened.Last.TheVariants.{Nothing, Pack, Unpack}
 

@@ -2,16 +2,16 @@
 use Rattle.std.specs.Prelude.{◌≡◌, ◌≢◌, ◌<◌, ◌≤◌, ◌⊎◌, ℕ, List, [], Option, Some, None, Result, Ok, Err}
 use Rattle.std.specs.Str.{IsUtf8}
 use Rattle.std.specs.declared.alloc.AllocError.{AllocError}
-use Rattle.fn_cert.specs.declared.certificate.Version.TheVariants.{Two}
-use Rattle.fn_accepted.specs.Accepted.{Accepting}
-use Rattle.fn_session.specs.State.{State, new_flows, flow_limit}
-use Rattle.rohcfn_report.specs.declared.profile_and_certificate.Origin.{Origin}
-use Rattle.rohcfn_report.specs.declared.profile_and_certificate.Origin.TheVariants.{Given, Made}
-use Rattle.rohcfn_report.specs.Accepting.{AcceptsProfile, RefusesProfile}
+use Rattle.cert_types.specs.declared.certificate.Version.TheVariants.{Two}
+use Rattle.cert_accepted.specs.Accepted.{Accepting}
+use Rattle.walk_session.specs.State.{State, new_flows, flow_limit}
+use Rattle.tool_report.specs.declared.profile_and_certificate.Origin.{Origin}
+use Rattle.tool_report.specs.declared.profile_and_certificate.Origin.TheVariants.{Given, Made}
+use Rattle.tool_report.specs.Accepting.{AcceptsProfile, RefusesProfile}
 use Rattle.rohcfn_c.specs.declared.opened.Opened.{Opened}
 use Rattle.rohcfn_c.specs.declared.opened.Last.TheVariants.{Nothing}
-use Rattle.rohcfn_c.specs.declared.told.Told.{Told}
-use Rattle.rohcfn_c.specs.declared.told.Told.TheVariants.{Done, NoMemory, Closed, NoRoom, Refused, BadBits, HeaderLength, Asked, NoFormat, Truncated, RefusedPacket, NoSuch, NoReach, Contexts}
+use Rattle.rohcfn_c.specs.declared.answer.CallAnswer.{CallAnswer}
+use Rattle.rohcfn_c.specs.declared.answer.CallAnswer.TheVariants.{Done, NoMemory, Closed, NoRoom, Refused, BadBits, HeaderLength, Asked, NoFormat, Truncated, RefusedPacket, NoSuch, NoReach, Contexts}
 use Rattle.rohcfn_c.specs.Lines.{IsCut}
 
 -- where the certificate comes from: no octets stand for one of version 2 that is made
@@ -39,7 +39,7 @@ Judges top profile certificate (Ok (Some a)) line line_new said said_new = IsAcc
 Judges top profile certificate (Ok None) line line_new said said_new = said ≡ 0 → IsRefused top profile certificate line line_new said_new
 Judges top profile certificate (Err e) line line_new said said_new = (line_new ≡ line) × (said_new ≡ said)
 
-abbrev pub IsPutIn : Accepting → ℕ → Told → Option Opened → Type 0
+abbrev pub IsPutIn : Accepting → ℕ → CallAnswer → Option Opened → Type 0
 IsPutIn a flows Done new = new ≡ Some (new_session a flows)
 IsPutIn a flows NoMemory new = new ≡ None
 IsPutIn a flows told new = ⊥
@@ -51,7 +51,7 @@ pub record IsOpened (top profile certificate : List ℕ) (flows : ℕ) (o : Opti
   pub new_is : o ≡ Some (new_session accepted flows)
 
 -- What open answers: done, and the session is new by the accepted profile; or the handle is closed, since the profile is refused, there can't be so many flows, or memory ran out.
-abbrev pub Opens : List ℕ → List ℕ → List ℕ → ℕ → Told → Option Opened → List ℕ → List ℕ → ℕ → Type 0
+abbrev pub Opens : List ℕ → List ℕ → List ℕ → ℕ → CallAnswer → Option Opened → List ℕ → List ℕ → ℕ → Type 0
 Opens top profile certificate flows Done new line line_new said = IsOpened top profile certificate flows new
 Opens top profile certificate flows Refused new line line_new said = IsRefused top profile certificate line line_new said × (new ≡ None)
 Opens top profile certificate flows NoSuch new line line_new said = ((flows ≡ 0) ⊎ (flow_limit < flows)) × (new ≡ None)

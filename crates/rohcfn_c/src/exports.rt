@@ -2,14 +2,14 @@
 
 ghost use Rattle.std.specs.Prelude.{◌≡◌};
 ghost use Rattle.std.specs.declared.option.Option.TheVariants.{None};
-ghost use Rattle.rohcfn_c.specs.Told.{code_of};
+ghost use Rattle.rohcfn_c.specs.CallAnswer.{code_of};
 ghost use Rattle.rohcfn_c.specs.Opening.{Opens};
 ghost use Rattle.rohcfn_c.specs.Calls as spec;
 
+use crate::answer::CallAnswer;
 use crate::handle::Handle;
 use crate::opening::open;
 use crate::steps::{Counts, asked, contexts, most, pack, reset, robust, unpack, why};
-use crate::told::Told;
 use std::alloc::Global;
 
 /// Opens a session of so many flows by the profile with this top, and its certificate; with no octets for that it is made. What the handle held is closed. `said`
@@ -25,7 +25,7 @@ pub extern "C" fn rohcfn_open(
     line: &mut [u8],
     said: &mut usize,
 ) -> i32
-    ensures { (told : Told) × (result ≡ code_of told) × Opens top.now profile.now certificate.now flows told handle.new.session line.old line.new said.new }
+    ensures { (told : CallAnswer) × (result ≡ code_of told) × Opens top.now profile.now certificate.now flows told handle.new.session line.old line.new said.new }
 {
     let told = open(alloc, top, profile, certificate, flows, handle, line, said);
     told.code()
@@ -43,7 +43,7 @@ pub extern "C" fn rohcfn_pack(
     packed: &mut [u8],
     packed_bits: &mut usize,
 ) -> i32
-    ensures { (told : Told) × (result ≡ code_of told) × spec.Packs flow header.now header_bits asked.now handle.old.session handle.new.session packed.old packed.new packed_bits.old packed_bits.new told }
+    ensures { (told : CallAnswer) × (result ≡ code_of told) × spec.Packs flow header.now header_bits asked.now handle.old.session handle.new.session packed.old packed.new packed_bits.old packed_bits.new told }
 {
     let told = pack_told(
         alloc,
@@ -67,11 +67,11 @@ fn pack_told(
     asked: &[u8],
     packed: &mut [u8],
     packed_bits: &mut usize,
-) -> Told
+) -> CallAnswer
     ensures { spec.Packs flow header.now header_bits asked.now handle.old.session handle.new.session packed.old packed.new packed_bits.old packed_bits.new result }
 {
     let Some(mut opened) = handle.take(alloc) else {
-        return Told::Closed;
+        return CallAnswer::Closed;
     };
     let told = pack(
         alloc,
@@ -99,7 +99,7 @@ pub extern "C" fn rohcfn_unpack(
     asked: &mut [u8],
     counts: &mut Counts,
 ) -> i32
-    ensures { (told : Told) × (result ≡ code_of told) × spec.Unpacks flow packed.now packed_bits handle.old.session handle.new.session header.old header.new asked.old asked.new counts.old counts.new told }
+    ensures { (told : CallAnswer) × (result ≡ code_of told) × spec.Unpacks flow packed.now packed_bits handle.old.session handle.new.session header.old header.new asked.old asked.new counts.old counts.new told }
 {
     let told = unpack_told(
         alloc,
@@ -123,11 +123,11 @@ fn unpack_told(
     header: &mut [u8],
     asked: &mut [u8],
     counts: &mut Counts,
-) -> Told
+) -> CallAnswer
     ensures { spec.Unpacks flow packed.now packed_bits handle.old.session handle.new.session header.old header.new asked.old asked.new counts.old counts.new result }
 {
     let Some(mut opened) = handle.take(alloc) else {
-        return Told::Closed;
+        return CallAnswer::Closed;
     };
     let told = unpack(
         alloc,
@@ -146,17 +146,17 @@ fn unpack_told(
 /// Both ends of a flow begin anew.
 #[unsafe(no_mangle)]
 pub extern "C" fn rohcfn_reset(alloc: Global, handle: &mut Handle, flow: usize) -> i32
-    ensures { (told : Told) × (result ≡ code_of told) × spec.Resets flow handle.old.session handle.new.session told }
+    ensures { (told : CallAnswer) × (result ≡ code_of told) × spec.Resets flow handle.old.session handle.new.session told }
 {
     let told = reset_told(alloc, handle, flow);
     told.code()
 }
 
-fn reset_told(alloc: Global, handle: &mut Handle, flow: usize) -> Told
+fn reset_told(alloc: Global, handle: &mut Handle, flow: usize) -> CallAnswer
     ensures { spec.Resets flow handle.old.session handle.new.session result }
 {
     let Some(mut opened) = handle.take(alloc) else {
-        return Told::Closed;
+        return CallAnswer::Closed;
     };
     let told = reset(alloc, &mut opened, flow);
     handle.put(opened);
@@ -166,17 +166,17 @@ fn reset_told(alloc: Global, handle: &mut Handle, flow: usize) -> Told
 /// From here on so many packets of a flow may be lost in a row.
 #[unsafe(no_mangle)]
 pub extern "C" fn rohcfn_robust(alloc: Global, handle: &mut Handle, flow: usize, lost: u8) -> i32
-    ensures { (told : Told) × (result ≡ code_of told) × spec.Endures flow lost handle.old.session handle.new.session told }
+    ensures { (told : CallAnswer) × (result ≡ code_of told) × spec.Endures flow lost handle.old.session handle.new.session told }
 {
     let told = robust_told(alloc, handle, flow, lost);
     told.code()
 }
 
-fn robust_told(alloc: Global, handle: &mut Handle, flow: usize, lost: u8) -> Told
+fn robust_told(alloc: Global, handle: &mut Handle, flow: usize, lost: u8) -> CallAnswer
     ensures { spec.Endures flow lost handle.old.session handle.new.session result }
 {
     let Some(mut opened) = handle.take(alloc) else {
-        return Told::Closed;
+        return CallAnswer::Closed;
     };
     let told = robust(alloc, &mut opened, flow, lost);
     handle.put(opened);
@@ -191,18 +191,18 @@ pub extern "C" fn rohcfn_contexts(
     flow: usize,
     count: &mut usize,
 ) -> i32
-    ensures { (told : Told) × (result ≡ code_of told) × (handle.new.session ≡ handle.old.session) × spec.CountsHeld flow handle.old.session count.old count.new told }
+    ensures { (told : CallAnswer) × (result ≡ code_of told) × (handle.new.session ≡ handle.old.session) × spec.CountsHeld flow handle.old.session count.old count.new told }
 {
     let told = contexts_told(alloc, handle, flow, count);
     told.code()
 }
 
-fn contexts_told(alloc: Global, handle: &mut Handle, flow: usize, count: &mut usize) -> Told
+fn contexts_told(alloc: Global, handle: &mut Handle, flow: usize, count: &mut usize) -> CallAnswer
     ensures stays { handle.new.session ≡ handle.old.session }
     ensures told { spec.CountsHeld flow handle.old.session count.old count.new result }
 {
     let Some(opened) = handle.take(alloc) else {
-        return Told::Closed;
+        return CallAnswer::Closed;
     };
     let told = contexts(&opened, flow, count);
     handle.put(opened);
@@ -217,22 +217,27 @@ pub extern "C" fn rohcfn_most(
     header: &mut usize,
     packet: &mut usize,
 ) -> i32
-    ensures { (told : Told) × (result ≡ code_of told) × (handle.new.session ≡ handle.old.session) × spec.TellsMost handle.old.session header.new packet.new told }
+    ensures { (told : CallAnswer) × (result ≡ code_of told) × (handle.new.session ≡ handle.old.session) × spec.TellsMost handle.old.session header.new packet.new told }
 {
     let told = most_told(alloc, handle, header, packet);
     told.code()
 }
 
-fn most_told(alloc: Global, handle: &mut Handle, header: &mut usize, packet: &mut usize) -> Told
+fn most_told(
+    alloc: Global,
+    handle: &mut Handle,
+    header: &mut usize,
+    packet: &mut usize,
+) -> CallAnswer
     ensures stays { handle.new.session ≡ handle.old.session }
     ensures told { spec.TellsMost handle.old.session header.new packet.new result }
 {
     let Some(opened) = handle.take(alloc) else {
-        return Told::Closed;
+        return CallAnswer::Closed;
     };
     most(&opened, header, packet);
     handle.put(opened);
-    Told::Done
+    CallAnswer::Done
 }
 
 /// The name of an asked field, by its place among them, and how many bits its values have.
@@ -245,7 +250,7 @@ pub extern "C" fn rohcfn_asked(
     said: &mut usize,
     bits: &mut usize,
 ) -> i32
-    ensures { (told : Told) × (result ≡ code_of told) × (handle.new.session ≡ handle.old.session) × spec.TellsAsked index handle.old.session name.old name.new said.old said.new bits.old bits.new told }
+    ensures { (told : CallAnswer) × (result ≡ code_of told) × (handle.new.session ≡ handle.old.session) × spec.TellsAsked index handle.old.session name.old name.new said.old said.new bits.old bits.new told }
 {
     let told = asked_told(alloc, handle, index, name, said, bits);
     told.code()
@@ -258,12 +263,12 @@ fn asked_told(
     name: &mut [u8],
     said: &mut usize,
     bits: &mut usize,
-) -> Told
+) -> CallAnswer
     ensures stays { handle.new.session ≡ handle.old.session }
     ensures told { spec.TellsAsked index handle.old.session name.old name.new said.old said.new bits.old bits.new result }
 {
     let Some(opened) = handle.take(alloc) else {
-        return Told::Closed;
+        return CallAnswer::Closed;
     };
     let told = asked(&opened, index, name, said, bits);
     handle.put(opened);
@@ -278,22 +283,22 @@ pub extern "C" fn rohcfn_why(
     line: &mut [u8],
     said: &mut usize,
 ) -> i32
-    ensures { (told : Told) × (result ≡ code_of told) × (handle.new.session ≡ handle.old.session) × spec.TellsWhy handle.old.session line.old line.new said.new told }
+    ensures { (told : CallAnswer) × (result ≡ code_of told) × (handle.new.session ≡ handle.old.session) × spec.TellsWhy handle.old.session line.old line.new said.new told }
 {
     let told = why_told(alloc, handle, line, said);
     told.code()
 }
 
-fn why_told(alloc: Global, handle: &mut Handle, line: &mut [u8], said: &mut usize) -> Told
+fn why_told(alloc: Global, handle: &mut Handle, line: &mut [u8], said: &mut usize) -> CallAnswer
     ensures stays { handle.new.session ≡ handle.old.session }
     ensures told { spec.TellsWhy handle.old.session line.old line.new said.new result }
 {
     let Some(opened) = handle.take(alloc) else {
-        return Told::Closed;
+        return CallAnswer::Closed;
     };
     let told = match why(alloc, &opened, line, said) {
-        Ok(()) => Told::Done,
-        Err(_) => Told::NoMemory,
+        Ok(()) => CallAnswer::Done,
+        Err(_) => CallAnswer::NoMemory,
     };
     handle.put(opened);
     told

@@ -1,6 +1,7 @@
 //! The calls for C: several flows of an accepted profile behind a handle. clients/rohcfn_c.h has what a caller owes.
 #![tactic(auto)]
 
+mod answer;
 mod exports;
 mod handle;
 mod line;
@@ -8,4 +9,3 @@ mod loose;
 mod opened;
 mod opening;
 mod steps;
-mod told;

@@ -4,10 +4,10 @@ ghost use Rattle.std.specs.Prelude.{◌≡◌, ◌++◌, IfOk, codes, string_byt
 ghost use Rattle.rohcfn_c.specs.Lines as spec;
 
 use crate::opened::Last;
-use fn_normal::Method;
-use fn_session::{PackRefusal, UnpackRefusal};
-use rohcfn_names::names::{format_name, method_name};
+use sem_profile::Method;
 use std::alloc::{AllocError, Global};
+use tool_names::names::{format_name, method_name};
+use walk_session::{PackRefusal, UnpackRefusal};
 
 /// Copies as much of a text to the start of the room as fits, and tells its whole length.
 pub(crate) fn cut(text: &[u8], room: &mut [u8], said: &mut usize)

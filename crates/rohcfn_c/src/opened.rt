@@ -1,6 +1,6 @@
 //! What a handle leads to.
 
-use fn_session::{PackRefusal, Session, UnpackRefusal};
+use walk_session::{PackRefusal, Session, UnpackRefusal};
 
 /// Why a call packed or unpacked nothing.
 #[derive(Clone, Copy)]

@@ -4,15 +4,15 @@ ghost use Rattle.std.specs.Prelude.{◌≡◌, IfOk};
 ghost use Rattle.std.specs.declared.option.Option.TheVariants.{None};
 ghost use Rattle.rohcfn_c.specs.Opening as spec;
 
+use crate::answer::CallAnswer;
 use crate::handle::Handle;
 use crate::line::cut;
 use crate::opened::{Last, Opened};
-use crate::told::Told;
-use fn_accepted::Accepted;
-use fn_cert::Version;
-use fn_session::Session;
-use rohcfn_report::profile_and_certificate::{Judged, Origin, accept};
+use cert_accepted::Accepted;
+use cert_types::Version;
 use std::alloc::{AllocError, Global};
+use tool_report::profile_and_certificate::{Judged, Origin, accept};
+use walk_session::Session;
 
 /// The greatest count of flows of a session.
 const FLOW_LIMIT: usize = 64;
@@ -27,18 +27,18 @@ pub(crate) fn open(
     handle: &mut Handle,
     line: &mut [u8],
     said: &mut usize,
-) -> Told
+) -> CallAnswer
     ensures { spec.Opens top.now profile.now certificate.now flows result handle.new.session line.old line.new said.new }
 {
     drop(handle.take(alloc));
     *said = 0;
     if flows == 0 || flows > FLOW_LIMIT {
-        return Told::NoSuch;
+        return CallAnswer::NoSuch;
     }
     match judge(alloc, top, profile, certificate, line, said) {
         Ok(Some(accepted)) => put(alloc, accepted, flows as u8, handle),
-        Ok(None) => Told::Refused,
-        Err(_) => Told::NoMemory,
+        Ok(None) => CallAnswer::Refused,
+        Err(_) => CallAnswer::NoMemory,
     }
 }
 
@@ -77,16 +77,16 @@ fn origin_of(certificate: &[u8]) -> Origin<'_>
 }
 
 /// Puts a new session into the handle.
-fn put(alloc: Global, accepted: Accepted, flows: u8, handle: &mut Handle) -> Told
+fn put(alloc: Global, accepted: Accepted, flows: u8, handle: &mut Handle) -> CallAnswer
     requires { handle.old.session ≡ None }
     ensures { spec.IsPutIn accepted flows result handle.new.session }
 {
     match opened(alloc, accepted, flows) {
         Ok(opened) => {
             handle.put(opened);
-            Told::Done
+            CallAnswer::Done
         }
-        Err(_) => Told::NoMemory,
+        Err(_) => CallAnswer::NoMemory,
     }
 }
 

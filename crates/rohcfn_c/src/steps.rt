@@ -3,13 +3,13 @@
 ghost use Rattle.std.specs.Prelude.{◌≡◌};
 ghost use Rattle.rohcfn_c.specs.Steps as spec;
 
+use crate::answer::CallAnswer;
 use crate::line::{cut, why_text};
 use crate::opened::{Last, Opened};
-use crate::told::Told;
-use fn_profile::AskedField;
-use fn_session::most::{most_header, most_packet};
-use fn_session::{PackRefusal, Taken, UnpackRefusal};
+use sem_profile::AskedField;
 use std::alloc::{AllocError, Global};
+use walk_session::most::{most_header, most_packet};
+use walk_session::{PackRefusal, Taken, UnpackRefusal};
 
 /// Packs one item of a flow.
 pub(crate) fn pack(
@@ -21,7 +21,7 @@ pub(crate) fn pack(
     asked: &[u8],
     packed: &mut [u8],
     packed_bits: &mut usize,
-) -> Told
+) -> CallAnswer
     ensures { spec.PackTold opened.old opened.new flow header.now header_bits asked.now packed.old packed.new packed_bits.old packed_bits.new result }
 {
     match opened
@@ -30,12 +30,12 @@ pub(crate) fn pack(
     {
         Ok(bits) => {
             *packed_bits = bits;
-            Told::Done
+            CallAnswer::Done
         }
         Err(refusal) => {
             *packed_bits = bits_of(refusal, *packed_bits);
             opened.last = Last::Pack(refusal);
-            Told::of_pack(refusal)
+            CallAnswer::of_pack(refusal)
         }
     }
 }
@@ -76,7 +76,7 @@ pub(crate) fn unpack(
     header: &mut [u8],
     asked: &mut [u8],
     counts: &mut Counts,
-) -> Told
+) -> CallAnswer
     ensures { spec.UnpackTold opened.old opened.new flow packed.now packed_bits header.old header.new asked.old asked.new counts.old counts.new result }
 {
     match opened
@@ -85,12 +85,12 @@ pub(crate) fn unpack(
     {
         Ok(taken) => {
             *counts = counts_of(taken);
-            Told::Done
+            CallAnswer::Done
         }
         Err(refusal) => {
             *counts = counts_told(refusal, *counts);
             opened.last = Last::Unpack(refusal);
-            Told::of_unpack(refusal)
+            CallAnswer::of_unpack(refusal)
         }
     }
 }
@@ -120,37 +120,37 @@ fn counts_told(refusal: UnpackRefusal, before: Counts) -> Counts
 }
 
 /// Both ends of a flow begin anew.
-pub(crate) fn reset(alloc: Global, opened: &mut Opened, flow: usize) -> Told
+pub(crate) fn reset(alloc: Global, opened: &mut Opened, flow: usize) -> CallAnswer
     ensures { spec.ResetTold opened.old opened.new flow result }
 {
     if opened.session.reset(alloc, flow) {
-        Told::Done
+        CallAnswer::Done
     } else {
-        Told::NoSuch
+        CallAnswer::NoSuch
     }
 }
 
 /// From here on so many packets of a flow may be lost in a row.
-pub(crate) fn robust(alloc: Global, opened: &mut Opened, flow: usize, lost: u8) -> Told
+pub(crate) fn robust(alloc: Global, opened: &mut Opened, flow: usize, lost: u8) -> CallAnswer
     ensures { spec.RobustTold opened.old opened.new flow lost result }
 {
     match opened.session.endure(alloc, flow, lost) {
-        Ok(true) => Told::Done,
-        Ok(false) => Told::NoSuch,
-        Err(_) => Told::NoMemory,
+        Ok(true) => CallAnswer::Done,
+        Ok(false) => CallAnswer::NoSuch,
+        Err(_) => CallAnswer::NoMemory,
     }
 }
 
 /// How many contexts a receiver of a flow may hold.
-pub(crate) fn contexts(opened: &Opened, flow: usize, count: &mut usize) -> Told
+pub(crate) fn contexts(opened: &Opened, flow: usize, count: &mut usize) -> CallAnswer
     ensures { spec.ContextsTold opened.now flow count.old count.new result }
 {
     match opened.session.held(flow) {
         Some(held) => {
             *count = held;
-            Told::Done
+            CallAnswer::Done
         }
-        None => Told::NoSuch,
+        None => CallAnswer::NoSuch,
     }
 }
 
@@ -169,16 +169,16 @@ pub(crate) fn asked(
     name: &mut [u8],
     said: &mut usize,
     bits: &mut usize,
-) -> Told
+) -> CallAnswer
     ensures { spec.AskedTold opened.now index name.old name.new said.old said.new bits.old bits.new result }
 {
     match opened.session.accepted().profile().asked().get(index) {
         Some(field) => {
             cut(field.name.as_str().as_bytes(), name, said);
             *bits = length_of(field);
-            Told::Done
+            CallAnswer::Done
         }
-        None => Told::NoSuch,
+        None => CallAnswer::NoSuch,
     }
 }
 

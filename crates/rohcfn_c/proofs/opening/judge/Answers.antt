@@ -1,5 +1,5 @@
 use Rattle.std.proofs.Common.{◌≡◌, ◌∙◌, rules, subst, string_bytes}
-use Rattle.rohcfn_report.specs.Accepting.{JudgesOctets, RefusesProfile}
+use Rattle.tool_report.specs.Accepting.{JudgesOctets, RefusesProfile}
 use Rattle.rohcfn_c.specs.Lines.{IsCut}
 use Rattle.rohcfn_c.specs.Opening.{told_why}
 use Rattle.rohcfn_c.proofs.opening.judge.Goals as goal

@@ -1,0 +1,57 @@
+-- Where a walk fills a method (docs/DEFINITIONS.md, The steps of a walk).
+use Rattle.std.specs.Prelude.{◌≡◌, ℕ, ◌+◌, ◌<◌, ◌≤◌, List, length, slice_get, Some}
+use Rattle.sem_context.specs.Entries.{bits_at}
+use Rattle.sem_filling.specs.declared.filling.Filling.{Filling, out-Filling}
+use Rattle.sem_expr.specs.declared.expr.Expr.{Expr}
+use Rattle.sem_filling.specs.Bounded.{sizes_at}
+use Rattle.sem_filling.specs.Fits.{Fits, format_at}
+use Rattle.sem_filling.specs.Ready.{ArgumentsLieAt}
+use Rattle.sem_profile.specs.declared.profile.Encoding.TheVariants as encoding
+use Rattle.sem_profile.specs.declared.profile.Field.{Field}
+use Rattle.sem_profile.specs.declared.profile.Format.{Format}
+use Rattle.sem_profile.specs.declared.profile.Method.{Method}
+use Rattle.sem_profile.specs.Limits.{Chain}
+use Rattle.sem_profile.specs.Uses.{used_graph}
+use Rattle.cert_rules.specs.Reading.{start_slots}
+use Rattle.walk_steps.specs.Partial.{Reached}
+use Rattle.walk_steps.specs.declared.scene.Scene.{Scene}
+use Rattle.cert_accepted.specs.declared.place.Place.{Place}
+
+-- the method is one of the profile, and its arguments lie in the ranges of its parameters
+pub record Stands (place : Place) : Type 0 where
+  pub within : place.method < length place.accepted.now.profile.methods
+  pub lie : ArgumentsLieAt place.accepted.now.profile place.method place.arguments.now
+
+-- no chain of calls from the method has more methods, itself among them
+abbrev pub HasDepth : Place → ℕ → Type 0
+HasDepth place depth = (j n : ℕ) → Chain (used_graph place.accepted.now.profile.methods) place.method n j → n ≤ depth
+
+-- the scene is that of a format of the method
+pub record IsSceneOf (place : Place) (n : ℕ) (scene : Scene) : Type 0 where
+  pub profile_is : scene.profile.now ≡ place.accepted.now.profile
+  pub context_is : scene.context.now ≡ place.context.now
+  pub method_is : scene.method ≡ place.method
+  pub format_is : scene.format ≡ n
+  pub path_is : scene.path.now ≡ place.path.now
+
+-- the level is that of the format at the start of a walk
+pub record IsAtStart (place : Place) (n : ℕ) (l : Reached) : Type 0 where
+  pub format_is : format_at place.accepted.now.profile.methods place.method n ≡ Some l.format
+  pub sizes_are : sizes_at place.accepted.now.profile.sizes place.method n ≡ Some l.sizes
+  pub args_are : l.args ≡ place.arguments.now
+  pub slots_are : l.slots ≡ start_slots l.format.listing 0 l.format.fields
+
+-- no filling of the format fits here
+abbrev pub NeverFits : Place → ℕ → Type 0
+NeverFits place n = (f : Filling) → Fits place.accepted.now.profile.methods (bits_at place.context.now) place.method place.arguments.now place.path.now f → (out-Filling f).format ≡ n → ⊥
+
+-- a method that is called has chains of fewer methods than so many, which are two or more
+pub record IsShallower (methods : List Method) (j n : ℕ) : Type 0 where
+  pub least : 2 ≤ n
+  pub below : (i m : ℕ) → Chain (used_graph methods) j m i → m + 1 ≤ n
+
+-- Where no chain of calls from a method has more than so many methods, a method that a field of one of its formats calls has shorter ones.
+abbrev pub CallsAreShallower : Type 0
+CallsAreShallower = (methods : List Method) (k n : ℕ) → ((j m : ℕ) → Chain (used_graph methods) k m j → m ≤ n) →
+    (method : Method) (f i j : ℕ) (format : Format) (d : Field) (es : List Expr) → slice_get methods k ≡ Some method → slice_get method.formats f ≡ Some format →
+    slice_get format.fields i ≡ Some d → d.encoding ≡ encoding.Call j es → IsShallower methods j n

@@ -1,0 +1,182 @@
+//! A profile with a certificate that is valid for it.
+
+ghost use Rattle.std.specs.Prelude.{◌≡◌, drop, length, slice_get, IfOk};
+ghost use Rattle.sem_context.specs.Entries.{bits_at};
+ghost use Rattle.cert_accepted.specs.Accepted.{IsAccepted, IsDeterminate, formats_of};
+ghost use Rattle.cert_rules.specs.Trees.{references};
+ghost use Rattle.cert_tables.specs.Kept.{AreTables};
+ghost use Rattle.cert_tables.specs.Picked.{picks};
+ghost use Rattle.cert_tables.specs.Tables.{entries_of};
+
+use cert_compiled::CompiledPlans;
+use cert_tables::{Picked, Tables};
+use cert_types::Certificate;
+use sem_bits::Cursor;
+use sem_context::Context;
+use sem_profile::{Format, Method, Profile};
+use sqlite_items::Items;
+use std::alloc::{AllocError, Global};
+use std::marker::Model;
+
+/// A profile with a certificate that is valid for it. `check` of cert_check makes one.
+#[derive(Drop)]
+pub struct Accepted {
+    profile: Profile,
+    certificate: Certificate,
+    counts: Items<u64>,
+    spans: Items<Items<u64>>,
+    tables: Tables,
+    compiled: CompiledPlans,
+}
+
+impl Model for Accepted {
+    ghost use Rattle.cert_accepted.specs.Accepted.{Accepting, IsAccepted};
+    ghost use Rattle.cert_tables.specs.Kept.{AreTables};
+    ghost use Rattle.sem_expr.specs.contracts.expr.Expr as expr;
+    ghost use Rattle.sem_expr.specs.contracts.expr.Cond as cond;
+    ghost use Rattle.std.specs.Coded.{codes};
+
+    ghost Value = { Accepting };
+
+    ghost coded = { Prim.hlevel (codes, expr.the_row.coded, cond.the_row.coded) };
+
+    ghost view = { λ a. record { profile = a.profile; certificate = a.certificate; counts = a.counts; spans = a.spans } };
+
+    ghost invariant = { λ a. IsAccepted (record { profile = a.profile; certificate = a.certificate; counts = a.counts; spans = a.spans }) × AreTables a.certificate.methods a.tables };
+}
+
+impl Accepted {
+    /// The profile with the certificate, where this is valid for it, with the numbers of its candidates, its trees as tables, and its plans made short.
+    pub fn of(
+        profile: Profile,
+        certificate: Certificate,
+        counts: Items<u64>,
+        spans: Items<Items<u64>>,
+        tables: Tables,
+        compiled: CompiledPlans,
+    ) -> Accepted
+        requires accepted { IsAccepted (record { profile = profile; certificate = certificate; counts = counts; spans = spans }) }
+        requires tables { AreTables certificate.methods tables }
+        ensures profile { result.profile ≡ profile }
+        ensures certificate { result.certificate ≡ certificate }
+    {
+        Accepted {
+            profile,
+            certificate,
+            counts,
+            spans,
+            tables,
+            compiled,
+        }
+    }
+
+    /// The profile that was checked.
+    pub fn profile(&self) -> &Profile
+        ensures { result.now ≡ self.now.profile }
+    {
+        &self.profile
+    }
+
+    /// The certificate that was checked.
+    pub fn certificate(&self) -> &Certificate
+        ensures { result.now ≡ self.now.certificate }
+    {
+        &self.certificate
+    }
+
+    /// For each method the number of its candidates, the greatest of 64 bits where it is above that.
+    pub fn counts(&self) -> &[u64]
+        ensures { result.now ≡ self.now.counts }
+    {
+        self.counts.as_slice()
+    }
+
+    /// For each method the numbers of candidates of its formats, each the greatest of 64 bits where it is above that.
+    pub fn spans(&self) -> &[Items<u64>]
+        ensures { result.now ≡ self.now.spans }
+    {
+        self.spans.as_slice()
+    }
+
+    /// Where the method's tree leads in the context and below the path, under these arguments and for the bits at the cursor's place, by the tables. The error
+    /// is out of memory, for the path of a field that is tested.
+    pub fn pick(
+        &self,
+        alloc: Global,
+        method: usize,
+        context: &Context,
+        path: &str,
+        arguments: &[i128],
+        cursor: &Cursor<'_>,
+    ) -> Result<Picked, AllocError>
+        ensures { IfOk result (λ p. p ≡ picks self.now.certificate.methods method (references (bits_at context.now) path.now (formats_of (slice_get self.now.profile.methods method))) arguments.now cursor.now.left) }
+    {
+        self.pick_ahead(alloc, method, context, path, arguments, cursor, 0)
+    }
+
+    /// The same for the bits so many places after the cursor's.
+    #[inline(always)]
+    pub fn pick_ahead(
+        &self,
+        alloc: Global,
+        method: usize,
+        context: &Context,
+        path: &str,
+        arguments: &[i128],
+        cursor: &Cursor<'_>,
+        from: usize,
+    ) -> Result<Picked, AllocError>
+        ensures { IfOk result (λ p. p ≡ picks self.now.certificate.methods method (references (bits_at context.now) path.now (formats_of (slice_get self.now.profile.methods method))) arguments.now (drop from cursor.now.left)) }
+    {
+        let formats = formats_of(self.profile.methods(), method);
+        self.tables.pick(
+            alloc,
+            &self.certificate,
+            method,
+            context,
+            path,
+            formats,
+            arguments,
+            cursor,
+            from,
+        )
+    }
+
+    /// How many entries the tables of all trees have together. It takes no memory.
+    pub fn table_entries(&self) -> u32
+        ensures { result ≡ length (entries_of self.now.certificate.methods) }
+    {
+        self.tables.count(&self.certificate)
+    }
+
+    /// What shortens the way of who draws fillings up and judges them. Nothing is promised of it.
+    pub fn compiled(&self) -> &CompiledPlans {
+        &self.compiled
+    }
+
+    /// A law of what is accepted: the certificate is valid for the profile.
+    pub fn keeps(&self)
+        ensures { IsAccepted self.now }
+    {
+        let _ = &self.profile;
+    }
+
+    /// A law of what is accepted: in every context and for all bits at most one filling has its packed bits at their front, of the top and of every method
+    /// under given arguments and at a path.
+    pub fn determinate(&self)
+        ensures { IsDeterminate self.now }
+    {
+        self.keeps();
+        self.profile.keeps();
+    }
+}
+
+/// The formats of a method, none where there is no such method.
+fn formats_of(methods: &[Method], method: usize) -> &[Format]
+    ensures { result.now ≡ formats_of (slice_get methods.now method) }
+{
+    match methods.get(method) {
+        Some(found) => found.formats.as_slice(),
+        None => &[],
+    }
+}

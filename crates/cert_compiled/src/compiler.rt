@@ -1,0 +1,78 @@
+//! From plans to fewer operations, for who draws fillings up and has them judged.
+
+use crate::operations::{CompiledPlan, Operations};
+use crate::steps::Shortened;
+use cert_types::{Direction, FormatPlans, MethodPlans, Step};
+use sem_profile::{Format, Method};
+use sqlite_items::{Items, at};
+use std::alloc::{AllocError, Global};
+
+/// For each method the operations of its formats, as far as these have plans. Nothing is promised of them: who follows them judges what he finds. The error is want
+/// of memory.
+pub(crate) fn plan_acts(
+    alloc: Global,
+    methods: &[Method],
+    entries: &[Option<MethodPlans>],
+) -> Result<Items<Items<CompiledPlan>>, AllocError> {
+    let mut all = Items::new(alloc);
+    for k in 0..methods.len() {
+        let Some(Some(entry)) = at(entries, k) else {
+            all.push(Items::new(alloc))?;
+            continue;
+        };
+        let formats = methods[k].formats.as_slice();
+        all.push(method_acts(alloc, formats, entry.formats.as_slice())?)?;
+    }
+    Ok(all)
+}
+
+fn method_acts(
+    alloc: Global,
+    formats: &[Format],
+    plans: &[FormatPlans],
+) -> Result<Items<CompiledPlan>, AllocError> {
+    let mut all = Items::new(alloc);
+    for index in 0..formats.len() {
+        let operations = match at(plans, index) {
+            Some(entry) => format_acts(alloc, &formats[index], entry)?,
+            None => NONE,
+        };
+        all.push(operations)?;
+    }
+    Ok(all)
+}
+
+const NONE: CompiledPlan = CompiledPlan {
+    read: None,
+    write: None,
+};
+
+fn format_acts(
+    alloc: Global,
+    format: &Format,
+    entry: &FormatPlans,
+) -> Result<CompiledPlan, AllocError> {
+    match &entry.plans {
+        Some(plans) => Ok(CompiledPlan {
+            read: operations(alloc, format, Direction::Read, plans.read.as_slice())?,
+            write: operations(alloc, format, Direction::Write, plans.write.as_slice())?,
+        }),
+        None => Ok(NONE),
+    }
+}
+
+/// The operations of a plan.
+fn operations(
+    alloc: Global,
+    format: &Format,
+    direction: Direction,
+    plan: &[Step],
+) -> Result<Option<Operations>, AllocError> {
+    let mut shortened = Shortened::new(alloc, format, direction)?;
+    for step in plan {
+        if !shortened.add(alloc, *step)? {
+            return Ok(None);
+        }
+    }
+    Ok(Some(shortened.into_acts()))
+}

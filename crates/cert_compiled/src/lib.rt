@@ -1,0 +1,10 @@
+//! Plans made short, for who draws fillings up and has them judged. Nothing is promised of them.
+#![tactic(auto)]
+
+pub use operations::{Beginning, CompiledPlan, Count, Operation, Operations, Spelled};
+pub use plans::CompiledPlans;
+
+mod compiler;
+pub mod operations;
+pub mod plans;
+mod steps;

@@ -1,0 +1,20 @@
+//! Whether a certificate's decision trees part the formats of their methods.
+#![tactic(auto)]
+
+pub use callees::callees_first;
+pub use counts::{count_candidates, format_count};
+pub use equations::Equation;
+pub use fault::TreeFault;
+pub use faults::{is_in_range, is_word, tree_fault};
+pub use told::{Signature, Test, all_told};
+
+pub mod callees;
+mod choices;
+pub mod counts;
+pub mod equations;
+pub mod fault;
+pub mod faults;
+pub mod laws;
+mod sets;
+mod tables;
+pub mod told;

@@ -1,6 +1,0 @@
-use Rattle.std.proofs.Common.{sym}
-use Rattle.fn_bits.proofs.Numbers.{num-nil}
-use Rattle.fn_bits.proofs.word.word_of.Goals as goal
-
-pub loop-octet-init : goal.loop-octet-init
-loop-octet-init c = sym num-nil

@@ -1,5 +1,0 @@
-use Rattle.fn_calls.proofs.OrderBackward.{by_marks}
-use Rattle.fn_calls.proofs.ordering.leads_back.Goals as goal
-
-pub returns-clause-meaning : goal.returns-clause-meaning
-returns-clause-meaning c = λ graph each within. by_marks graph _ _ _ _ c.if-callee-caller.false c.is_reached.ensures each within

@@ -1,5 +1,0 @@
-use Rattle.fn_calls.proofs.Measuring.{Heavy}
-use Rattle.fn_calls.proofs.weight.weights.Given as goal
-
-abbrev pub invariant-loop-method : goal.invariant-loop-method
-invariant-loop-method l = Heavy l.methods l.order l.method-index l.weights

@@ -1,5 +1,0 @@
-use Rattle.fn_candidates.proofs.Example.{example_is_numbered}
-use Rattle.fn_candidates.proofs.laws.an_example.Goals as goal
-
-pub returns : goal.returns
-returns c = example_is_numbered

@@ -1,5 +1,0 @@
-use Rattle.fn_candidates.proofs.BestOrder.{best_is_one}
-use Rattle.fn_candidates.proofs.laws.best_is_one.Goals as goal
-
-pub returns : goal.returns
-returns c = best_is_one

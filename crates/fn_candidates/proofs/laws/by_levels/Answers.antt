@@ -1,5 +1,0 @@
-use Rattle.fn_candidates.proofs.CodesLevels.{code_is, number_is}
-use Rattle.fn_candidates.proofs.laws.by_levels.Goals as goal
-
-pub returns : goal.returns
-returns c = record { code = code_is; number = number_is }

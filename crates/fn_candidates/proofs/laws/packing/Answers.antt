@@ -1,5 +1,0 @@
-use Rattle.fn_candidates.proofs.Packing.{starts, passes, found, nowhere}
-use Rattle.fn_candidates.proofs.laws.packing.Goals as goal
-
-pub returns : goal.returns
-returns c = record { starts = starts; passes = passes; found = found; none = nowhere }

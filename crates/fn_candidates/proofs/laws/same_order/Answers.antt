@@ -1,5 +1,0 @@
-use Rattle.fn_candidates.proofs.CodesCompares.{same_order}
-use Rattle.fn_candidates.proofs.laws.same_order.Goals as goal
-
-pub returns : goal.returns
-returns c = same_order

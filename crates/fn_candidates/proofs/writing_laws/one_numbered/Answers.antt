@@ -1,5 +1,0 @@
-use Rattle.fn_candidates.proofs.WritingSingle.{one_numbered}
-use Rattle.fn_candidates.proofs.writing_laws.one_numbered.Goals as goal
-
-pub returns : goal.returns
-returns c = one_numbered

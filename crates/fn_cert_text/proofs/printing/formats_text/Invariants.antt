@@ -1,7 +1,0 @@
-use Rattle.std.specs.Prelude.{string_bytes, flat_map}
-use Rattle.fn_cert_text.specs.Text.{format_lines, spelled}
-use Rattle.fn_cert_text.proofs.TextLines.{GoesBy}
-use Rattle.fn_cert_text.proofs.printing.formats_text.Given as goal
-
-abbrev pub invariant-loop-format : goal.invariant-loop-format
-invariant-loop-format l = GoesBy format_lines l.formats l.format-index (string_bytes l.output) (spelled (flat_map format_lines l.formats))

@@ -1,7 +1,0 @@
-use Rattle.std.specs.Prelude.{string_bytes, map}
-use Rattle.fn_cert_text.specs.Text.{node_line, spelled}
-use Rattle.fn_cert_text.proofs.TextLines.{GoesLine}
-use Rattle.fn_cert_text.proofs.printing.nodes_text.Given as goal
-
-abbrev pub invariant-loop-node : goal.invariant-loop-node
-invariant-loop-node l = GoesLine (node_line l.method) l.method.tree l.node-index (string_bytes l.output) (spelled (map (node_line l.method) l.method.tree))

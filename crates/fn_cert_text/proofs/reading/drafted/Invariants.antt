@@ -1,6 +1,0 @@
-use Rattle.std.proofs.Common.{◌≡◌, map, take, Some}
-use Rattle.fn_cert_text.specs.Drafts.{read_lines, start}
-use Rattle.fn_cert_text.proofs.reading.drafted.Given as goal
-
-abbrev pub invariant-loop-line : goal.invariant-loop-line
-invariant-loop-line l = read_lines l.methods start (map (λ x. x.text.now) (take l.line-index l.lines)) ≡ Some l.draft

@@ -1,6 +1,0 @@
-use Rattle.fn_cert_text.specs.Text.{format_lines}
-use Rattle.fn_cert_text.proofs.RoomLeft.{LeftBy}
-use Rattle.fn_cert_text.proofs.room.left_by_formats.Given as goal
-
-abbrev pub invariant-loop-format : goal.invariant-loop-format
-invariant-loop-format l = LeftBy format_lines l.formats l.format-index l.left l.room

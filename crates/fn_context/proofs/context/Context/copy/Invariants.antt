@@ -1,6 +1,0 @@
-use Rattle.std.proofs.Common.{◌≡◌, ◌++◌, drop}
-use Rattle.fn_context.specs.Placing.{shown}
-use Rattle.fn_context.proofs.context.Context.copy.Given as goal
-
-abbrev pub invariant-loop-path : goal.invariant-loop-path
-invariant-loop-path l = l.copy ++ shown (drop l.path-index l.path-items) ≡ l.self

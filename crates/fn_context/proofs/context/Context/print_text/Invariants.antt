@@ -1,7 +1,0 @@
-use Rattle.std.proofs.Common.{ℕ, List, ◌++◌, drop, string_bytes}
-use Rattle.fn_context.specs.Placing.{shown}
-use Rattle.fn_context.specs.Text.{IsContextText}
-use Rattle.fn_context.proofs.context.Context.print_text.Given as goal
-
-abbrev pub invariant-loop-path : goal.invariant-loop-path
-invariant-loop-path l = (rest : List ℕ) → IsContextText (shown (drop l.path-index l.path-items)) rest → IsContextText l.self (string_bytes l.text ++ rest)

@@ -1,6 +1,0 @@
-use Rattle.std.proofs.Common.{map, take}
-use Rattle.fn_context.specs.Text.{IsReading}
-use Rattle.fn_context.proofs.context.Context.read_text.Given as goal
-
-abbrev pub invariant-loop-line : goal.invariant-loop-line
-invariant-loop-line l = IsReading (map (λ x. (x.number, x.text.now)) (take l.line-index l.line-items)) l.context

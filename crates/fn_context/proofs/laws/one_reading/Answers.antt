@@ -1,5 +1,0 @@
-use Rattle.fn_context.proofs.EntriesReadings.{one_reading, no_fault}
-use Rattle.fn_context.proofs.laws.one_reading.Goals as goal
-
-pub returns : goal.returns
-returns c = record { only = one_reading; no_fault = no_fault }

@@ -1,6 +1,0 @@
-use Rattle.std.proofs.Common.{◌≡◌, ◌++◌, drop}
-use Rattle.fn_draw.specs.Columns as spec
-use Rattle.fn_draw.proofs.columns.columns_of.Given as goal
-
-abbrev pub invariant-loop-listed : goal.invariant-loop-listed
-invariant-loop-listed l = l.found ++ spec.columns_from l.format.fields l.sizes l.offset (drop l.listed-index l.listed-items) ≡ spec.columns_of l.format l.sizes

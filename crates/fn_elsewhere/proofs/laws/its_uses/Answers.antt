@@ -1,5 +1,0 @@
-use Rattle.fn_elsewhere.proofs.Listing.{are_its_uses}
-use Rattle.fn_elsewhere.proofs.laws.its_uses.Goals as goal
-
-pub returns : goal.returns
-returns c = are_its_uses

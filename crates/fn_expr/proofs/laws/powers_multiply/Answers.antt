@@ -1,6 +1,0 @@
-use Rattle.std.proofs.Common.{refl, ap, Some}
-use Rattle.fn_expr.proofs.Powers as lemmas
-use Rattle.fn_expr.proofs.laws.powers_multiply.Goals as goal
-
-pub returns : goal.returns
-returns c = (λ x. ap Some (lemmas.none_times x), λ x n. ap Some (lemmas.once_more x n), λ x n. refl)

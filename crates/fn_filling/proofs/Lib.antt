@@ -1,6 +1,0 @@
-pub mod EntriesLevels
-pub mod FillingsUnique
-pub mod FillingsInduction
-pub mod FillingsPacked
-pub mod FillingsAsked
-mod EntriesInOrder

@@ -1,3 +1,0 @@
-pub mod Fillings
-pub mod Entries
-pub mod Laws

@@ -1,7 +1,0 @@
-use Rattle.std.proofs.Common.{◌≡◌, map, drop}
-use Rattle.std.specs.Prelude.{◌↔◌}
-use Rattle.fn_filling.specs.Fillings.{header, header_bits, sides_of}
-use Rattle.fn_fits.proofs.whole_sides.is_header.Given as goal
-
-abbrev pub invariant-loop-field : goal.invariant-loop-field
-invariant-loop-field l = (l.fn.bits ≡ header l.fn.filling) ↔ (l.cursor.left ≡ header_bits (map sides_of (drop l.field-index l.field-items)))

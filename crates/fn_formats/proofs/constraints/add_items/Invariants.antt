@@ -1,7 +1,0 @@
-use Rattle.std.proofs.Common.{◌++◌, map, drop, List}
-use Rattle.fn_formats.specs.Constraints.{Statement, on, Leads}
-use Rattle.fn_formats.proofs.constraints.add_items.Given as goal
-
-abbrev pub invariant-loop-item : goal.invariant-loop-item
-invariant-loop-item l = (rest whole : List Statement) → Leads l.scope (map (on l.side) l.items ++ rest) whole l.initial.all.found l.initial.all.fault
-    → Leads l.scope (map (on l.side) (drop l.item-index l.items) ++ rest) whole l.all.found l.all.fault

@@ -1,5 +1,0 @@
-use Rattle.std.proofs.Common.{◌≡◌, ◌++◌, drop}
-use Rattle.fn_formats.proofs.constraints.add_shared.Given as goal
-
-abbrev pub invariant-loop-constraint : goal.invariant-loop-constraint
-invariant-loop-constraint l = l.found ++ drop l.constraint-index l.constraints ≡ l.initial.found ++ l.constraints

@@ -1,7 +1,0 @@
-use Rattle.std.proofs.Common.{◌≡◌, fold, drop}
-use Rattle.fn_normal.specs.Judging.{earlier, earliest}
-use Rattle.fn_formats.specs.Encodings.{own_fault}
-use Rattle.fn_formats.proofs.encodings.own_fault.Given as goal
-
-abbrev pub invariant-loop-place : goal.invariant-loop-place
-invariant-loop-place l = fold (λ found item. earlier found (own_fault l.scope l.methods item)) l.fault (drop l.place l.items) ≡ earliest (own_fault l.scope l.methods) l.items

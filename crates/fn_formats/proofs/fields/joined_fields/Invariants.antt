@@ -1,6 +1,0 @@
-use Rattle.std.proofs.Common.{◌≡◌, ◌++◌, drop}
-use Rattle.fn_formats.specs.Fields.{joined}
-use Rattle.fn_formats.proofs.fields.joined_fields.Given as goal
-
-abbrev pub invariant-loop-place : goal.invariant-loop-place
-invariant-loop-place l = l.all ++ joined l.setting (drop l.place l.mentions) (drop l.place l.encodings) ≡ joined l.setting l.mentions l.encodings

@@ -1,5 +1,0 @@
-use Rattle.fn_formats.proofs.KeptLemmas.{bound_kept}
-use Rattle.fn_formats.proofs.kept.kept_encoding.Goals as goal
-
-pub returns-in-Bound : goal.returns-in-Bound
-returns-in-Bound c = rw c.in-Bound.is (bound_kept c.args.scope.now c.args.methods.now c.in-Bound.bound c.bound_encoding.result c.bound_encoding.ensures)

@@ -1,7 +1,0 @@
-use Rattle.std.proofs.Common.{take}
-use Rattle.std.specs.List.{AllZip}
-use Rattle.fn_formats.specs.Kept.{IsKept}
-use Rattle.fn_formats.proofs.kept.kept_items.Given as goal
-
-abbrev pub invariant-loop-item : goal.invariant-loop-item
-invariant-loop-item l = AllZip (IsKept l.scope l.methods) (take l.item-index l.items) l.kept

@@ -1,7 +1,0 @@
-use Rattle.std.proofs.Common.{take}
-use Rattle.std.specs.List.{AllZip}
-use Rattle.fn_formats.specs.Kept.{SectionIsKept}
-use Rattle.fn_formats.proofs.kept.kept_sections.Given as goal
-
-abbrev pub invariant-loop-section : goal.invariant-loop-section
-invariant-loop-section l = AllZip (SectionIsKept l.scope l.methods) (take l.section-index l.sections) l.kept

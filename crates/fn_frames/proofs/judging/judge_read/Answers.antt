@@ -1,7 +1,0 @@
-use Rattle.std.proofs.Common.{refl}
-use Rattle.fn_frames.proofs.Judgements.{refused_is}
-use Rattle.fn_frames.proofs.judging.judge_read.Goals as goal
-
-pub returns-in-Refused : goal.returns-in-Refused
-returns-in-Refused c =
-    (refl, refused_is c.args.accepted.now c.args.context.now c.args.body.now c.args.bits.now c.new-cursor.result c.requires.1 c.new-cursor.ensures (rw c.in-Refused.is at c.in-Err.ensures.fault))

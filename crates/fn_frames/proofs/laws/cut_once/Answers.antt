@@ -1,5 +1,0 @@
-use Rattle.fn_frames.proofs.Cuttings.{cut_once}
-use Rattle.fn_frames.proofs.laws.cut_once.Goals as goal
-
-pub returns : goal.returns
-returns c = cut_once

@@ -1,5 +1,0 @@
-use Rattle.fn_frames.proofs.Cuttings.{cuts_join}
-use Rattle.fn_frames.proofs.laws.cuts_join.Goals as goal
-
-pub returns : goal.returns
-returns c = cuts_join

@@ -1,5 +1,0 @@
-use Rattle.fn_frames.proofs.Hearings.{each_is_heard_alone}
-use Rattle.fn_frames.proofs.laws.each_is_heard_alone.Goals as goal
-
-pub returns : goal.returns
-returns c = each_is_heard_alone

@@ -1,5 +1,0 @@
-use Rattle.fn_frames.proofs.Givings.{given_once}
-use Rattle.fn_frames.proofs.laws.given_once.Goals as goal
-
-pub returns : goal.returns
-returns c = given_once

@@ -1,5 +1,0 @@
-use Rattle.fn_frames.proofs.Givings.{sent_is_given}
-use Rattle.fn_frames.proofs.laws.sent_is_given.Goals as goal
-
-pub returns : goal.returns
-returns c = sent_is_given

@@ -1,5 +1,0 @@
-use Rattle.fn_frames.proofs.Cuttings.{stopped_once}
-use Rattle.fn_frames.proofs.laws.stopped_once.Goals as goal
-
-pub returns : goal.returns
-returns c = stopped_once

@@ -1,5 +1,0 @@
-use Rattle.std.proofs.Common.{ap, length}
-use Rattle.fn_frames.proofs.sender.Sender.new.Goals as goal
-
-pub invariant_of-result : goal.invariant_of-result
-invariant_of-result c = ap length c.in_ok-fresh_senders.ensures

@@ -1,6 +1,0 @@
-use Rattle.std.proofs.Common.{take}
-use Rattle.fn_given.specs.Asked.{AskedOn}
-use Rattle.fn_given.proofs.asking.ask_items.Given as goal
-
-abbrev pub invariant-loop-item : goal.invariant-loop-item
-invariant-loop-item l = AskedOn l.scope l.set (take l.item-index l.items) l.initial.asked l.asked

@@ -1,7 +1,0 @@
-use Rattle.std.proofs.Common.{◌≡◌, drop}
-use Rattle.fn_given.specs.Asked.{control_items}
-use Rattle.fn_given.specs.Enforced.{set_names, set_by_items, with_words}
-use Rattle.fn_given.proofs.asking.names_set.Given as goal
-
-abbrev pub invariant-loop-section : goal.invariant-loop-section
-invariant-loop-section l = with_words l.text l.names (set_by_items (control_items (drop l.section-index l.sections))) ≡ set_names l.text (control_items l.sections)

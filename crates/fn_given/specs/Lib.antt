@@ -1,4 +1,0 @@
-pub mod Initials
-pub mod Enforced
-pub mod Asked
-pub mod Givens

@@ -1,5 +1,0 @@
-use Rattle.fn_lib.proofs.MethodsSolutions.{one_up, one_down}
-use Rattle.fn_lib.proofs.laws.one_solution.Goals as goal
-
-pub returns : goal.returns
-returns c = record { up = one_up; down = one_down }

@@ -1,7 +1,0 @@
-use Rattle.std.proofs.Common.{arith}
-use Rattle.fn_line.specs.Hearing.{nothing}
-use Rattle.fn_line.proofs.LinesSends.{few_entries}
-use Rattle.fn_line.proofs.receiver.Receiver.new.Goals as goal
-
-pub invariant_of-result : goal.invariant_of-result
-invariant_of-result c = (rw c.in_ok-no_contexts.ensures (few_entries c.args.version), rw c.new.ensures (omega arith), rw c.new.ensures nothing)

@@ -1,6 +1,0 @@
-use Rattle.std.proofs.Common.{arith}
-use Rattle.fn_line.specs.Hearing.{nothing}
-use Rattle.fn_line.proofs.receiver.Receiver.take.Goals as goal
-
-pub invariant_of-self-in-Err : goal.invariant_of-self-in-Err
-invariant_of-self-in-Err c = (rw c.in-Err.ensures.flows c.self.invariant.0, rw c.clear.ensures (omega arith), rw c.clear.ensures nothing)

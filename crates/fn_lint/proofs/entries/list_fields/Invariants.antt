@@ -1,7 +1,0 @@
-use Rattle.std.proofs.Common.{take}
-use Rattle.fn_lint.specs.Entries as spec
-use Rattle.fn_lint.specs.Paths as paths
-use Rattle.fn_lint.proofs.entries.list_fields.Given as goal
-
-abbrev pub invariant-loop-index : goal.invariant-loop-index
-invariant-loop-index l = spec.ListsEach l.path paths.keeps_by (take l.index l.fields) l.fn.left l.left

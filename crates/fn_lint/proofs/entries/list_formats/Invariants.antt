@@ -1,7 +1,0 @@
-use Rattle.std.proofs.Common.{take}
-use Rattle.fn_lint.specs.Entries as spec
-use Rattle.fn_lint.specs.Paths as paths
-use Rattle.fn_lint.proofs.entries.list_formats.Given as goal
-
-abbrev pub invariant-loop-number : goal.invariant-loop-number
-invariant-loop-number l = spec.ListsEach l.path paths.keeps_in (take l.number l.formats) l.fn.left l.left

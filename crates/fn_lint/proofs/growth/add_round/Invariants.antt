@@ -1,6 +1,0 @@
-use Rattle.fn_lint.proofs.NeedsAdding.{RoundSoFar}
-use Rattle.fn_lint.proofs.growth.add_round.Given as goal
-use Rattle.fn_lint.specs.Entries as entries
-
-abbrev pub invariant-loop-place : goal.invariant-loop-place
-invariant-loop-place l = RoundSoFar l.ground l.fn.known.flags l.known.flags l.changes l.place × entries.IsListed l.ground l.known

@@ -1,5 +1,0 @@
-use Rattle.fn_lint.proofs.ObstaclesDead.{obstacles-kill}
-use Rattle.fn_lint.proofs.laws.obstacles_kill.Goals as goal
-
-pub returns : goal.returns
-returns c = obstacles-kill

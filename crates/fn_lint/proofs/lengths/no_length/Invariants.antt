@@ -1,7 +1,0 @@
-use Rattle.std.proofs.Common.{ℕ, ◌<◌}
-use Rattle.fn_expr.specs.declared.expr.Side.{Side}
-use Rattle.fn_lint.specs.Obstacles as spec
-use Rattle.fn_lint.proofs.lengths.no_length.Given as goal
-
-abbrev pub invariant-loop-field : goal.invariant-loop-field
-invariant-loop-field l = (i : ℕ) (side : Side) → i < l.field → spec.HasNoLength l.sizes i side → ⊥

@@ -1,5 +1,0 @@
-use Rattle.fn_lint.specs.Marks.{SomeMarked}
-use Rattle.fn_lint.proofs.marking.all_marked.Given as goal
-
-abbrev pub invariant-loop-round : goal.invariant-loop-round
-invariant-loop-round l = SomeMarked l.profile l.marks l._round

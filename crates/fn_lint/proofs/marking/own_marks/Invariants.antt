@@ -1,5 +1,0 @@
-use Rattle.fn_lint.proofs.MarksLifeless.{RowsSoFar}
-use Rattle.fn_lint.proofs.marking.own_marks.Given as goal
-
-abbrev pub invariant-loop-index : goal.invariant-loop-index
-invariant-loop-index l = RowsSoFar l.profile l.index l.rows

@@ -1,4 +1,0 @@
-use Rattle.fn_lint.proofs.needs.+lacking_path.Given as goal
-
-abbrev pub decreases-lacking_path : goal.decreases-lacking_path
-decreases-lacking_path l = l.depth

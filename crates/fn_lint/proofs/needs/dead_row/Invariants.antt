@@ -1,5 +1,0 @@
-use Rattle.fn_lint.specs.NeedsTold as told
-use Rattle.fn_lint.proofs.needs.dead_row.Given as goal
-
-abbrev pub invariant-loop-format : goal.invariant-loop-format
-invariant-loop-format l = told.TellsRow l.judged l.index l.format l.row

@@ -1,5 +1,0 @@
-use Rattle.fn_lint.proofs.NeedsTelling.{RowsSoFar}
-use Rattle.fn_lint.proofs.needs.dead_rows.Given as goal
-
-abbrev pub invariant-loop-index : goal.invariant-loop-index
-invariant-loop-index l = RowsSoFar l.judged l.index l.all

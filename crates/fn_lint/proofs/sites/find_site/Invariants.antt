@@ -1,5 +1,0 @@
-use Rattle.fn_lint.proofs.SitesGrowing.{NoneBefore}
-use Rattle.fn_lint.proofs.sites.find_site.Given as goal
-
-abbrev pub invariant-loop-place : goal.invariant-loop-place
-invariant-loop-place l = NoneBefore l.sites l.method l.path l.place

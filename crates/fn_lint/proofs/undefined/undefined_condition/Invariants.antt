@@ -1,7 +1,0 @@
-use Rattle.std.proofs.Common.{◌≡◌, drop}
-use Rattle.fn_expr.specs.Bounds.{bounding_of}
-use Rattle.fn_lint.specs.Undefined.{undefined_condition}
-use Rattle.fn_lint.proofs.undefined.undefined_condition.Given as goal
-
-abbrev pub invariant-loop-constraint : goal.invariant-loop-constraint
-invariant-loop-constraint l = undefined_condition (bounding_of l.ranges) (drop l.constraint-index l.constraints) ≡ undefined_condition (bounding_of l.fn.ranges) l.fn.constraints

@@ -1,5 +1,0 @@
-use Rattle.fn_lint.proofs.SplitLengths.{are_split, is_found}
-use Rattle.fn_lint.proofs.unfit.are_split.Goals as goal
-
-pub returns : goal.returns
-returns c = (are_split c.args.bounds, is_found c.args.bounds)

@@ -1,6 +1,0 @@
-use Rattle.std.proofs.Common.{◌≡◌, drop}
-use Rattle.fn_lint.specs.Unnoticed as spec
-use Rattle.fn_lint.proofs.unnoticed.has_reference.Given as goal
-
-abbrev pub invariant-loop-place : goal.invariant-loop-place
-invariant-loop-place l = spec.any_place (spec.is_reference l.format) l.place (drop l.place l.format.fields) ≡ spec.any_place (spec.is_reference l.format) 0 l.format.fields

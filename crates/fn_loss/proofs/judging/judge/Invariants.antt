@@ -1,6 +1,0 @@
-use Rattle.fn_loss.specs.Judging.{AddsFirst}
-use Rattle.fn_loss.proofs.judging.judge.Given as goal
-
--- what the first so many receivers add
-abbrev pub invariant-loop-lost : goal.invariant-loop-lost
-invariant-loop-lost l = AddsFirst l.accepted l.held l.number l.item l.sent l.lost l.fn.journal l.journal

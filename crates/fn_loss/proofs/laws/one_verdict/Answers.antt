@@ -1,5 +1,0 @@
-use Rattle.fn_loss.proofs.Verdicts.{one_verdict}
-use Rattle.fn_loss.proofs.laws.one_verdict.Goals as goal
-
-pub returns : goal.returns
-returns c = one_verdict

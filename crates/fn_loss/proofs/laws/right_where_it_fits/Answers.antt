@@ -1,5 +1,0 @@
-use Rattle.fn_loss.proofs.Verdicts.{right_where_it_fits}
-use Rattle.fn_loss.proofs.laws.right_where_it_fits.Goals as goal
-
-pub returns : goal.returns
-returns c = right_where_it_fits

@@ -1,7 +1,0 @@
-use Rattle.std.proofs.Common.{◌≡◌, ◌+◌, drop}
-use Rattle.std.specs.Prelude.{fold}
-use Rattle.fn_loss.specs.Scores.{count, one_in}
-use Rattle.fn_loss.proofs.scores.count_of.Given as goal
-
-abbrev pub invariant-loop-reading : goal.invariant-loop-reading
-invariant-loop-reading l = fold (λ a r. a + one_in l.group r) l.count (drop l.reading-index l.readings) ≡ count l.group l.readings

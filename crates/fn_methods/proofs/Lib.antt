@@ -1,3 +1,0 @@
-pub mod ListingLeading
-pub mod DefaultsSections
-pub mod ListingParts

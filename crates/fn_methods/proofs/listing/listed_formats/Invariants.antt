@@ -1,9 +1,0 @@
-use Rattle.std.proofs.Common.{drop}
-use Rattle.fn_sections.specs.Tables.{IsTable}
-use Rattle.fn_formats.specs.Drafts as drafts
-use Rattle.fn_methods.specs.Listing.{Leads}
-use Rattle.fn_methods.proofs.listing.listed_formats.Given as goal
-
-abbrev pub invariant-loop-place : goal.invariant-loop-place
-invariant-loop-place l = IsTable l.setting.text.now (drafts.base l.setting) l.setting.base.now → IsTable l.setting.text.now (drafts.default l.setting) l.setting.default.now
-    → Leads l.setting l.place (drop l.place l.setting.sections.now) l.all

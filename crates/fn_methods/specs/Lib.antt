@@ -1,4 +1,0 @@
-pub mod Parameters
-pub mod Defaults
-pub mod Listing
-pub mod Methods

@@ -1,8 +1,0 @@
-use Rattle.std.proofs.Common.{◌≡◌, ◌++◌, drop}
-use Rattle.std.specs.Prelude.{option_map}
-use Rattle.fn_expr.specs.Known.{assignment_of}
-use Rattle.fn_fits.specs.Fits.{vals}
-use Rattle.fn_model.proofs.numbers.add_values.Given as goal
-
-abbrev pub invariant-loop-expression : goal.invariant-loop-expression
-invariant-loop-expression l = option_map (λ vs. l.values.items ++ vs) (vals (assignment_of l.seen) (drop l.expression-index l.expressions)) ≡ vals (assignment_of l.seen) l.expressions

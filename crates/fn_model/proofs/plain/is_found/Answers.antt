@@ -1,5 +1,0 @@
-use Rattle.fn_fits.proofs.Coded.{found_is}
-use Rattle.fn_model.proofs.plain.is_found.Goals as goal
-
-pub returns-in-Some : goal.returns-in-Some
-returns-in-Some c = found_is _ c.in-Some.is c.is_same.ensures

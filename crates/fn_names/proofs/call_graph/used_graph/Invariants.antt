@@ -1,6 +1,0 @@
-use Rattle.std.proofs.Common.{◌≡◌, ◌++◌, drop, map}
-use Rattle.fn_profile.specs.Uses.{used_methods, used_graph}
-use Rattle.fn_names.proofs.call_graph.used_graph.Given as goal
-
-abbrev pub invariant-loop-method : goal.invariant-loop-method
-invariant-loop-method l = l.graph ++ map used_methods (drop l.method-index l.methods) ≡ used_graph l.methods

@@ -1,6 +1,0 @@
-use Rattle.std.proofs.Common.{◌≡◌, ◌++◌, drop, map}
-use Rattle.fn_profile.specs.Uses.{method_uses, uses_of}
-use Rattle.fn_names.proofs.call_graph.uses_of.Given as goal
-
-abbrev pub invariant-loop-method : goal.invariant-loop-method
-invariant-loop-method l = l.uses ++ map method_uses (drop l.method-index l.methods) ≡ uses_of l.methods

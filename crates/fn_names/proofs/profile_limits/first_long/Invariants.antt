@@ -1,7 +1,0 @@
-use Rattle.std.proofs.Common.{◌≡◌, drop, fold}
-use Rattle.fn_normal.specs.Judging.{earlier, earliest}
-use Rattle.fn_names.specs.ProfileLimits.{long_format}
-use Rattle.fn_names.proofs.profile_limits.first_long.Given as goal
-
-abbrev pub invariant-loop-method : goal.invariant-loop-method
-invariant-loop-method l = fold (λ found m. earlier found (long_format m)) l.found (drop l.method-index l.methods) ≡ earliest long_format l.methods

@@ -1,7 +1,0 @@
-use Rattle.std.proofs.Common.{◌≡◌, drop}
-use Rattle.std.specs.List.{list_any}
-use Rattle.fn_names.specs.ProfileLimits.{is_long}
-use Rattle.fn_names.proofs.profile_limits.has_long_format.Given as goal
-
-abbrev pub invariant-loop-format : goal.invariant-loop-format
-invariant-loop-format l = list_any is_long (drop l.format-index l.formats) ≡ list_any is_long l.formats

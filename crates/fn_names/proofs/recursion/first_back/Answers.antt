@@ -1,7 +1,0 @@
-use Rattle.std.proofs.Common.{◌∙◌, sym}
-use Rattle.fn_names.proofs.RecursionReturns.{none_back}
-use Rattle.fn_names.proofs.recursion.first_back.Goals as goal
-
-pub returns-then-not-is_any_back : goal.returns-then-not-is_any_back
-returns-then-not-is_any_back c =
-    none_back c.args.table.now c.args.text.now c.args.methods.now c.args.parts.now c.args.graph.now c.requires.graph (sym c.is_any_back.ensures ∙ c.if-not-is_any_back.true)

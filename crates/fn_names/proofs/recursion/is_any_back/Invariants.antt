@@ -1,6 +1,0 @@
-use Rattle.std.proofs.Common.{◌≡◌, drop}
-use Rattle.fn_names.specs.Recursion.{is_any_back}
-use Rattle.fn_names.proofs.recursion.is_any_back.Given as goal
-
-abbrev pub invariant-loop-caller : goal.invariant-loop-caller
-invariant-loop-caller l = is_any_back l.table l.caller (drop l.caller l.graph) ≡ is_any_back l.table 0 l.graph

@@ -1,4 +1,0 @@
-pub mod JudgingLemmas
-pub mod Loops
-pub mod WordsTables
-pub mod NameSpelled

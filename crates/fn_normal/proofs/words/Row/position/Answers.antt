@@ -1,7 +1,0 @@
-use Rattle.std.proofs.Common.{◌∙◌, ap, position}
-use Rattle.std.specs.Str.{bytes_eq}
-use Rattle.fn_normal.proofs.WordsTables.{position-shown}
-use Rattle.fn_normal.proofs.words.Row.position.Goals as goal
-
-pub returns-clause-value : goal.returns-clause-value
-returns-clause-value c = c.get_index_of.ensures.index ∙ position-shown c.args.name.now c.self.inside.kept.keys ∙ ap (λ names. position (bytes_eq c.args.name.now) names) c.self.view_is

@@ -1,7 +1,0 @@
-use Rattle.std.proofs.Common.{◌≡◌, ◌++◌, drop}
-use Rattle.fn_expr.specs.declared.expr.Side.TheVariants.{Uncompressed}
-use Rattle.fn_rules.specs.Facts.{fact_of, of_headers}
-use Rattle.fn_order.proofs.needed.push_headers.Given as goal
-
-abbrev pub invariant-loop-index : goal.invariant-loop-index
-invariant-loop-index l = l.facts ++ of_headers (fact_of Uncompressed l.measure) l.index (drop l.index l.fields) ≡ l.fn.facts ++ of_headers (fact_of Uncompressed l.measure) 0 l.fields

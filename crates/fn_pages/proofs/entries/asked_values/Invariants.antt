@@ -1,7 +1,0 @@
-use Rattle.std.proofs.Common.{◌≡◌, ◌++◌, drop}
-use Rattle.fn_filling.specs.Fillings.{asked_values}
-use Rattle.fn_pages.specs.Pages.{level_by}
-use Rattle.fn_pages.proofs.entries.asked_values.Given as goal
-
-abbrev pub invariant-loop-i : goal.invariant-loop-i
-invariant-loop-i l = l.values ++ asked_values (level_by (drop l.i l.fields) (drop l.i l.shown)) ≡ asked_values (level_by l.fields l.shown)

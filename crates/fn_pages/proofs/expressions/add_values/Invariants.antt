@@ -1,8 +1,0 @@
-use Rattle.std.proofs.Common.{◌≡◌, ◌++◌, drop}
-use Rattle.std.specs.Prelude.{option_map}
-use Rattle.fn_fits.specs.Fits.{vals}
-use Rattle.fn_pages.specs.Pages.{numbers_in}
-use Rattle.fn_pages.proofs.expressions.add_values.Given as goal
-
-abbrev pub invariant-loop-expr : goal.invariant-loop-expr
-invariant-loop-expr l = option_map (λ vs. l.found.items ++ vs) (vals (numbers_in l.view) (drop l.expr-index l.exprs)) ≡ vals (numbers_in l.view) l.exprs

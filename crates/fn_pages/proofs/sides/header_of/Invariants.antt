@@ -1,7 +1,0 @@
-use Rattle.std.proofs.Common.{◌≡◌, ◌++◌, drop}
-use Rattle.fn_filling.specs.Fillings.{header_bits}
-use Rattle.fn_pages.specs.Pages.{level_by}
-use Rattle.fn_pages.proofs.sides.header_of.Given as goal
-
-abbrev pub invariant-loop-i : goal.invariant-loop-i
-invariant-loop-i l = (l.header ++ l.tail) ++ header_bits (level_by (drop l.i l.fields) (drop l.i l.shown)) ≡ header_bits (level_by l.fields l.shown)

@@ -1,7 +1,0 @@
-use Rattle.std.proofs.Common.{◌≡◌, ◌++◌, drop}
-use Rattle.fn_filling.specs.Fillings.{packed_bits}
-use Rattle.fn_pages.specs.Pages.{level_by}
-use Rattle.fn_pages.proofs.sides.packed_of.Given as goal
-
-abbrev pub invariant-loop-i : goal.invariant-loop-i
-invariant-loop-i l = (l.packed ++ l.tail) ++ packed_bits (drop l.i-index l.i-items) (level_by l.format.fields l.shown) ≡ packed_bits l.format.listing (level_by l.format.fields l.shown)

@@ -1,8 +1,0 @@
-use Rattle.std.proofs.Common.{sym, refl}
-use Rattle.fn_parting.proofs.rule.reference_parts_anew.Goals as goal
-
-pub returns-then-is_tried-clause-parts : goal.returns-then-is_tried-clause-parts
-returns-then-is_tried-clause-parts c = λ known. sym (c.if-is_tried.ensures _ known refl)
-
-pub returns-clause-tried : goal.returns-clause-tried
-returns-clause-tried c = λ known. c.keep.ensures _ known (sym c.if-reference_parts.ensures)

@@ -1,8 +1,0 @@
-use Rattle.std.proofs.Common.{◌≡◌, ◌||◌, ◌<◌, ℕ, false, drop, length, get_or}
-use Rattle.fn_bounds.specs.Fields.{lists}
-use Rattle.fn_plans.proofs.listing.listed_flags.Given as goal
-
-abbrev pub invariant-loop-listed : goal.invariant-loop-listed
-invariant-loop-listed l =
-    (length l.flags ≡ length l.format.fields) ×
-    ((i : ℕ) → i < length l.format.fields → (lists (drop l.listed-index l.format.listing) i || get_or l.flags i false) ≡ lists l.format.listing i)

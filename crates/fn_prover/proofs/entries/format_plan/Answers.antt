@@ -1,4 +1,0 @@
-use Rattle.fn_prover.proofs.entries.format_plan.Goals as goal
-
-pub returns-in-Err-clause-lacks : goal.returns-in-Err-clause-lacks
-returns-in-Err-clause-lacks c = c.of_unordered.ensures c.args.table.now c.args.sizes.now c.args.format.now c.in-Err.ensures.refused c.requires

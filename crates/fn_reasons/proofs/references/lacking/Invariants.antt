@@ -1,7 +1,0 @@
-use Rattle.std.proofs.Common.{◌≡◌, drop}
-use Rattle.fn_reasons.specs.Reasons.{lacking}
-use Rattle.fn_reasons.specs.Settings.{setting_of}
-use Rattle.fn_reasons.proofs.references.lacking.Given as goal
-
-abbrev pub invariant-loop-index : goal.invariant-loop-index
-invariant-loop-index l = lacking (setting_of l.spot) l.index (drop l.index l.fields) ≡ lacking (setting_of l.spot) 0 l.fields

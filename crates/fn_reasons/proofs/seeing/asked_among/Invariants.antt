@@ -1,7 +1,0 @@
-use Rattle.std.proofs.Common.{◌≡◌, ◌+◌, ◌≤◌, drop, length}
-use Rattle.std.specs.Prelude.{filter}
-use Rattle.fn_reasons.proofs.seeing.asked_among.Given as goal
-
-abbrev pub invariant-loop-other : goal.invariant-loop-other
-invariant-loop-other l =
-    (l.count ≤ l.other-index) × (l.count + length (filter (λ other. other.declared.asked) (drop l.other-index l.fields)) ≡ length (filter (λ other. other.declared.asked) l.fields))

@@ -1,7 +1,0 @@
-use Rattle.std.proofs.Common.{sym}
-use Rattle.fn_reasons.specs.Settings.{setting_of}
-use Rattle.fn_reasons.proofs.ReasonsMaking.{no_format}
-use Rattle.fn_reasons.proofs.verdicts.rest_at.Goals as goal
-
-pub returns-in-None : goal.returns-in-None
-returns-in-None c = no_format (setting_of c.args.spot.now) c.args.format (sym (rw c.in-None.is at c.format_of.ensures))

@@ -1,8 +1,0 @@
-use Rattle.std.proofs.Common.{◌≡◌, ◌<◌, ℕ}
-use Rattle.std.specs.Prelude.{None}
-use Rattle.fn_expr.specs.Bounds.{bounding_of}
-use Rattle.fn_reasons.specs.Reasons.{undefined_at}
-use Rattle.fn_reasons.proofs.verdicts.told_by_truth.Given as goal
-
-abbrev pub invariant-loop-number : goal.invariant-loop-number
-invariant-loop-number l = (j : ℕ) → j < l.number → undefined_at (bounding_of l.sighted.ranges.now) l.sighted.look.format.now.constraints j ≡ None

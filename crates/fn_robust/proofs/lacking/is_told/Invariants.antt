@@ -1,8 +1,0 @@
-use Rattle.std.proofs.Common.{◌≡◌, ℕ, ◌<◌, Some}
-use Rattle.std.specs.Prelude.{slice_get}
-use Rattle.fn_robust.specs.declared.lacking.Lack.{Lack}
-use Rattle.fn_robust.proofs.lacking.is_told.Given as goal
-
--- no line so far is of the format
-abbrev pub invariant-loop-lack : goal.invariant-loop-lack
-invariant-loop-lack l = (i : ℕ) (x : Lack) → i < l.lack-index → slice_get l.found i ≡ Some x → x.format ≡ l.format → ⊥

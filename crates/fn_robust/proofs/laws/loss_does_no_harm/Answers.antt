@@ -1,5 +1,0 @@
-use Rattle.fn_robust.proofs.Harmless.{loss_does_no_harm}
-use Rattle.fn_robust.proofs.laws.loss_does_no_harm.Goals as goal
-
-pub returns : goal.returns
-returns c = loss_does_no_harm

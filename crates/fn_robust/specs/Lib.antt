@@ -1,4 +1,0 @@
-pub mod Sending
-pub mod Answers
-pub mod Lacking
-pub mod Laws

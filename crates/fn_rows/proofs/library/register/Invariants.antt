@@ -1,6 +1,0 @@
-use Rattle.std.proofs.Common.{◌<◌}
-use Rattle.std.specs.Prelude.{◌^◌}
-use Rattle.fn_rows.proofs.library.register.Given as goal
-
-abbrev pub invariant-loop : goal.invariant-loop
-invariant-loop l = l.register < 2 ^ 8

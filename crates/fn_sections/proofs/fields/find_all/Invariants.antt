@@ -1,8 +1,0 @@
-use Rattle.std.proofs.Common.{◌≡◌, ◌++◌, drop}
-use Rattle.fn_sections.specs.Tables.{find_in}
-use Rattle.fn_sections.specs.Fields.{encodings_by}
-use Rattle.fn_sections.proofs.fields.find_all.Given as goal
-
-abbrev pub invariant-loop-place : goal.invariant-loop-place
-invariant-loop-place l =
-    l.all ++ encodings_by l.text (find_in l.base) (find_in l.default) (drop l.place l.fields) (drop l.place l.own) ≡ encodings_by l.text (find_in l.base) (find_in l.default) l.fields l.own

@@ -1,5 +1,0 @@
-use Rattle.fn_sections.proofs.MentionsPointing.{mentions_point}
-use Rattle.fn_sections.proofs.fields.mentions_point.Goals as goal
-
-pub returns : goal.returns
-returns c = mentions_point

@@ -1,8 +1,0 @@
-use Rattle.std.proofs.Common.{◌≡◌, fold, drop}
-use Rattle.fn_normal.specs.Judging.{earlier}
-use Rattle.fn_sections.specs.Tables.{find_in}
-use Rattle.fn_sections.specs.Causes.{earliest, defined_before}
-use Rattle.fn_sections.proofs.lookups.all_defined_before.Given as goal
-
-abbrev pub invariant-loop-mention : goal.invariant-loop-mention
-invariant-loop-mention l = fold (λ found m. earlier found (defined_before l.text (find_in l.table) m)) l.found (drop l.mention-index l.mentions) ≡ earliest (defined_before l.text (find_in l.table)) l.mentions

@@ -1,5 +1,0 @@
-use Rattle.fn_sections.proofs.CausesFolding.{earliest_more}
-use Rattle.fn_sections.proofs.lookups.all_not_among.Goals as goal
-
-pub loop-mention-preserved : goal.loop-mention-preserved
-loop-mention-preserved c = earliest_more _ _ _ _ _ _ _ _ c.loop-mention-test.true c.not_among.ensures c.earlier-found.ensures c.loop-mention.invariant

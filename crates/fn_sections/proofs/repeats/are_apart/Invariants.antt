@@ -1,7 +1,0 @@
-use Rattle.std.proofs.Common.{◌≡◌, length}
-use Rattle.fn_sections.proofs.CausesSeconds.{NoneSecond}
-use Rattle.fn_sections.proofs.SecondsApart.{AreMarked}
-use Rattle.fn_sections.proofs.repeats.are_apart.Given as goal
-
-abbrev pub invariant-loop-mention : goal.invariant-loop-mention
-invariant-loop-mention l = AreMarked l.text l.mentions l.mention-index l.seen × (length l.seen ≡ 2039) × NoneSecond l.text l.mentions l.mention-index

@@ -1,5 +1,0 @@
-mod Writing
-mod Values
-mod Bounds
-mod Steps
-mod ReadingBack

@@ -1,6 +1,0 @@
-use Rattle.std.proofs.Common.{◌≡◌, replicate}
-use Rattle.fn_session.specs.State.{empty_ends}
-use Rattle.fn_session.proofs.session.Session.new.Given as goal
-
-abbrev pub invariant-loop-i : goal.invariant-loop-i
-invariant-loop-i l = l.all.items ≡ replicate l._i empty_ends

@@ -1,6 +1,0 @@
-use Rattle.std.proofs.Common.{◌≡◌, ℕ, ◌<◌, true, false, get_or}
-use Rattle.fn_show.specs.Known.{is_plain}
-use Rattle.fn_show.proofs.places.are_plain.Given as goal
-
-abbrev pub invariant-loop-octet : goal.invariant-loop-octet
-invariant-loop-octet l = l.others ≡ false → (j : ℕ) → j < l.octet-index → is_plain (get_or l.part j 0) ≡ true

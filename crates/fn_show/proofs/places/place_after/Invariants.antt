@@ -1,6 +1,0 @@
-use Rattle.std.proofs.Common.{◌+◌}
-use Rattle.fn_show.proofs.PlacesSteps.{Stands}
-use Rattle.fn_show.proofs.places.place_after.Given as goal
-
-abbrev pub invariant-loop-octet : goal.invariant-loop-octet
-invariant-loop-octet l = Stands l.octets (l.from + l.octet-index) l.line l.column

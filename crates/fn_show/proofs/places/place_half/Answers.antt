@@ -1,7 +1,0 @@
-use Rattle.std.proofs.Common.{◌+◌, refl, arith}
-use Rattle.fn_show.proofs.PlainParts.{within}
-use Rattle.fn_show.proofs.places.place_half.Goals as goal
-
-pub returns-then-are_plain : goal.returns-then-are_plain
-returns-then-are_plain c =
-    within c.args.octets.now c.args.from (c.args.from + 8) 8 c.args.place _ c.requires.within (omega arith) (omega arith) c.requires.here (c.are_plain.ensures c.if-are_plain.true) refl (omega arith)

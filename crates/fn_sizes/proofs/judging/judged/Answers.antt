@@ -1,7 +1,0 @@
-use Rattle.std.proofs.Common.{◌∙◌, ap}
-use Rattle.fn_expr.specs.declared.ranges.Ranges.{Ranges}
-use Rattle.fn_bounds.specs.Faults.{format_fault}
-use Rattle.fn_sizes.proofs.judging.judged.Goals as goal
-
-pub returns : goal.returns
-returns c = c.format_fault.ensures ∙ ap (λ (r : Ranges). format_fault c.args.extent c.args.format.now c.args.sizes.now r) (c.in_ok-ranges.ensures {u = tt})

@@ -1,8 +1,0 @@
-use Rattle.std.proofs.Common.{ℕ, List}
-use Rattle.fn_expr.specs.declared.interval.Interval.{Interval}
-use Rattle.fn_normal.specs.declared.profile.FormatSizes.{FormatSizes}
-use Rattle.fn_sizes.specs.Magnitude.{ReachesBeyond}
-use Rattle.fn_sizes.proofs.magnitude.sum_reach.Given as goal
-
-abbrev pub invariant-operand : goal.invariant-operand
-invariant-operand l = (sizes : FormatSizes) (parameters : List Interval) (m : ℕ) → ReachesBeyond sizes parameters l.rest l.number m → ReachesBeyond sizes parameters l.fn.expr 0 m

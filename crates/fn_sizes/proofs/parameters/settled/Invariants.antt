@@ -1,6 +1,0 @@
-use Rattle.std.proofs.Common.{◌≡◌, take, map}
-use Rattle.std.specs.Option.{unwrap_or}
-use Rattle.fn_sizes.proofs.parameters.settled.Given as goal
-
-abbrev pub invariant-loop-interval : goal.invariant-loop-interval
-invariant-loop-interval l = l.ranges ≡ map (λ o. unwrap_or o l.none) (take l.interval-index l.found)

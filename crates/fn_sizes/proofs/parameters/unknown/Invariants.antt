@@ -1,5 +1,0 @@
-use Rattle.std.proofs.Common.{◌≡◌, take, map, None}
-use Rattle.fn_sizes.proofs.parameters.unknown.Given as goal
-
-abbrev pub invariant-loop : goal.invariant-loop
-invariant-loop l = l.found ≡ map (λ p. None) (take l.index l.parameters)

@@ -1,6 +1,0 @@
-use Rattle.std.proofs.Common.{◌≡◌, take, fold}
-use Rattle.fn_bounds.specs.Parameters as spec
-use Rattle.fn_sizes.proofs.parameters.with_fields.Given as goal
-
-abbrev pub invariant-loop-field : goal.invariant-loop-field
-invariant-loop-field l = l.all ≡ fold (λ o d. spec.with_call l.ranges l.method o d.encoding) l.fn.found (take l.field-index l.format.fields)

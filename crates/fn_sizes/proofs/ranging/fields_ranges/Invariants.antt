@@ -1,6 +1,0 @@
-use Rattle.std.proofs.Common.{◌≡◌, take, map}
-use Rattle.fn_bounds.specs.Ranging as spec
-use Rattle.fn_sizes.proofs.ranging.fields_ranges.Given as goal
-
-abbrev pub invariant-loop-size : goal.invariant-loop-size
-invariant-loop-size l = l.ranges.items ≡ map spec.side_ranges (take l.size-index l.sizes)

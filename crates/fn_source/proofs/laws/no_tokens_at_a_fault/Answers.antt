@@ -1,5 +1,0 @@
-use Rattle.fn_source.proofs.LexicalUnique as lemmas
-use Rattle.fn_source.proofs.laws.no_tokens_at_a_fault.Goals as goal
-
-pub returns : goal.returns
-returns c = lemmas.no_tokens

@@ -1,5 +1,0 @@
-use Rattle.fn_source.proofs.LexicalUnique as lemmas
-use Rattle.fn_source.proofs.laws.one_fault.Goals as goal
-
-pub returns : goal.returns
-returns c = lemmas.one_fault

@@ -1,6 +1,0 @@
-use Rattle.std.proofs.Common.{length}
-use Rattle.fn_source.proofs.LexicalUnique.{unique}
-use Rattle.fn_source.proofs.laws.one_reading.Goals as goal
-
-pub returns : goal.returns
-returns c = λ text a b g h. unique (length text) text a b g h

@@ -1,5 +1,0 @@
-use Rattle.fn_source.proofs.LexicalSlices as lemmas
-use Rattle.fn_source.proofs.laws.spans_rise.Goals as goal
-
-pub returns : goal.returns
-returns c = lemmas.spans_rise

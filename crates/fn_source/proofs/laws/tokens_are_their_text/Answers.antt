@@ -1,5 +1,0 @@
-use Rattle.fn_source.proofs.LexicalSlices as lemmas
-use Rattle.fn_source.proofs.laws.tokens_are_their_text.Goals as goal
-
-pub returns : goal.returns
-returns c = lemmas.tokens_are_their_text

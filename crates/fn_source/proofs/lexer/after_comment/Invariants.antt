@@ -1,9 +1,0 @@
-use Rattle.std.proofs.Common.{◌≡◌, length}
-use Rattle.fn_source.specs.Scan.{after_comment}
-use Rattle.fn_source.proofs.lexer.after_comment.Given as goal
-
-abbrev pub invariant-seek : goal.invariant-seek
-invariant-seek l = after_comment l.rest ≡ after_comment l.text
-
-abbrev pub decreases-seek : goal.decreases-seek
-decreases-seek l = length l.rest

@@ -1,6 +1,0 @@
-use Rattle.std.proofs.Common.{arith}
-use Rattle.fn_source.proofs.LexicalClasses.{space_class}
-use Rattle.fn_source.proofs.lexer.is_space.Goals as goal
-
-pub returns : goal.returns
-returns c = rw c.class_of.ensures (space_class c.args.c (omega arith))

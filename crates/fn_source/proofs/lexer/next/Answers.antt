@@ -1,5 +1,0 @@
-use Rattle.fn_source.proofs.LexicalFronts.{next_is}
-use Rattle.fn_source.proofs.lexer.next.Goals as goal
-
-pub returns : goal.returns
-returns c = next_is c.args.text.now c.lexeme.result c.requires c.lexeme.ensures

@@ -1,2 +1,0 @@
-pub mod InitialCounted
-pub mod InitialValueless

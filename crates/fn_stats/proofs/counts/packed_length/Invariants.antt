@@ -1,6 +1,0 @@
-use Rattle.std.proofs.Common.{◌≡◌, ◌+◌, drop, length}
-use Rattle.fn_filling.specs.Fillings.{level, packed, packed_bits}
-use Rattle.fn_stats.proofs.counts.packed_length.Given as goal
-
-abbrev pub invariant-loop-place : goal.invariant-loop-place
-invariant-loop-place l = l.bits + length (packed_bits (drop l.place-index l.place-items) (level l.filling)) ≡ length (packed l.filling)

@@ -1,7 +1,0 @@
-use Rattle.std.specs.Prelude.{◌≡◌, ◌+◌, ◌^◌, ◌+ℤ◌, drop, pos}
-use Rattle.fn_stats.specs.Nearing.{within}
-use Rattle.fn_stats.specs.Steps.{counted}
-use Rattle.fn_stats.proofs.nearing.taken_from.Given as goal
-
-abbrev pub invariant-loop-entry : goal.invariant-loop-entry
-invariant-loop-entry l = (l.taken + counted (within l.first (2 ^ l.bits)) (drop l.entry-index l.entries) ≡ counted (within l.first (2 ^ l.bits)) l.entries) × (l.end ≡ l.first +ℤ pos (2 ^ l.bits))

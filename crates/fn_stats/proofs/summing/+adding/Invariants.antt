@@ -1,6 +1,0 @@
-use Rattle.fn_stats.specs.Sums.{row_of}
-use Rattle.fn_stats.proofs.SumsPlacing.{PlacesSoFar}
-use Rattle.fn_stats.proofs.summing.+adding.Given as goal
-
-abbrev pub invariant-add_to_format-loop-place : goal.invariant-add_to_format-loop-place
-invariant-add_to_format-loop-place l = PlacesSoFar l.filling (row_of l.fn.format) l.place (row_of l.format)

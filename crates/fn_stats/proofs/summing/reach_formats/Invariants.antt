@@ -1,6 +1,0 @@
-use Rattle.std.proofs.Common.{◌≡◌, length}
-use Rattle.fn_stats.specs.Adding.{SameFormats}
-use Rattle.fn_stats.proofs.summing.reach_formats.Given as goal
-
-abbrev pub invariant-loop-reached : goal.invariant-loop-reached
-invariant-loop-reached l = SameFormats l.fn.formats.items l.formats.items × (l.reached ≡ length l.formats.items)

@@ -1,6 +1,0 @@
-use Rattle.std.proofs.Common.{◌≡◌, length}
-use Rattle.fn_stats.specs.Adding.{SamePlaces}
-use Rattle.fn_stats.proofs.summing.reach_places.Given as goal
-
-abbrev pub invariant-loop-reached : goal.invariant-loop-reached
-invariant-loop-reached l = SamePlaces l.fn.places.items l.places.items × (l.reached ≡ length l.places.items)

@@ -1,6 +1,0 @@
-use Rattle.std.proofs.Common.{refl}
-use Rattle.fn_stats.proofs.TrendsGrowing.{adds_filling}
-use Rattle.fn_stats.proofs.trending.Trends.add.Goals as goal
-
-pub returns : goal.returns
-returns c = adds_filling c.args.filling.now c.args.self.now _ refl c.in_ok-self.ensures c.in_ok-add_fields.ensures

@@ -1,5 +1,0 @@
-use Rattle.fn_stats.proofs.TrendsGrowing.{FieldsSoFar}
-use Rattle.fn_stats.proofs.trending.add_fields.Given as goal
-
-abbrev pub invariant-loop-place : goal.invariant-loop-place
-invariant-loop-place l = FieldsSoFar l.lost l.filling l.fn.fields.items l.place l.fields.items

@@ -1,9 +1,0 @@
-pub mod Adding
-pub mod Counts
-pub mod Depth
-pub mod Laws
-pub mod Nearing
-pub mod Steps
-pub mod Sums
-pub mod Trends
-pub mod Values

@@ -1,6 +1,0 @@
-use Rattle.std.proofs.Common.{take}
-use Rattle.fn_terms.specs.Constants.{constants_in, AreValues}
-use Rattle.fn_terms.proofs.table.values_in.Given as goal
-
-abbrev pub invariant-loop-part : goal.invariant-loop-part
-invariant-loop-part l = AreValues l.text l.names (constants_in (take l.part-index l.parts)) l.found

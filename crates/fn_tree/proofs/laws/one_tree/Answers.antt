@@ -1,5 +1,0 @@
-use Rattle.fn_tree.proofs.FileViable.{one_tree}
-use Rattle.fn_tree.proofs.laws.one_tree.Goals as goal
-
-pub returns : goal.returns
-returns c = one_tree

@@ -1,9 +1,0 @@
-//! What `--explain` adds below a fault line of `prove` and of `check`. The line itself is not touched. What is added is by the rules that stand in the files here,
-//! which are tested and not proved.
-#![tactic(auto)]
-
-mod counting;
-pub mod faults;
-pub mod parting;
-mod places;
-pub mod waiting;

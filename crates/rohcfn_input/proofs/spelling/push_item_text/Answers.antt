@@ -1,5 +1,0 @@
-use Rattle.rohcfn_input.proofs.ItemsSpelled.{item_grown}
-use Rattle.rohcfn_input.proofs.spelling.push_item_text.Goals as goal
-
-pub returns : goal.returns
-returns c = item_grown c.args.item.now _ _ _ _ c.in_ok-push_bits.ensures c.as_slice.ensures c.in_ok-push_values.ensures

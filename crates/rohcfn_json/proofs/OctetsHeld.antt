@@ -1,9 +1,0 @@
--- The octets that hold bits are those that the function gives.
-use Rattle.std.proofs.Common.{◌≡◌, ℕ, Bool, List}
-use Rattle.fn_bits.specs.Octets.{Holds}
-use Rattle.fn_bits.proofs.OctetsHeld.{octets_same}
-use Rattle.rohcfn_items.specs.BitTexts.{octets_of}
-use Rattle.rohcfn_items.proofs.BitTextsSpelled.{octets_held}
-
-pub octets_are : (octets : List ℕ) (bits : List Bool) → Holds octets bits → octets ≡ octets_of bits
-octets_are octets bits h = octets_same octets (octets_of bits) bits h (octets_held bits)

@@ -1,6 +1,0 @@
-use Rattle.std.specs.Prelude.{◌≡◌, ◌++◌, drop, string_bytes}
-use Rattle.rohcfn_json.specs.Advice.{own_lines}
-use Rattle.rohcfn_json.proofs.advice.push_owns.Given as goal
-
-abbrev pub invariant-loop-own : goal.invariant-loop-own
-invariant-loop-own l = string_bytes l.output ++ own_lines (drop l.own-index l.owns) ≡ string_bytes l.fn.output ++ own_lines l.owns

@@ -1,6 +1,0 @@
-use Rattle.std.specs.Prelude.{◌≡◌, ◌++◌, drop}
-use Rattle.rohcfn_json.specs.Loss.{uses_tokens}
-use Rattle.rohcfn_json.proofs.loss.add_uses.Given as goal
-
-abbrev pub invariant-loop-unserved : goal.invariant-loop-unserved
-invariant-loop-unserved l = l.object ++ uses_tokens (drop l.unserved-index l.uses) ≡ l.fn.object ++ uses_tokens l.uses

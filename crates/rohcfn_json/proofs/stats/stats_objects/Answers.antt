@@ -1,5 +1,0 @@
-use Rattle.rohcfn_json.proofs.StatsTold.{told}
-use Rattle.rohcfn_json.proofs.stats.stats_objects.Goals as goal
-
-pub returns : goal.returns
-returns c = told c.args.methods.now c.args.top c.args.sums.now _ _ c.counted_objects.result (λ fs are. c.in_ok-rows.ensures fs are) c.as_slice.ensures c.counted_objects.ensures

@@ -1,8 +1,0 @@
-use Rattle.std.proofs.Common.{List, sym, subst}
-use Rattle.fn_normal.specs.declared.profile.Method.{Method}
-use Rattle.fn_trees.specs.Calling.{CallsWithin}
-use Rattle.fn_checker.proofs.JudgedRefusing.{calls_within}
-use Rattle.rohcfn_names.proofs.candidates.count_all.Goals as goal
-
-pub callees_first-requires-clause-within : goal.callees_first-requires-clause-within
-callees_first-requires-clause-within c = subst (λ (ms : List Method). CallsWithin ms) (sym c.methods-listed.ensures) (calls_within c.args.profile.now.methods c.keeps.ensures.well_formed)

@@ -1,7 +1,0 @@
-use Rattle.std.proofs.Common.{◌≡◌, ◌-◌, ◌++◌, map}
-use Rattle.std.specs.List.{range_with_len}
-use Rattle.rohcfn_names.specs.Table.{columns, width, widths}
-use Rattle.rohcfn_names.proofs.table.widths.Given as goal
-
-abbrev pub invariant-loop-column : goal.invariant-loop-column
-invariant-loop-column l = l.widths ++ map (width l.rows) (range_with_len l.column (columns l.rows - l.column)) ≡ widths l.rows

@@ -1,6 +1,0 @@
-use Rattle.rohcfn_report.specs.Reports.{CheckedOctets}
-use Rattle.rohcfn_report.proofs.ExplainingNotes.{with_notes}
-use Rattle.rohcfn_report.proofs.explaining.explain_check.Goals as goal
-
-pub returns : goal.returns
-returns c = with_notes (CheckedOctets c.args.top.now c.args.profile.now c.args.origin) c.noted.result c.in_ok-answer.answer c.as_str.result.now c.in_ok-answer.ensures c.noted.ensures.status c.noted.ensures.output

@@ -1,7 +1,0 @@
-use Rattle.rohcfn_survey.specs.Draw.{number_cell}
-use Rattle.rohcfn_survey.proofs.DrawLemmas.{ranges_on}
-use Rattle.rohcfn_survey.proofs.draw.push_digits.Goals as goal
-
-pub loop-bit-preserved : goal.loop-bit-preserved
-loop-bit-preserved c =
-    ranges_on (number_cell c.args.number c.args.start c.args.width) c.loop-bit.bit c.args.width _ _ _ c.loop-bit-test.true c.in_ok-push_digit.ensures c.loop-bit.invariant

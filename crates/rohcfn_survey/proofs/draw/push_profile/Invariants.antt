@@ -1,7 +1,0 @@
-use Rattle.std.specs.Prelude.{◌++◌, string_bytes}
-use Rattle.rohcfn_survey.specs.Draw.{called_text, drawn}
-use Rattle.rohcfn_names.proofs.TableLists.{Goes}
-use Rattle.rohcfn_survey.proofs.draw.push_profile.Given as goal
-
-abbrev pub invariant-loop-index : goal.invariant-loop-index
-invariant-loop-index l = Goes (λ m. called_text l.profile m.0 m.1) l.profile.methods l.index (string_bytes l.output) (string_bytes l.fn.output ++ drawn l.profile)

@@ -1,7 +1,0 @@
-use Rattle.std.specs.Prelude.{string_bytes}
-use Rattle.rohcfn_survey.specs.Warnings.{factor_text, factors_text}
-use Rattle.rohcfn_names.proofs.TableLists.{Goes}
-use Rattle.rohcfn_survey.proofs.warnings.factors_text.Given as goal
-
-abbrev pub invariant-loop-place : goal.invariant-loop-place
-invariant-loop-place l = Goes (λ f. factor_text l.methods l.method l.format f.0 f.1) l.found l.place (string_bytes l.text) (factors_text l.methods l.method l.format l.found)

@@ -1,6 +1,0 @@
-use Rattle.std.proofs.Common.{◌≡◌, drop}
-use Rattle.rohcfn_tool.specs.Asked.{lacking_words}
-use Rattle.rohcfn_tool.proofs.asked.asked_words.Given as goal
-
-abbrev pub invariant-loop-field : goal.invariant-loop-field
-invariant-loop-field l = lacking_words (drop l.field-index l.fields) l.values ≡ lacking_words l.fields l.values

@@ -1,6 +1,0 @@
-use Rattle.std.proofs.Common.{◌≡◌, drop}
-use Rattle.fn_engine.specs.Asking as spec
-use Rattle.rohcfn_tool.proofs.asked.first_of.Given as goal
-
-abbrev pub invariant-loop-value : goal.invariant-loop-value
-invariant-loop-value l = spec.first_of l.name (drop l.value-index l.values) ≡ spec.first_of l.name l.values

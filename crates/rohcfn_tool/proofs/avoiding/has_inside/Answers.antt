@@ -1,5 +1,0 @@
-use Rattle.std.proofs.Common.{rules}
-use Rattle.rohcfn_tool.proofs.avoiding.has_inside.Goals as goal
-
-pub returns-in-Some : goal.returns-in-Some
-returns-in-Some c = λ is. (c.in-Some.part, rw (c.in-Some.is) at c.in_ok-part.ensures, (search (rules)))

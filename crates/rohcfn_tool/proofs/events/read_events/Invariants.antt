@@ -1,9 +1,0 @@
-use Rattle.std.proofs.Common.{take}
-use Rattle.rohcfn_tool.specs.Events.{IsEvent}
-use Rattle.rohcfn_input.specs.Inputs.{AreRead}
-use Rattle.rohcfn_input.proofs.InputLines.{shown}
-use Rattle.rohcfn_tool.proofs.events.read_events.Given as goal
-
--- the lines so far are read as the events so far
-abbrev pub invariant-loop-line : goal.invariant-loop-line
-invariant-loop-line l = AreRead IsEvent (shown (take l.line-index l.line-items)) l.inputs.items

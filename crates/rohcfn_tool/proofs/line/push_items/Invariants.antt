@@ -1,7 +1,0 @@
-use Rattle.std.specs.Prelude.{drop, string_bytes}
-use Rattle.rohcfn_tool.proofs.LineFlowing.{PushedSoFar}
-use Rattle.rohcfn_tool.proofs.line.push_items.Given as goal
-
--- the lines so far, and those of the items that are left
-abbrev pub invariant-loop-flow : goal.invariant-loop-flow
-invariant-loop-flow l = PushedSoFar l.items (drop l.flow-index l.items) (string_bytes l.fn.output) (string_bytes l.output)

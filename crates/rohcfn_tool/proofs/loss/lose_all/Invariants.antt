@@ -1,6 +1,0 @@
-use Rattle.rohcfn_tool.proofs.Losing.{LosesSoFar}
-use Rattle.rohcfn_tool.proofs.loss.lose_all.Given as goal
-
--- what is held, counted and told so far, and what comes of the items that are left
-abbrev pub invariant-loop-i : goal.invariant-loop-i
-invariant-loop-i l = LosesSoFar l.accepted l.most l.fn.start l.items l.i l.sender l.held l.tally l.journal

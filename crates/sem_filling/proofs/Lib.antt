@@ -1,0 +1,21 @@
+pub mod EntriesLevels
+pub mod FillingsUnique
+pub mod FillingsInduction
+pub mod FillingsPacked
+pub mod FillingsAsked
+mod EntriesInOrder
+pub mod FitsValues
+pub mod NumbersLying
+pub mod FitsSized
+pub mod FitsInverted
+pub mod BoundedSums
+pub mod Bounding
+pub mod FitsArguments
+pub mod FitsSides
+pub mod Fronts
+pub mod Each
+pub mod Coded
+pub mod Readying
+pub mod FitsJudged
+pub mod FitsLimits
+pub mod WholeSidesPieces

@@ -1,0 +1,11 @@
+pub mod Fillings
+pub mod Entries
+pub mod FillingLaws
+pub mod Fits
+pub mod Fronts
+pub mod Bounded
+pub mod Laws
+pub mod Numbers
+pub mod Level
+pub mod Coding
+pub mod Ready

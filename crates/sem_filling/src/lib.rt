@@ -1,0 +1,14 @@
+//! Fillings: a format with both sides of each of its fields, and what fills the methods that they call; and when a filling fits, which is the meaning of the
+//! notation.
+#![tactic(auto)]
+
+pub use entries::{FieldPath, advance, below};
+pub use filling::{AskedValue, FilledField, Filling, Item};
+pub use whole_sides::WholeSides;
+
+pub mod entries;
+pub mod filling;
+pub mod filling_laws;
+pub mod laws;
+pub mod sides;
+pub mod whole_sides;

@@ -1,0 +1,11 @@
+//! Whether a filling fits, by a test.
+#![tactic(auto)]
+
+pub use levels::{holds, level_fits, sides_if_fits};
+
+mod constraints;
+pub mod level;
+pub mod levels;
+pub mod numbers;
+mod plain;
+mod shape;

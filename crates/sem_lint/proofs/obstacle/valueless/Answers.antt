@@ -1,0 +1,13 @@
+use Rattle.std.proofs.Common.{arith}
+use Rattle.std.proofs.lemmas.Option.{slice_get_within}
+use Rattle.sem_expr.specs.Bounds.{bounding_of}
+use Rattle.sem_lint.specs.Obstacles.{LacksAt}
+use Rattle.sem_lint.proofs.LengthsFirst.{none_up_to}
+use Rattle.sem_lint.proofs.obstacle.valueless.Goals as goal
+
+pub loop-field-preserved : goal.loop-field-preserved
+loop-field-preserved c = none_up_to (LacksAt c.args.fields.now (bounding_of c.args.ranges.now)) c.loop-field.field c.loop-field.invariant c.in_default.ensures
+
+pub returns : goal.returns
+returns c = λ at has.
+    c.loop-field.invariant has.0 at (let within = slice_get_within c.args.fields.now has.0 has.1.field has.1.field_at in let end = c.loop-field-test.false in omega arith) has.1

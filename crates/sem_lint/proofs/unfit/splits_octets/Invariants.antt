@@ -1,0 +1,6 @@
+use Rattle.std.proofs.Common.{ℕ, ◌<◌}
+use Rattle.sem_lint.specs.Obstacles as spec
+use Rattle.sem_lint.proofs.unfit.splits_octets.Given as goal
+
+abbrev pub invariant-loop-field : goal.invariant-loop-field
+invariant-loop-field l = (i : ℕ) → i < l.field → spec.SplitsOctets l.fields l.sizes i → ⊥

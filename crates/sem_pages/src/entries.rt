@@ -1,0 +1,242 @@
+//! What the filling of a page leaves in the context, and its asked values.
+
+ghost use Rattle.std.specs.Prelude.{◌≡◌, ◌++◌, ◌∷◌, [], false, IfOk, IfSome, IsTrue, OnOk, OnErr};
+ghost use Rattle.std.specs.Map.{keys_of};
+ghost use Rattle.sem_context.specs.Entries.{IsFront};
+ghost use Rattle.sem_filling.specs.declared.filling.Filling as filling;
+ghost use Rattle.sem_filling.specs.declared.filling.FilledField as filled;
+ghost use Rattle.sem_filling.specs.Entries.{below, own_entry, entries, entries_below, next, GoesOn};
+ghost use Rattle.sem_filling.specs.Fillings as fillings;
+ghost use Rattle.sem_filling.specs.FillingLaws.{entries_at};
+ghost use Rattle.sem_pages.specs.Pages as spec;
+
+use crate::judge::format_of;
+use crate::page::{Page, Shown};
+use sem_bits::Bits;
+use sem_context::Context;
+use sem_context::path::are_same;
+use sem_filling::AskedValue;
+use sem_profile::{Encoding, Field, Method, Part};
+use sqlite_items::Items;
+use std::alloc::{AllocError, Global};
+
+/// For how many bits of entries room is made at once, at most: a context may have many more entries than a page.
+const MANY: usize = 128;
+
+/// The names of the asked fields of the page's format of the method with their uncompressed sides, in field order. None where the format isn't there.
+pub fn asked_values(
+    alloc: Global,
+    methods: &[Method],
+    method: usize,
+    page: &Page,
+) -> Result<Option<Items<AskedValue>>, AllocError>
+    ensures { IfOk result (λ o. IfSome o (λ values. (f : filling.Filling) → spec.Shows methods.now method page.now f → values ≡ fillings.asked_values (fillings.level f))) }
+{
+    let Some(format) = format_of(methods, method, page.format) else {
+        return Ok(None);
+    };
+    let fields = format.fields.as_slice();
+    let shown = page.fields.as_slice();
+    if shown.len() != fields.len() {
+        return Ok(None);
+    }
+    let mut values = Items::new(alloc);
+    for i in 0..fields.len() {
+        add_asked(alloc, &mut values, &fields[i], &shown[i])?;
+    }
+    Ok(Some(values))
+}
+
+/// Adds the value of the field, if it is asked.
+fn add_asked(
+    alloc: Global,
+    values: &mut Items<AskedValue>,
+    field: &Field,
+    shown: &Shown,
+) -> Result<(), AllocError>
+    ensures { OnOk result (values.new ≡ values.old ++ fillings.asked_values (spec.sides_by field.now shown.now ∷ [])) }
+{
+    if field.declared.asked {
+        values.push(AskedValue {
+            name: field.declared.name.share()?,
+            bits: shown.uncompressed.copy(alloc)?,
+        })?;
+    }
+    Ok(())
+}
+
+/// Puts what the filling of the page leaves into the context. False where the context, which stays then, has not the paths of its entries first, in their order.
+/// Where memory runs out the context is as before.
+pub fn advance(
+    alloc: Global,
+    context: &mut Context,
+    methods: &[Method],
+    method: usize,
+    page: &Page,
+) -> Result<bool, AllocError>
+    ensures ok { IfOk result (λ is. IsTrue is → (f : filling.Filling) → spec.Shows methods.now method page.now f → context.new ≡ next context.old f) }
+    ensures stays { IfOk result (λ is. is ≡ false → context.new ≡ context.old) }
+    ensures err { OnErr result (context.new ≡ context.old) }
+{
+    let room = context.take_room();
+    let Some(values) = values_in_order(alloc, room, context, methods, method, page)? else {
+        return Ok(false);
+    };
+    context.put_in_order(values);
+    Ok(true)
+}
+
+/// The bits of the entries that the filling of the page leaves, where the first entries of the context have their paths, in their order. They stand in the room,
+/// which is an empty list.
+fn values_in_order(
+    alloc: Global,
+    room: Vec<Bits>,
+    context: &Context,
+    methods: &[Method],
+    method: usize,
+    page: &Page,
+) -> Result<Option<Vec<Bits>>, AllocError>
+    requires { room.items ≡ [] }
+    ensures { IfOk result (λ o. IfSome o (λ values. (f : filling.Filling) → spec.Shows methods.now method page.now f → IsFront (keys_of context.now) values.items (entries f))) }
+{
+    let mut values = room;
+    values.reserve(context.len().min(MANY))?;
+    if !add_page(page, alloc, &mut values, context, methods, method, "")? {
+        return Ok(None);
+    }
+    Ok(Some(values))
+}
+
+/// Adds the bits of the entries of the page below a path, where those of the context that come next have their paths. Whether they have.
+#[cycle(entries)]
+fn add_page(
+    page: &Page,
+    alloc: Global,
+    values: &mut Vec<Bits>,
+    context: &Context,
+    methods: &[Method],
+    method: usize,
+    path: &str,
+) -> Result<bool, AllocError>
+    ensures { IfOk result (λ is. IsTrue is → (f : filling.Filling) → spec.Shows methods.now method page.now f → GoesOn (keys_of context.now) values.old.items values.new.items (entries_below f path.now)) }
+{
+    let Some(format) = format_of(methods, method, page.format) else {
+        return Ok(false);
+    };
+    let fields = format.fields.as_slice();
+    let shown = page.fields.as_slice();
+    if shown.len() != fields.len() {
+        return Ok(false);
+    }
+    for i in 0..fields.len() {
+        if !add_field(&shown[i], alloc, values, context, methods, path, &fields[i])? {
+            return Ok(false);
+        }
+    }
+    Ok(true)
+}
+
+/// The same of one field.
+#[cycle(entries)]
+fn add_field(
+    shown: &Shown,
+    alloc: Global,
+    values: &mut Vec<Bits>,
+    context: &Context,
+    methods: &[Method],
+    path: &str,
+    field: &Field,
+) -> Result<bool, AllocError>
+    ensures { IfOk result (λ is. IsTrue is → (g : filled.FilledField) → spec.StandsFor methods.now field.now shown.now g → GoesOn (keys_of context.now) values.old.items values.new.items (entries_at path.now g)) }
+{
+    let name = field.declared.name.as_str();
+    let part = field.declared.part;
+    let Some(inner) = &shown.inner else {
+        return add_plain(
+            alloc,
+            values,
+            context,
+            part,
+            path,
+            name,
+            &shown.uncompressed,
+        );
+    };
+    let Encoding::Call { method, .. } = field.encoding.get() else {
+        return Ok(false);
+    };
+    let Some(here) = add_next(
+        alloc,
+        values,
+        context,
+        part,
+        path,
+        name,
+        &shown.uncompressed,
+    )?
+    else {
+        return Ok(false);
+    };
+    add_page(inner, alloc, values, context, methods, *method, here)
+}
+
+/// Adds the bits of the entry, if there is one, that a field of that part and name leaves below a path. Whether the path that comes next is its path.
+fn add_plain(
+    alloc: Global,
+    values: &mut Vec<Bits>,
+    context: &Context,
+    part: Part,
+    path: &str,
+    name: &str,
+    bits: &Bits,
+) -> Result<bool, AllocError>
+    ensures { IfOk result (λ is. IsTrue is → GoesOn (keys_of context.now) values.old.items values.new.items (own_entry part (below path.now name.now) bits.now)) }
+{
+    if let Part::Local = part {
+        return Ok(true);
+    }
+    match add_next(alloc, values, context, part, path, name, bits)? {
+        Some(_) => Ok(true),
+        None => Ok(false),
+    }
+}
+
+/// Adds the bits of the entry that a field of that part and name leaves below a path, where the context's entry that comes next has this path, which is given.
+fn add_next<'a>(
+    alloc: Global,
+    values: &mut Vec<Bits>,
+    context: &'a Context,
+    part: Part,
+    path: &str,
+    name: &str,
+    bits: &Bits,
+) -> Result<Option<&'a str>, AllocError>
+    ensures { IfOk result (λ o. IfSome o (λ here. (here.now ≡ below path.now name.now) × GoesOn (keys_of context.now) values.old.items values.new.items (own_entry part here.now bits.now))) }
+{
+    if let Part::Local = part {
+        return Ok(None);
+    }
+    let Some(here) = context.path_at(values.len()) else {
+        return Ok(None);
+    };
+    if !is_below(here, path, name) {
+        return Ok(None);
+    }
+    values.push(bits.copy(alloc)?)?;
+    Ok(Some(here))
+}
+
+/// Whether a path is that of a field of that name below another.
+fn is_below(here: &str, path: &str, name: &str) -> bool
+    ensures { IsTrue result → here.now ≡ below path.now name.now }
+{
+    let octets = here.as_bytes();
+    if path.is_empty() {
+        return are_same(octets, name.as_bytes());
+    }
+    let front = path.len();
+    if front >= octets.len() || octets[front] != b'.' {
+        return false;
+    }
+    are_same(&octets[front + 1..], name.as_bytes()) && are_same(&octets[..front], path.as_bytes())
+}

@@ -1,0 +1,116 @@
+//! The values of expressions, as far as each number on the way is within 64 bits.
+
+ghost use Rattle.std.specs.Prelude.{◌≡◌, Some, IfSome, IfOk, IsTrue, []};
+ghost use Rattle.sem_expr.specs.Values.{val, truth};
+ghost use Rattle.sem_expr.specs.Values as values;
+ghost use Rattle.sem_filling.specs.Fits.{vals};
+ghost use Rattle.sem_pages.specs.Pages.{numbers_in};
+
+use crate::view::View;
+use sem_expr::short::{calculated, plain, short};
+use sem_expr::{Comparison, Cond, Expr};
+use smallvec::SmallVec;
+use std::alloc::AllocError;
+
+/// The value of an expression, where it is found.
+pub(crate) fn value(expr: &Expr, view: &View<'_>) -> Option<i64>
+    ensures { IfSome result (λ v. val (numbers_in view.now) expr.now ≡ Some v) }
+{
+    match expr {
+        Expr::Number(_, number) => short(*number),
+        Expr::Parameter(_, index) => view.parameter(*index),
+        Expr::Attribute(_, attribute) => view.attribute(*attribute),
+        Expr::Binary(_, operator, left, right) => {
+            let left = match plain(left) {
+                Some(number) => number,
+                None => value(left, view)?,
+            };
+            let right = match plain(right) {
+                Some(number) => number,
+                None => value(right, view)?,
+            };
+            calculated(*operator, left, right)
+        }
+    }
+}
+
+/// Whether the expression has that value, as far as that is found.
+#[inline(always)]
+pub(crate) fn is_number(expr: &Expr, view: &View<'_>, number: i64) -> bool
+    ensures { IsTrue result → val (numbers_in view.now) expr.now ≡ Some number }
+{
+    match expr {
+        Expr::Number(_, own) => *own == number as i128,
+        _ => comes_to(expr, view, number),
+    }
+}
+
+#[inline(never)]
+fn comes_to(expr: &Expr, view: &View<'_>, number: i64) -> bool
+    ensures { IsTrue result → val (numbers_in view.now) expr.now ≡ Some number }
+{
+    let Some(found) = value(expr, view) else {
+        return false;
+    };
+    found == number
+}
+
+/// Whether a condition holds, where that is found.
+pub(crate) fn decide(cond: &Cond, view: &View<'_>) -> Option<bool>
+    ensures { IfSome result (λ b. truth (numbers_in view.now) cond.now ≡ Some b) }
+{
+    match cond {
+        Cond::Constant(_, holds) => Some(*holds),
+        Cond::Compare(_, comparison, left, right) => {
+            let left = value(left, view)?;
+            let right = value(right, view)?;
+            Some(compares(*comparison, left, right))
+        }
+        Cond::Not(_, inner) => {
+            let holds = decide(inner, view)?;
+            Some(!holds)
+        }
+        Cond::And(_, left, right) => {
+            let first = decide(left, view)?;
+            let second = decide(right, view)?;
+            Some(first && second)
+        }
+        Cond::Or(_, left, right) => {
+            let one = decide(left, view)?;
+            let other = decide(right, view)?;
+            Some(one || other)
+        }
+    }
+}
+
+/// Whether the comparison holds of the two numbers.
+fn compares(comparison: Comparison, left: i64, right: i64) -> bool
+    ensures { result ≡ values.compare comparison left right }
+{
+    match comparison {
+        Comparison::Equal => left == right,
+        Comparison::NotEqual => left != right,
+        Comparison::Less => left < right,
+        Comparison::Greater => left > right,
+        Comparison::AtMost => left <= right,
+        Comparison::AtLeast => left >= right,
+    }
+}
+
+/// Makes an empty list that of the values of several expressions. Whether each of them is found.
+pub(crate) fn add_values(
+    exprs: &[Expr],
+    view: &View<'_>,
+    found: &mut SmallVec<i64, 4>,
+) -> Result<bool, AllocError>
+    requires empty { found.old.items ≡ [] }
+    ensures { IfOk result (λ all. IsTrue all → vals (numbers_in view.now) exprs.now ≡ Some found.new.items) }
+{
+    for expr in exprs {
+        let Some(number) = value(expr, view) else {
+            return Ok(false);
+        };
+        found.push(number)?;
+    }
+    Ok(true)
+}

@@ -1,0 +1,9 @@
+pub mod PrecedenceLemmas
+pub mod Loops
+pub mod WordsTables
+pub mod NameSpelled
+pub mod PassesPlaces
+pub mod FaultsFolding
+pub mod FaultsFaultless
+pub mod FieldsRuling
+pub mod ParametersWidening

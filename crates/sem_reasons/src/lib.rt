@@ -1,0 +1,24 @@
+//! Why no filling of a format has a header, or packed bits at the front of a packet.
+#![tactic(auto)]
+
+pub use figures::Figure;
+pub use line::Line;
+pub use reason::{Reason, Within};
+pub use spot::Spot;
+pub use verdicts::{reasons, reasons_against};
+
+mod across;
+mod conflict;
+pub mod figures;
+pub mod laws;
+mod lengths;
+pub mod line;
+mod numbers;
+mod observation;
+mod places;
+pub mod reason;
+mod references;
+mod sight;
+pub mod spot;
+mod subjects;
+pub mod verdicts;

@@ -1,0 +1,10 @@
+pub mod EncodingsGathering
+pub mod ConstraintsNumbering
+pub mod Wording
+pub mod KeptStaying
+pub mod KeptLemmas
+pub mod ConstraintsHiding
+pub mod FieldsJoining
+pub mod MethodFormatsLeading
+pub mod DefaultsSections
+pub mod MethodFormatsParts

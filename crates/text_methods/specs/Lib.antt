@@ -1,0 +1,11 @@
+pub mod Constraints
+pub mod Drafts
+pub mod Encodings
+pub mod Fields
+pub mod Formats
+pub mod Worded
+pub mod Kept
+pub mod Parameters
+pub mod Defaults
+pub mod MethodFormats
+pub mod Methods

@@ -1,0 +1,5 @@
+use Rattle.text_resolve.proofs.ExcludedLimits.{no_cause_of_limits}
+use Rattle.text_resolve.proofs.laws.no_cause_of_limits.Goals as goal
+
+pub returns : goal.returns
+returns c = no_cause_of_limits

@@ -1,0 +1,15 @@
+pub mod Calls
+pub mod FileNames
+pub mod CallDepth
+pub mod Parts
+pub mod Recursion
+pub mod Top
+pub mod Twice
+pub mod ProfileLimits
+pub mod Reached
+pub mod Methods
+pub mod Resolved
+pub mod WellFormed
+pub mod Passes
+pub mod Plain
+pub mod Excluded

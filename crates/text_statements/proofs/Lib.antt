@@ -1,0 +1,14 @@
+pub mod CrcDataLaws
+pub mod ConstantsEvaluated
+pub mod JudgedLeaves
+pub mod ConstantsListing
+pub mod MeansParts
+pub mod JudgedWalks
+pub mod NamesStaying
+pub mod InitialCounted
+pub mod InitialValueless
+pub mod AskedLookups
+pub mod InitialsFronts
+pub mod InitialsBoundsRead
+pub mod ItemsAsked
+pub mod InitialsFaultOrder

@@ -1,0 +1,17 @@
+pub mod Names
+pub mod Operators
+pub mod Ranges
+pub mod Judged
+pub mod Means
+pub mod Conjuncts
+pub mod CrcData
+pub mod Constants
+pub mod Arguments
+pub mod Callees
+pub mod Constraints
+pub mod Encodings
+pub mod Initial
+pub mod Initials
+pub mod Enforced
+pub mod Asked
+pub mod Givens

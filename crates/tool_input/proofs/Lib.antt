@@ -1,0 +1,14 @@
+pub mod RefusalsHeld
+pub mod BundleHeld
+pub mod BundleLines
+pub mod BundleParts
+pub mod BundleSpelled
+pub mod CountedReads
+pub mod InputLines
+pub mod ItemsSpelled
+pub mod OneLineLemmas
+pub mod OneLineNames
+pub mod BundleNames
+pub mod Spelled
+pub mod PartWordsThere
+pub mod BitTextsSpelled

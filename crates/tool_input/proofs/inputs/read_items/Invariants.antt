@@ -1,0 +1,8 @@
+use Rattle.std.proofs.Common.{take}
+use Rattle.tool_input.specs.Inputs.{AreRead, IsItem}
+use Rattle.tool_input.proofs.InputLines.{shown}
+use Rattle.tool_input.proofs.inputs.read_items.Given as goal
+
+-- the lines so far are read as the items so far
+abbrev pub invariant-loop-line : goal.invariant-loop-line
+invariant-loop-line l = AreRead IsItem (shown (take l.line-index l.line-items)) l.inputs.items

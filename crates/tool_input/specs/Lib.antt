@@ -1,0 +1,11 @@
+pub mod Bundle
+pub mod Counted
+pub mod Inputs
+pub mod ItemTexts
+pub mod Octets
+pub mod OneLine
+pub mod PartWords
+pub mod Input
+pub mod Refusals
+pub mod Status
+pub mod BitTexts

@@ -1,0 +1,4 @@
+pub mod OctetsHeld
+pub mod MessagesCut
+pub mod MessagesWhole
+pub mod EntriesParted

@@ -1,0 +1,6 @@
+pub mod Objects
+pub mod Messages
+pub mod MessageObjects
+pub mod Entries
+pub mod Lines
+pub mod Drawing

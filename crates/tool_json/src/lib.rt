@@ -1,0 +1,11 @@
+//! What the commands tell, as JSON lines.
+#![tactic(auto)]
+
+pub mod drawing;
+pub mod entries;
+pub mod lines;
+pub mod message;
+pub mod messages;
+pub mod objects;
+#[cfg(test)]
+mod tests;

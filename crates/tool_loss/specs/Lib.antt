@@ -1,0 +1,5 @@
+pub mod Loss
+pub mod LossObjects
+pub mod Told
+pub mod Reach
+pub mod Step

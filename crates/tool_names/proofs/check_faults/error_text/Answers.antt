@@ -1,0 +1,5 @@
+use Rattle.std.proofs.Common.{rules, append_assoc}
+use Rattle.tool_names.proofs.check_faults.error_text.Goals as goal
+
+pub returns : goal.returns
+returns c = search (rules, append_assoc)

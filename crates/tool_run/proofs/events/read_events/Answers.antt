@@ -1,0 +1,18 @@
+use Rattle.std.proofs.Common.{ap, ◌∙◌}
+use Rattle.tool_run.specs.Events.{IsEvent}
+use Rattle.tool_input.proofs.InputLines.{shown, broken_in, lines_all, lines_more, lines_bad}
+use Rattle.tool_run.proofs.events.read_events.Goals as goal
+
+pub returns-in-Err-clause-bad : goal.returns-in-Err-clause-bad
+returns-in-Err-clause-bad c = broken_in IsEvent c.args.octets.now c.bad_line_of.result (c.bad_line_of.ensures c.args.octets.now c.in-Err.ensures.fault)
+
+pub returns-in-None-clause-bad : goal.returns-in-None-clause-bad
+returns-in-None-clause-bad c =
+    lines_bad IsEvent c.args.octets.now _ _ _ _ c.in-Ok.ensures.text (ap shown c.deref-line-items.ensures.value ∙ c.in-Ok.ensures.found) c.loop-line-test.true c.loop-line.invariant (rw c.in-None.is at c.in_ok-event.ensures.none)
+
+pub loop-line-preserved : goal.loop-line-preserved
+loop-line-preserved c = lines_more IsEvent _ _ _ _ _ _ c.loop-line-test.true c.loop-line.invariant (rw c.in-Some.is at c.in_ok-event.ensures.found) c.in_ok-push-in-Some.ensures.items
+
+pub returns-clause-found : goal.returns-clause-found
+returns-clause-found c =
+    lines_all IsEvent c.args.octets.now _ _ _ c.in-Ok.ensures.text (ap shown c.deref-line-items.ensures.value ∙ c.in-Ok.ensures.found) c.loop-line-test.false c.loop-line.invariant

@@ -1,0 +1,9 @@
+use Rattle.std.proofs.Common.{codes, refl}
+use Rattle.tool_input.proofs.OneLineLemmas.{in_event, told}
+use Rattle.tool_run.proofs.frames.frame_fault.Goals as goal
+
+pub returns-in-NoReach-clause-line : goal.returns-in-NoReach-clause-line
+returns-in-NoReach-clause-line c = told c.plain_line.result _ (in_event c.args.number (codes ": F5 NoReach") (record { no_feed = refl })) c.plain_line.ensures
+
+pub returns-in-Contexts-clause-line : goal.returns-in-Contexts-clause-line
+returns-in-Contexts-clause-line c = told c.plain_line-in-Contexts.result _ (in_event c.args.number (codes ": F6 Contexts") (record { no_feed = refl })) c.plain_line-in-Contexts.ensures

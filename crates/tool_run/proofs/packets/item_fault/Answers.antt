@@ -1,0 +1,12 @@
+use Rattle.std.proofs.Common.{codes, refl}
+use Rattle.tool_input.proofs.OneLineLemmas.{asked_item, in_item, told}
+use Rattle.tool_run.proofs.packets.item_fault.Goals as goal
+
+pub returns-in-HeaderLength-clause-line : goal.returns-in-HeaderLength-clause-line
+returns-in-HeaderLength-clause-line c = told c.plain_line.result _ (in_item c.args.number (codes ": F1 HeaderLength") (record { no_feed = refl })) c.plain_line.ensures
+
+pub returns-in-Asked-clause-line : goal.returns-in-Asked-clause-line
+returns-in-Asked-clause-line c = told c.asked_line.result _ (asked_item c.args.number c.as_str.result.now (rw c.as_str.ensures c.keeps.ensures)) c.asked_line.ensures
+
+pub returns-in-NoFormat-clause-line : goal.returns-in-NoFormat-clause-line
+returns-in-NoFormat-clause-line c = told c.plain_line-in-NoFormat.result _ (in_item c.args.number (codes ": F3 NoFormat") (record { no_feed = refl })) c.plain_line-in-NoFormat.ensures

@@ -1,0 +1,12 @@
+pub mod Advise
+pub mod Asked
+pub mod Events
+pub mod FaultLaws
+pub mod Line
+pub mod Frames
+pub mod Refused
+pub mod Senders
+pub mod Loss
+pub mod Printed
+pub mod Program
+pub mod Avoidance

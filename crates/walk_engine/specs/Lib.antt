@@ -1,0 +1,6 @@
+pub mod Asked
+pub mod Top
+pub mod Reading
+pub mod Writing
+pub mod Searching
+pub mod Laws

@@ -1,0 +1,14 @@
+//! Fillings that are drawn up quickly, for who judges them anyhow.
+#![tactic(auto)]
+
+pub use trial::runs_out;
+pub use walk::{guess, guess_item, is_hopeful};
+
+mod level;
+mod no_guess;
+mod place;
+mod start;
+mod steps;
+mod trial;
+mod values;
+mod walk;

@@ -1,0 +1,17 @@
+use Rattle.std.proofs.Common.{◌∙◌, refl, sym, ap, ◌+◌, ◌/◌, ◌≤◌, subst, length}
+use Rattle.sem_filling.specs.Entries.{entries}
+use Rattle.walk_line.proofs.StepsTrying.{count_within, told_at_once}
+use Rattle.walk_line.proofs.packet.packet_drawn.Goals as goal
+
+pub returns-clause-some : goal.returns-clause-some
+returns-clause-some c =
+    let octets = c.args.octets.now in
+    let held = rw c.in-Some.is at c.in_ok-bits.ensures.found in
+    let read = rw c.in-Some-2.is at c.in_ok-read.ensures.read in
+    let own = rw c.in-Some-3.is at c.in_ok-_own.ensures.found in
+    let within = count_within octets c.in-Some.bits _ c.new-cursor.result c.unpack_drawn.new.cursor c.in-Some-2.read.bits held.1 c.new-cursor.ensures read.advances read.bits_is in
+    let over = c.in-Some-checked_add.ensures.1 in (
+      subst (λ n. n / 8 ≤ length octets) (sym over) within,
+      told_at_once c.args.accepted.now c.args.context.now c.advance.new.context octets (c.in-Some-checked_add.over / 8) c.in-Some.bits c.in-Some-3._own c.in-Some-2.read.filling c.new-cursor.result c.unpack_drawn.new.cursor
+          (entries c.in-Some-2.read.filling) c.in_ok-item.item held.1 read.fits c.new-cursor.ensures read.advances own.1 (own.0 ∙ read.bits_is) refl c.in_ok-advance.ensures.ok c.in_ok-item.ensures,
+    )

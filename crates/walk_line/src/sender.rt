@@ -1,0 +1,151 @@
+//! The sending end of a line.
+
+ghost use Rattle.std.specs.Prelude.{◌≡◌, ◌<◌, ◌≤◌, ◌+◌, ◌/◌, List, ℕ, ◌++◌, length, vec_len, vec_capacity, IfOk, IfErr, OnOk, OnErr};
+ghost use Rattle.std.specs.Option.{SomeIff};
+ghost use Rattle.sem_bits.specs.Octets.{Holds};
+ghost use Rattle.walk_engine.specs.Writing as writing;
+ghost use Rattle.walk_line.specs.Lines.{no_entries};
+ghost use Rattle.walk_line.specs.Lines.Act.{Send, Reset};
+ghost use Rattle.walk_line.specs.States.{IsNotPut, IsPut};
+ghost use Rattle.walk_line.specs.Steps.{IsPacked};
+
+use crate::flow::{Flow, LineVersion, no_contexts};
+use cert_accepted::Accepted;
+use sem_bits::Bits;
+use sem_context::Context;
+use sem_filling::{Item, advance};
+use std::alloc::{AllocError, Global};
+use std::marker::Model;
+use walk_engine::{PackFault, Packed, pack};
+
+/// The sending end: it packs the items of each flow in the flow's context.
+#[derive(Drop)]
+pub struct Sender<'a> {
+    alloc: Global,
+    accepted: &'a Accepted,
+    contexts: Vec<Context>,
+}
+
+impl<'a> Model for Sender<'a> {
+    ghost use Rattle.std.specs.Prelude.{◌≡◌, ◌≤◌, length};
+    ghost use Rattle.walk_line.specs.Lines.{flow_limit};
+    ghost use Rattle.walk_line.specs.States.{Sending};
+    ghost use Rattle.sem_expr.specs.contracts.expr.Expr as expr;
+    ghost use Rattle.sem_expr.specs.contracts.expr.Cond as cond;
+    ghost use Rattle.std.specs.Coded.{codes};
+
+    ghost Value = { Sending };
+
+    ghost coded = { Prim.hlevel (codes, expr.the_row.coded, cond.the_row.coded) };
+
+    ghost view = { λ s. record { accepted = s.accepted.now; contexts = s.contexts.items } };
+
+    ghost invariant = { λ s. length s.contexts.items ≤ flow_limit };
+}
+
+impl<'a> Sender<'a> {
+    /// All contexts are empty.
+    pub fn new(
+        alloc: Global,
+        accepted: &'a Accepted,
+        version: LineVersion,
+    ) -> Result<Sender<'a>, AllocError>
+        ensures { IfOk result (λ s. s ≡ record { accepted = accepted.now; contexts = no_entries version }) }
+    {
+        Ok(Sender {
+            alloc,
+            accepted,
+            contexts: no_contexts(alloc, version)?,
+        })
+    }
+
+    /// Packs an item in the flow's context, and adds the packet to the octets. A refusal is that the line has no such flow, or else
+    /// that of `pack`. It changes neither the sender nor the octets.
+    pub fn send(&mut self, flow: Flow, item: &Item, out: &mut Vec<u8>) -> Result<(), PackFault>
+        ensures ok { OnOk result ((octets : List ℕ) × IsPut self.old self.new (record { flow = flow; act = Send item.now }) octets × (out.new.items ≡ out.old.items ++ octets)) }
+        ensures err { OnErr result ((self.new ≡ self.old) × (out.new.items ≡ out.old.items)) }
+        ensures fault { IfErr result (IsNotPut self.old (record { flow = flow; act = Send item.now })) }
+    {
+        let Some(place) = self.place(flow) else {
+            return Err(PackFault::Flow);
+        };
+        let context = &mut self.contexts[place];
+        put_packet(self.alloc, self.accepted, context, flow.number(), item, out)
+    }
+
+    /// Empties the flow's context, and adds the reset's octet to the octets. It is refused where the line has no such flow, or
+    /// memory runs out, and changes neither then.
+    pub fn reset(&mut self, flow: Flow, out: &mut Vec<u8>) -> Result<(), PackFault>
+        ensures ok { OnOk result ((octets : List ℕ) × IsPut self.old self.new (record { flow = flow; act = Reset }) octets × (out.new.items ≡ out.old.items ++ octets)) }
+        ensures err { OnErr result ((self.new ≡ self.old) × (out.new.items ≡ out.old.items)) }
+        ensures fault { IfErr result (IsNotPut self.old (record { flow = flow; act = Reset })) }
+    {
+        let Some(at) = self.place(flow) else {
+            return Err(PackFault::Flow);
+        };
+        match out.push(flow.reset_octet(self.contexts.len() as u8)) {
+            Ok(()) => {}
+            Err(_) => return Err(PackFault::OutOfMemory),
+        }
+        self.contexts[at] = Context::new(self.alloc);
+        Ok(())
+    }
+
+    /// The place of the flow's context, or `None` where the line has no such flow.
+    fn place(&self, flow: Flow) -> Option<usize>
+        ensures { SomeIff result (flow < length self.now.contexts) flow }
+    {
+        let place = usize::from(flow.number());
+        if place < self.contexts.len() {
+            Some(place)
+        } else {
+            None
+        }
+    }
+}
+
+/// Adds the packet of an item to the octets, after the flow's octet, and moves the context on. A refusal changes neither.
+///
+/// All room is made before anything changes.
+fn put_packet(
+    alloc: Global,
+    accepted: &Accepted,
+    context: &mut Context,
+    flow: u8,
+    item: &Item,
+    out: &mut Vec<u8>,
+) -> Result<(), PackFault>
+    ensures ok { OnOk result (IsPacked accepted.now context.old context.new flow item.now out.old.items out.new.items) }
+    ensures err { OnErr result ((context.new ≡ context.old) × (out.new.items ≡ out.old.items)) }
+    ensures fault { IfErr result (λ e. writing.Blames e accepted.now context.old item.now) }
+{
+    let found = match pack(alloc, accepted, context, item) {
+        Ok(found) => found,
+        Err(fault) => return Err(fault),
+    };
+    let Packed { filling, packed } = found;
+    out.reserve((packed.len() + 7) / 8 + 1)?;
+    advance(alloc, context, &filling)?;
+    match out.push(flow) {
+        Ok(()) => {}
+        Err(_) => unreachable!(),
+    }
+    push_bits(&packed, out);
+    Ok(())
+}
+
+/// Adds the octets that hold bits, the last filled with zero bits, where there is room for them.
+fn push_bits(bits: &Bits, out: &mut Vec<u8>)
+    requires { vec_len out.old + (length bits.now + 7) / 8 ≤ vec_capacity out.old }
+    ensures { (octets : List ℕ) × Holds octets bits.now × (out.new.items ≡ out.old.items ++ octets) }
+{
+    for place in 0..(bits.len() + 7) / 8 {
+        let Some(octet) = bits.octet(place) else {
+            unreachable!();
+        };
+        match out.push(octet) {
+            Ok(()) => {}
+            Err(_) => unreachable!(),
+        }
+    }
+}

@@ -1,0 +1,25 @@
+use Rattle.std.proofs.Common.{refl, arith}
+use Rattle.std.proofs.lemmas.Option.{slice_get_read}
+use Rattle.sem_context.specs.Entries.{bits_at}
+use Rattle.sem_elsewhere.specs.Uses.{Serves}
+use Rattle.sem_filling.proofs.Each.{before_end, before_next}
+use Rattle.walk_loss.proofs.unserved.first_unserved.Goals as goal
+
+pub returns-then-not-branch-clause-first : goal.returns-then-not-branch-clause-first
+returns-then-not-branch-clause-first c = record {
+  place = c.loop-i.i;
+  one = c.index-uses-i.result;
+  at = slice_get_read c.args.uses.now _ c.loop-i.i c.index-uses-i.result refl c.loop-i-test.true c.index-uses-i.is;
+  before = c.loop-i.invariant;
+  fails = λ served. let t = c.in_ok-serves_in.ensures.1 served in absurd (cc (t, c.if-not-branch.true));
+  told = c.in_ok-line.ensures;
+}
+
+pub loop-i-preserved : goal.loop-i-preserved
+loop-i-preserved c =
+    before_next (λ j u. Serves (bits_at c.args.context.now) u) c.args.uses.now c.loop-i.i c.index-uses-i.result
+    (slice_get_read c.args.uses.now _ c.loop-i.i c.index-uses-i.result refl c.loop-i-test.true c.index-uses-i.is)
+    (c.in_ok-serves_in.ensures.0 c.if-not-branch.false) c.loop-i.invariant
+
+pub returns-clause-none : goal.returns-clause-none
+returns-clause-none c u among = before_end (λ j u. Serves (bits_at c.args.context.now) u) c.args.uses.now c.loop-i.i (omega (arith, c.loop-i-test.false)) c.loop-i.invariant among.0 u among.1

@@ -1,0 +1,181 @@
+//! What is read of packets after losses, one after the other.
+
+ghost use Rattle.std.specs.Prelude.{◌≡◌, IfOk, IsTrue, OnOk, []};
+ghost use Rattle.std.specs.Option.{option_copied};
+ghost use Rattle.sem_elsewhere.specs.Listed.{UsesAre};
+ghost use Rattle.sem_filling.specs.Fillings as sides;
+ghost use Rattle.walk_loss.specs.Reception.{IsHeard};
+ghost use Rattle.walk_loss.specs.Journal as spec;
+
+use crate::reception::{Heard, HeardKind, hear};
+use crate::unserved::{Unserved, all_serve, unserved_among};
+use crate::uses::{Using, uses_of};
+use cert_accepted::Accepted;
+use sem_context::Context;
+use sem_filling::whole_sides::header_of;
+use sem_filling::{Filling, Item};
+use sqlite_items::Items;
+use std::alloc::{AllocError, Global};
+use walk_engine::{Packed, has_item};
+
+/// What a receiver reads of a packet to which so many packets right before were lost, and the format of the filling that was sent, by its index in the top.
+#[derive(Clone, Copy)]
+pub struct Reading {
+    pub lost: usize,
+    pub format: usize,
+    pub kind: HeardKind,
+}
+
+/// A packet that isn't read right: how many right before were lost, the number of the item from 1, the format that was sent, what is read, and the uses of
+/// references that don't serve.
+#[derive(Drop)]
+pub struct Case {
+    pub lost: usize,
+    pub number: usize,
+    pub format: usize,
+    pub heard: Heard,
+    pub unserved: Items<Unserved>,
+}
+
+/// All readings in order, and for each number of lost packets the first wrong case and the first that is refused.
+#[derive(Drop)]
+pub struct Journal {
+    pub readings: Items<Reading>,
+    pub cases: Items<Case>,
+}
+
+impl Journal {
+    ghost use Rattle.walk_loss.specs.Journal.{IsJournal};
+    ghost use Rattle.std.specs.Prelude.{[]};
+    ghost use Rattle.cert_accepted.specs.Accepted.{Accepting};
+
+    /// No reading.
+    pub fn new(alloc: Global) -> Journal
+        ensures { (a : Accepting) → IsJournal a [] result }
+    {
+        Journal {
+            readings: Items::new(alloc),
+            cases: Items::new(alloc),
+        }
+    }
+}
+
+/// Adds what receivers read of the packet of the item of that number: one in the newest of the held contexts, which was the sender's, one in the context before it,
+/// to whom one packet was lost, and so on. The contexts stand from the oldest to the newest. The error is out of memory.
+pub fn judge(
+    alloc: Global,
+    accepted: &Accepted,
+    held: &[Context],
+    number: usize,
+    item: &Item,
+    sent: &Packed,
+    journal: &mut Journal,
+) -> Result<(), AllocError>
+    requires sent { spec.IsSent accepted.now sent.now }
+    ensures { OnOk result (spec.AddsAll accepted.now held.now number item.now sent.now journal.old journal.new) }
+{
+    let uses = uses_of(alloc, accepted, &sent.filling)?;
+    let own = has_own_item(alloc, item, &sent.filling)?;
+    for lost in 0..held.len() {
+        let context = &held[held.len() - 1 - lost];
+        let uses = uses.as_slice();
+        judge_in(
+            alloc, accepted, context, lost, number, item, sent, own, uses, journal,
+        )?;
+    }
+    Ok(())
+}
+
+/// Whether the item is that of the filling.
+fn has_own_item(alloc: Global, item: &Item, filling: &Filling) -> Result<bool, AllocError>
+    ensures { IfOk result (λ own. IsTrue own → sides.item filling.now ≡ item.now) }
+{
+    let Some(header) = header_of(alloc, filling)? else {
+        return Ok(false);
+    };
+    Ok(has_item(item, filling, &header))
+}
+
+/// Adds what a receiver in the context reads.
+fn judge_in(
+    alloc: Global,
+    accepted: &Accepted,
+    context: &Context,
+    lost: usize,
+    number: usize,
+    item: &Item,
+    sent: &Packed,
+    own: bool,
+    uses: &[Using],
+    journal: &mut Journal,
+) -> Result<(), AllocError>
+    requires sent { spec.IsSent accepted.now sent.now }
+    requires own { IsTrue own → sides.item sent.now.filling ≡ item.now }
+    requires uses { UsesAre accepted.now.profile.methods accepted.now.profile.top [] [] sent.now.filling uses.now }
+    ensures { OnOk result (spec.AddsOne accepted.now context.now lost number item.now sent.now journal.old journal.new) }
+{
+    let heard = hear_sent(alloc, accepted, context, item, sent, own, uses)?;
+    let kind = heard.kind();
+    let format = sent.filling.format;
+    journal.readings.push(Reading { lost, format, kind })?;
+    if is_known(journal.cases.as_slice(), lost, kind) {
+        return Ok(());
+    }
+    let unserved = unserved_among(alloc, context, uses)?;
+    journal.cases.push(Case {
+        lost,
+        number,
+        format,
+        heard,
+        unserved,
+    })
+}
+
+/// The same as `hear`, of a filling with the item, if it is one: where each of its uses serves it is read, and nothing has to be unpacked.
+fn hear_sent(
+    alloc: Global,
+    accepted: &Accepted,
+    context: &Context,
+    item: &Item,
+    sent: &Packed,
+    own: bool,
+    uses: &[Using],
+) -> Result<Heard, AllocError>
+    requires sent { spec.IsSent accepted.now sent.now }
+    requires own { IsTrue own → sides.item sent.now.filling ≡ item.now }
+    requires uses { UsesAre accepted.now.profile.methods accepted.now.profile.top [] [] sent.now.filling uses.now }
+    ensures { IfOk result (IsHeard accepted.now context.now item.now sent.now.packed) }
+{
+    if own {
+        let is_read = all_serve(alloc, context, uses)?;
+        if is_read {
+            return Ok(Heard::Right);
+        }
+    }
+    hear(alloc, accepted, context, item, &sent.packed)
+}
+
+/// Whether nothing is to be told of that kind after so many lost packets: it is right, or there is a case of it.
+fn is_known(cases: &[Case], lost: usize, kind: HeardKind) -> bool
+    ensures { result ≡ spec.is_known lost kind cases.now }
+{
+    kind == HeardKind::Right || case_of(cases, lost, kind).is_some()
+}
+
+/// The first case of that kind after so many lost packets.
+pub fn case_of(cases: &[Case], lost: usize, kind: HeardKind) -> Option<&Case>
+    ensures { option_copied result ≡ spec.first_case lost kind cases.now }
+{
+    for case in cases {
+        if is_case(case, lost, kind) {
+            return Some(case);
+        }
+    }
+    None
+}
+
+fn is_case(case: &Case, lost: usize, kind: HeardKind) -> bool
+    ensures { result ≡ spec.is_case lost kind case.now }
+{
+    case.lost == lost && case.heard.kind() == kind
+}

@@ -1,0 +1,27 @@
+//! Why no page is drawn.
+
+use sem_bits::BitsError;
+use std::alloc::AllocError;
+
+/// Why a drawing ends.
+#[derive(Clone, Copy)]
+pub(crate) enum NoGuess {
+    /// It leads nowhere.
+    Nowhere,
+    OutOfMemory,
+}
+
+impl From<AllocError> for NoGuess {
+    fn from(_error: AllocError) -> NoGuess {
+        NoGuess::OutOfMemory
+    }
+}
+
+impl From<BitsError> for NoGuess {
+    fn from(error: BitsError) -> NoGuess {
+        match error {
+            BitsError::Full => NoGuess::Nowhere,
+            BitsError::OutOfMemory => NoGuess::OutOfMemory,
+        }
+    }
+}

@@ -1,0 +1,104 @@
+//! What is read by a page.
+
+ghost use Rattle.std.specs.Prelude.{◌≡◌, IfOk, IfSome, IfNone, IsTrue, OnErr, false, []};
+ghost use Rattle.sem_context.specs.Entries.{bits_at};
+ghost use Rattle.sem_filling.specs.declared.filling.Filling as filling;
+ghost use Rattle.sem_filling.specs.Entries.{next};
+ghost use Rattle.sem_filling.specs.Fillings.{asked_values, level};
+ghost use Rattle.sem_pages.specs.Pages.{IsPageOf, Shows};
+ghost use Rattle.walk_pages.specs.Reader as spec;
+
+use crate::guess::drawn;
+use cert_accepted::Accepted;
+use sem_bits::{Bits, Cursor};
+use sem_context::Context;
+use sem_filling::{AskedValue, WholeSides};
+use sem_pages::{Page, advance, asked_values, page_fits};
+use sqlite_items::Items;
+use std::alloc::{AllocError, Global};
+
+/// What was read: the page, the header, and how many bits the packet took.
+#[derive(Drop)]
+pub struct ReadPage {
+    pub header: Bits,
+    pub page: Page,
+    pub bits: usize,
+}
+
+/// Reads the page whose packed bits are at the cursor's place, where that is told at once. Else the cursor stays, though a filling may be there.
+pub fn read_page(
+    alloc: Global,
+    accepted: &Accepted,
+    context: &Context,
+    cursor: &mut Cursor<'_>,
+) -> Result<Option<ReadPage>, AllocError>
+    ensures read { IfOk result (λ o. IfSome o (spec.IsRead accepted.now context.now cursor.old cursor.new)) }
+    ensures none { IfOk result (λ o. IfNone o (cursor.new ≡ cursor.old)) }
+    ensures stays { OnErr result (cursor.new ≡ cursor.old) }
+{
+    let Some(page) = drawn(alloc, accepted, context, cursor) else {
+        return Ok(None);
+    };
+    let judged = top_fits(alloc, accepted, context, &page)?;
+    let Some(whole) = judged else {
+        return Ok(None);
+    };
+    let WholeSides { header, packed } = whole;
+    if !cursor.skip(&packed) {
+        return Ok(None);
+    }
+    Ok(Some(ReadPage {
+        header,
+        page,
+        bits: packed.len(),
+    }))
+}
+
+/// The two sides of the whole, where the page shows a filling that fits the top.
+#[inline(always)]
+fn top_fits(
+    alloc: Global,
+    accepted: &Accepted,
+    context: &Context,
+    page: &Page,
+) -> Result<Option<WholeSides>, AllocError>
+    ensures { IfOk result (λ o. IfSome o (λ w. IsPageOf accepted.now.profile.methods (bits_at context.now) accepted.now.profile.top [] [] page.now w.header w.packed)) }
+{
+    let profile = accepted.profile();
+    page_fits(
+        page,
+        alloc,
+        profile.methods(),
+        context,
+        profile.top(),
+        [].as_slice(),
+        "",
+    )
+}
+
+/// The asked values of what the page of the top shows, in field order. None where the top has no such format.
+pub fn asked_of(
+    alloc: Global,
+    accepted: &Accepted,
+    page: &Page,
+) -> Result<Option<Items<AskedValue>>, AllocError>
+    ensures { IfOk result (λ o. IfSome o (λ values. (f : filling.Filling) → Shows accepted.now.profile.methods accepted.now.profile.top page.now f → values ≡ asked_values (level f))) }
+{
+    let profile = accepted.profile();
+    asked_values(alloc, profile.methods(), profile.top(), page)
+}
+
+/// Puts what the page of the top leaves into the context. False where the context, which stays then, has not the paths of its entries first, in their order.
+pub fn goes_on(
+    alloc: Global,
+    accepted: &Accepted,
+    context: &mut Context,
+    page: &Page,
+) -> Result<bool, AllocError>
+    ensures ok { IfOk result (λ is. IsTrue is → (f : filling.Filling) → Shows accepted.now.profile.methods accepted.now.profile.top page.now f → context.new ≡ next context.old f) }
+    ensures stays { IfOk result (λ is. is ≡ false → context.new ≡ context.old) }
+    ensures err { OnErr result (context.new ≡ context.old) }
+{
+    let profile = accepted.profile();
+    advance(alloc, context, profile.methods(), profile.top(), page)
+}

@@ -1,0 +1,4 @@
+pub mod Sending
+pub mod Answers
+pub mod Lacks
+pub mod Laws

@@ -1,0 +1,6 @@
+mod Writing
+mod Values
+mod Bounds
+mod Steps
+mod ReadingBack
+mod ReadingHeld

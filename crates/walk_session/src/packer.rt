@@ -1,0 +1,130 @@
+//! From the octets of an item to those of its packet.
+
+ghost use Rattle.std.specs.Prelude.{◌≡◌, IfOk, IfErr, OnErr, length};
+ghost use Rattle.walk_session.specs.Packer as spec;
+
+use crate::asked::values_of;
+use crate::ends::Sending;
+use crate::most::most_packet;
+use crate::octets::{has_room, write_bits};
+use crate::refusal::PackRefusal;
+use cert_accepted::Accepted;
+use sem_bits::Bits;
+use sem_context::Context;
+use sem_filling::{Item, advance};
+use sem_profile::AskedField;
+use std::alloc::Global;
+use walk_engine::{PackFault, Packed, pack};
+use walk_robust::{Robust, RobustFault};
+
+/// The item of a header and of the values of the asked fields, in octets.
+pub(crate) fn item_of(
+    alloc: Global,
+    fields: &[AskedField],
+    header: &[u8],
+    header_bits: usize,
+    asked: &[u8],
+) -> Result<Item, PackRefusal>
+    ensures ok { IfOk result (spec.IsGiven fields.now header.now header_bits asked.now) }
+    ensures fault { IfErr result (λ e. spec.BlamesGiven e fields.now header.now header_bits asked.now) }
+{
+    let Some(header) = Bits::from_octets(alloc, header, header_bits)? else {
+        return Err(PackRefusal::BadBits);
+    };
+    let Some(asked) = values_of(alloc, fields, asked)? else {
+        return Err(PackRefusal::Asked);
+    };
+    Ok(Item { header, asked })
+}
+
+/// Packs an item, writes its packet to the start of the room, and goes on. A refusal changes neither. How many bits the packet has.
+pub(crate) fn send(
+    alloc: Global,
+    accepted: &Accepted,
+    sending: &mut Sending,
+    item: &Item,
+    room: &mut [u8],
+) -> Result<usize, PackRefusal>
+    ensures ok { IfOk result (spec.IsSent accepted.now sending.old sending.new item.now room.old room.new) }
+    ensures stays { OnErr result ((sending.new ≡ sending.old) × (room.new ≡ room.old)) }
+    ensures fault { IfErr result (λ e. spec.BlamesSend e accepted.now sending.old item.now (length room.old)) }
+{
+    match sending {
+        Sending::Plain(context) => send_plain(alloc, accepted, context, item, room),
+        Sending::Robust(robust) => send_robust(alloc, accepted, robust, item, room),
+    }
+}
+
+/// The same in one context.
+fn send_plain(
+    alloc: Global,
+    accepted: &Accepted,
+    context: &mut Context,
+    item: &Item,
+    room: &mut [u8],
+) -> Result<usize, PackRefusal>
+    ensures ok { IfOk result (spec.IsSentPlain accepted.now context.old context.new item.now room.old room.new) }
+    ensures stays { OnErr result ((context.new ≡ context.old) × (room.new ≡ room.old)) }
+    ensures fault { IfErr result (λ e. spec.BlamesPlain e accepted.now context.old item.now (length room.old)) }
+{
+    match pack(alloc, accepted, context, item) {
+        Ok(Packed { filling, packed }) => {
+            if !has_room(packed.len(), room) {
+                return Err(PackRefusal::NoRoom(packed.len()));
+            }
+            advance(alloc, context, &filling)?;
+            write_bits(&packed, room);
+            Ok(packed.len())
+        }
+        Err(fault) => Err(refusal_of(fault)),
+    }
+}
+
+/// The same for all that a receiver may hold. Room is wanted for any packet of the profile.
+fn send_robust(
+    alloc: Global,
+    accepted: &Accepted,
+    robust: &mut Robust,
+    item: &Item,
+    room: &mut [u8],
+) -> Result<usize, PackRefusal>
+    ensures ok { IfOk result (spec.IsSentRobust accepted.now robust.old robust.new item.now room.old room.new) }
+    ensures stays { OnErr result ((robust.new ≡ robust.old) × (room.new ≡ room.old)) }
+    ensures fault { IfErr result (λ e. spec.BlamesRobust e accepted.now robust.old item.now (length room.old)) }
+{
+    let most = most_packet(accepted);
+    if !has_room(most, room) {
+        return Err(PackRefusal::NoRoom(most));
+    }
+    match robust.pack(alloc, accepted, item) {
+        Ok(Packed { packed, .. }) => {
+            write_bits(&packed, room);
+            Ok(packed.len())
+        }
+        Err(fault) => Err(robust_refusal_of(fault)),
+    }
+}
+
+/// What is told for a fault of `pack`.
+fn refusal_of(fault: PackFault) -> PackRefusal
+    ensures { result ≡ spec.refusal_of fault }
+{
+    match fault {
+        PackFault::HeaderLength => PackRefusal::HeaderLength,
+        PackFault::Asked(_) => PackRefusal::Asked,
+        PackFault::NoFormat => PackRefusal::NoFormat,
+        PackFault::Flow => PackRefusal::Flow,
+        PackFault::OutOfMemory => PackRefusal::OutOfMemory,
+    }
+}
+
+/// What is told for a fault of the robust sender.
+fn robust_refusal_of(fault: RobustFault) -> PackRefusal
+    ensures { result ≡ spec.robust_refusal_of fault }
+{
+    match fault {
+        RobustFault::Pack(fault) => refusal_of(fault),
+        RobustFault::NoReach => PackRefusal::NoReach,
+        RobustFault::Contexts => PackRefusal::Contexts,
+    }
+}

@@ -1,0 +1,9 @@
+pub mod Sides
+pub mod Partial
+pub mod Joined
+pub mod Filled
+pub mod Fronts
+pub mod LevelNumbers
+pub mod Finding
+pub mod Calls
+pub mod Methods

@@ -1,0 +1,10 @@
+use Rattle.std.proofs.Common.{◌-◌, ◌≤◌}
+use Rattle.walk_write.specs.Sources.{front}
+use Rattle.walk_write.proofs.ForesightLemmas.{Inside_past}
+use Rattle.walk_write.proofs.foresight.refuted_inside.Given as goal
+
+abbrev pub invariant-loop-next : goal.invariant-loop-next
+invariant-loop-next l = (l.next ≤ l.count) × Inside_past l.place l.index l.format l.field l.called l.method l.arguments (front l.source) l.fn.number l.next
+
+abbrev pub decreases-loop-next : goal.decreases-loop-next
+decreases-loop-next l = l.count - l.next

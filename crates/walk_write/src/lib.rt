@@ -1,0 +1,21 @@
+//! The walk that writes a filling of a method, by the number of a candidate.
+#![tactic(auto)]
+
+pub use fault::WriteFault;
+pub use looks::refuted;
+pub use source::HeaderSource;
+pub use walk::write_method;
+
+mod calls;
+mod end;
+pub mod fault;
+mod foresight;
+mod header_constants;
+pub mod looks;
+mod refutation;
+pub mod source;
+mod start;
+mod steps;
+mod take;
+mod told;
+pub mod walk;
