@@ -270,7 +270,7 @@ def leaves(program):
 BOUNDS = {waiting: (1, 36), operands: (1, 45), steps: (1, 45), encodings: (2, 350), brackets: (3, 730), conditions: (30, 60), paths: (1, 60), collisions: (2, 60), sites: (1, 100), names: (1, 100), counts: (6, 60), rows: (1, 700), trends: (5, 110), wholes: (1, 40), others: (1, 40), levels: (1, 20), commented: (1, 20), leaves: (2, 20)}
 
 # the same of calls of bin/rohcfn with files
-FILED = {rows: (4, 100), pairs: (3, 100), many: (4, 100)}
+FILED = {rows: (1, 100), pairs: (1, 100), many: (1, 100)}
 
 
 def own():
