@@ -1,4 +1,4 @@
 pub mod Accepting
 pub mod StandingDepth
 pub mod StandingStart
-pub mod PlaceUnsent
+pub mod FrameUnsent

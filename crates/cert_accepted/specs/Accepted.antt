@@ -1,7 +1,5 @@
 -- What is accepted (docs/DEFINITIONS.md, Certificates): a profile with a certificate that is valid for it.
-use Rattle.std.specs.Prelude.{ℕ, ℤ, List, [], Option, Some, None}
-use Rattle.sem_profile.specs.declared.profile.Format.{Format}
-use Rattle.sem_profile.specs.declared.profile.Method.{Method}
+use Rattle.std.specs.Prelude.{ℕ, ℤ, List}
 use Rattle.sem_filling.specs.Entries.{Path}
 use Rattle.sem_filling.specs.Fronts.{Det, DetAt}
 use Rattle.sem_profile.specs.Resolved.{Resolved}
@@ -27,8 +25,3 @@ pub record IsAccepted (a : Accepting) : Type 0 where
 pub record IsDeterminate (a : Accepting) : Type 0 where
   pub top : Det a.profile.methods a.profile.top
   pub each : (k : ℕ) (args : List ℤ) (path : Path) → DetAt a.profile.methods k args path
-
--- the formats of a method, none where there is no such method
-abbrev pub formats_of : Option Method → List Format
-formats_of (Some m) = m.formats
-formats_of None = []

@@ -14,36 +14,38 @@ use Rattle.sem_profile.specs.Limits.{Chain}
 use Rattle.sem_profile.specs.Uses.{used_graph}
 use Rattle.cert_rules.specs.Reading.{start_slots}
 use Rattle.walk_steps.specs.Partial.{Reached}
-use Rattle.walk_steps.specs.declared.scene.Scene.{Scene}
-use Rattle.cert_accepted.specs.declared.place.Place.{Place}
+use Rattle.walk_steps.specs.declared.level_frame.LevelFrame.{LevelFrame}
+use Rattle.cert_accepted.specs.declared.frame.AcceptedFrame.{AcceptedFrame}
 
--- the method is one of the profile, and its arguments lie in the ranges of its parameters
-pub record Stands (place : Place) : Type 0 where
-  pub within : place.method < length place.accepted.now.profile.methods
-  pub lie : ArgumentsLieAt place.accepted.now.profile place.method place.arguments.now
+-- the frame is of the accepted profile, the method is one of that, and its arguments lie in the ranges of its parameters
+pub record Stands (place : AcceptedFrame) : Type 0 where
+  pub profile_is : place.frame.profile.now ≡ place.accepted.now.profile
+  pub within : place.frame.method < length place.accepted.now.profile.methods
+  pub lie : ArgumentsLieAt place.accepted.now.profile place.frame.method place.frame.arguments.now
 
 -- no chain of calls from the method has more methods, itself among them
-abbrev pub HasDepth : Place → ℕ → Type 0
-HasDepth place depth = (j n : ℕ) → Chain (used_graph place.accepted.now.profile.methods) place.method n j → n ≤ depth
+abbrev pub HasDepth : AcceptedFrame → ℕ → Type 0
+HasDepth place depth = (j n : ℕ) → Chain (used_graph place.accepted.now.profile.methods) place.frame.method n j → n ≤ depth
 
--- the scene is that of a format of the method
-pub record IsSceneOf (place : Place) (n : ℕ) (scene : Scene) : Type 0 where
-  pub profile_is : scene.profile.now ≡ place.accepted.now.profile
-  pub context_is : scene.context.now ≡ place.context.now
-  pub method_is : scene.method ≡ place.method
-  pub format_is : scene.format ≡ n
-  pub path_is : scene.path.now ≡ place.path.now
+-- the level is that of a format of the method
+pub record IsLevelFrameOf (place : AcceptedFrame) (n : ℕ) (level_frame : LevelFrame) : Type 0 where
+  pub profile_is : level_frame.frame.profile.now ≡ place.accepted.now.profile
+  pub context_is : level_frame.frame.context.now ≡ place.frame.context.now
+  pub method_is : level_frame.frame.method ≡ place.frame.method
+  pub arguments_are : level_frame.frame.arguments.now ≡ place.frame.arguments.now
+  pub format_is : level_frame.format ≡ n
+  pub path_is : level_frame.frame.path.now ≡ place.frame.path.now
 
 -- the level is that of the format at the start of a walk
-pub record IsAtStart (place : Place) (n : ℕ) (l : Reached) : Type 0 where
-  pub format_is : format_at place.accepted.now.profile.methods place.method n ≡ Some l.format
-  pub sizes_are : sizes_at place.accepted.now.profile.sizes place.method n ≡ Some l.sizes
-  pub args_are : l.args ≡ place.arguments.now
+pub record IsAtStart (place : AcceptedFrame) (n : ℕ) (l : Reached) : Type 0 where
+  pub format_is : format_at place.accepted.now.profile.methods place.frame.method n ≡ Some l.format
+  pub sizes_are : sizes_at place.accepted.now.profile.sizes place.frame.method n ≡ Some l.sizes
+  pub args_are : l.args ≡ place.frame.arguments.now
   pub slots_are : l.slots ≡ start_slots l.format.listing 0 l.format.fields
 
 -- no filling of the format fits here
-abbrev pub NeverFits : Place → ℕ → Type 0
-NeverFits place n = (f : Filling) → Fits place.accepted.now.profile.methods (bits_at place.context.now) place.method place.arguments.now place.path.now f → (out-Filling f).format ≡ n → ⊥
+abbrev pub NeverFits : AcceptedFrame → ℕ → Type 0
+NeverFits place n = (f : Filling) → Fits place.accepted.now.profile.methods (bits_at place.frame.context.now) place.frame.method place.frame.arguments.now place.frame.path.now f → (out-Filling f).format ≡ n → ⊥
 
 -- a method that is called has chains of fewer methods than so many, which are two or more
 pub record IsShallower (methods : List Method) (j n : ℕ) : Type 0 where

@@ -2,18 +2,18 @@
 
 ghost use Rattle.std.specs.Prelude.{◌≡◌, drop, length, slice_get, IfOk};
 ghost use Rattle.sem_context.specs.Entries.{bits_at};
-ghost use Rattle.cert_accepted.specs.Accepted.{IsAccepted, IsDeterminate, formats_of};
+ghost use Rattle.cert_accepted.specs.Accepted.{IsAccepted, IsDeterminate};
 ghost use Rattle.cert_rules.specs.Trees.{references};
 ghost use Rattle.cert_tables.specs.Kept.{AreTables};
-ghost use Rattle.cert_tables.specs.Picked.{picks};
+ghost use Rattle.cert_tables.specs.Picked.{formats_of, picks};
 ghost use Rattle.cert_tables.specs.Tables.{entries_of};
 
 use cert_compiled::CompiledPlans;
 use cert_tables::{Picked, Tables};
 use cert_types::Certificate;
 use sem_bits::Cursor;
-use sem_context::Context;
-use sem_profile::{Format, Method, Profile};
+use sem_filling::Frame;
+use sem_profile::Profile;
 use sqlite_items::Items;
 use std::alloc::{AllocError, Global};
 use std::marker::Model;
@@ -98,20 +98,17 @@ impl Accepted {
         self.spans.as_slice()
     }
 
-    /// Where the method's tree leads in the context and below the path, under these arguments and for the bits at the cursor's place, by the tables. The error
-    /// is out of memory, for the path of a field that is tested.
+    /// Where the tree of the frame's method leads there, for the bits at the cursor's place, by the tables. The error is out of memory, for the path of a field
+    /// that is tested.
     pub fn pick(
         &self,
         alloc: Global,
-        method: usize,
-        context: &Context,
-        path: &str,
-        arguments: &[i128],
+        frame: &Frame<'_>,
         cursor: &Cursor<'_>,
     ) -> Result<Picked, AllocError>
-        ensures { IfOk result (λ p. p ≡ picks self.now.certificate.methods method (references (bits_at context.now) path.now (formats_of (slice_get self.now.profile.methods method))) arguments.now cursor.now.left) }
+        ensures { IfOk result (λ p. p ≡ picks self.now.certificate.methods frame.now.method (references (bits_at frame.now.context.now) frame.now.path.now (formats_of (slice_get frame.now.profile.now.methods frame.now.method))) frame.now.arguments.now cursor.now.left) }
     {
-        self.pick_ahead(alloc, method, context, path, arguments, cursor, 0)
+        self.pick_ahead(alloc, frame, cursor, 0)
     }
 
     /// The same for the bits so many places after the cursor's.
@@ -119,27 +116,14 @@ impl Accepted {
     pub fn pick_ahead(
         &self,
         alloc: Global,
-        method: usize,
-        context: &Context,
-        path: &str,
-        arguments: &[i128],
+        frame: &Frame<'_>,
         cursor: &Cursor<'_>,
         from: usize,
     ) -> Result<Picked, AllocError>
-        ensures { IfOk result (λ p. p ≡ picks self.now.certificate.methods method (references (bits_at context.now) path.now (formats_of (slice_get self.now.profile.methods method))) arguments.now (drop from cursor.now.left)) }
+        ensures { IfOk result (λ p. p ≡ picks self.now.certificate.methods frame.now.method (references (bits_at frame.now.context.now) frame.now.path.now (formats_of (slice_get frame.now.profile.now.methods frame.now.method))) frame.now.arguments.now (drop from cursor.now.left)) }
     {
-        let formats = formats_of(self.profile.methods(), method);
-        self.tables.pick(
-            alloc,
-            &self.certificate,
-            method,
-            context,
-            path,
-            formats,
-            arguments,
-            cursor,
-            from,
-        )
+        self.tables
+            .pick(alloc, &self.certificate, frame, cursor, from)
     }
 
     /// How many entries the tables of all trees have together. It takes no memory.
@@ -168,15 +152,5 @@ impl Accepted {
     {
         self.keeps();
         self.profile.keeps();
-    }
-}
-
-/// The formats of a method, none where there is no such method.
-fn formats_of(methods: &[Method], method: usize) -> &[Format]
-    ensures { result.now ≡ formats_of (slice_get methods.now method) }
-{
-    match methods.get(method) {
-        Some(found) => found.formats.as_slice(),
-        None => &[],
     }
 }

@@ -3,8 +3,8 @@
 
 pub use accepted::Accepted;
 pub use cert_tables::Picked;
-pub use place::Place;
+pub use frame::AcceptedFrame;
 
 pub mod accepted;
+pub mod frame;
 pub mod laws;
-pub mod place;

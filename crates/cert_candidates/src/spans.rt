@@ -12,7 +12,7 @@ use sqlite_items::{Items, at};
 use std::alloc::{AllocError, Global};
 
 /// For each method how many candidates each of its formats has by the certificate's entries (docs/DEFINITIONS.md, Candidates), where `counts` are those
-/// of the methods: each number, or the greatest of 64 bits where it is above that. It fails only since memory is out.
+/// of the methods: each number, or the greatest of 64 bits where it is above that. It fails only where memory is out.
 pub fn format_counts(
     alloc: Global,
     methods: &[Method],

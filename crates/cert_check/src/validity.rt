@@ -281,6 +281,13 @@ fn of_tree(method: usize, fault: TreeFault) -> CheckFault
     }
 }
 
+/// Where a format stands: its method and itself, by their indices.
+#[derive(Clone, Copy)]
+struct FormatPlace {
+    method: usize,
+    format: usize,
+}
+
 /// The first fault of the plans of a method's formats.
 fn formats_fault(
     alloc: Global,
@@ -297,7 +304,19 @@ fn formats_fault(
     let formats = method.formats.as_slice();
     let sizes = bounds.formats.as_slice();
     for n in 0..formats.len() {
-        if let Some(fault) = format_fault(alloc, version, table, sizes, &formats[n], entry, k, n)? {
+        let place = FormatPlace {
+            method: k,
+            format: n,
+        };
+        if let Some(fault) = format_fault(
+            alloc,
+            version,
+            table,
+            sizes,
+            &formats[n],
+            entry,
+            place,
+        )? {
             return Ok(Some(fault));
         }
     }
@@ -312,20 +331,19 @@ fn format_fault(
     bounds: &[FormatSizes],
     format: &Format,
     entry: &MethodPlans,
-    k: usize,
-    n: usize,
+    place: FormatPlace,
 ) -> Result<Option<CheckFault>, AllocError>
-    ensures right { IfOk result (λ o. IfNone o ((z : FormatSizes) → slice_get bounds.now n ≡ Some z → HasPlans version table.now z format.now entry.now n)) }
-    ensures found { IfOk result (λ o. IfSome o (RefusesFormat version table.now k n bounds.now format.now entry.now)) }
+    ensures right { IfOk result (λ o. IfNone o ((z : FormatSizes) → slice_get bounds.now place.format ≡ Some z → HasPlans version table.now z format.now entry.now place.format)) }
+    ensures found { IfOk result (λ o. IfSome o (RefusesFormat version table.now place.method place.format bounds.now format.now entry.now)) }
 {
-    match plans_at(entry, n) {
-        Some(plans) => match at(bounds, n) {
-            Some(sizes) => plans_fault(alloc, version, table, sizes, format, plans, k, n),
+    match plans_at(entry, place.format) {
+        Some(plans) => match at(bounds, place.format) {
+            Some(sizes) => plans_fault(alloc, version, table, sizes, format, plans, place),
             None => Ok(None),
         },
         None => Ok(Some(CheckFault::NoFormat {
-            method: k,
-            format: n,
+            method: place.method,
+            format: place.format,
         })),
     }
 }
@@ -345,15 +363,14 @@ fn plans_fault(
     sizes: &FormatSizes,
     format: &Format,
     plans: &Plans,
-    k: usize,
-    n: usize,
+    place: FormatPlace,
 ) -> Result<Option<CheckFault>, AllocError>
     ensures right { IfOk result (λ o. IfNone o (Serve version table.now sizes.now format.now plans.now)) }
-    ensures found { IfOk result (λ o. IfSome o (RefusesPlans version table.now k n sizes.now format.now plans.now)) }
+    ensures found { IfOk result (λ o. IfSome o (RefusesPlans version table.now place.method place.format sizes.now format.now plans.now)) }
 {
     let read = plans.read.as_slice();
     if let Some(fault) = plan_fault(alloc, version, Direction::Read, table, sizes, format, read)? {
-        return Ok(Some(of_plan(k, n, Direction::Read, fault)));
+        return Ok(Some(of_plan(place, Direction::Read, fault)));
     }
     let write = plans.write.as_slice();
     match plan_fault(
@@ -365,15 +382,16 @@ fn plans_fault(
         format,
         write,
     )? {
-        Some(fault) => Ok(Some(of_plan(k, n, Direction::Write, fault))),
+        Some(fault) => Ok(Some(of_plan(place, Direction::Write, fault))),
         None => Ok(None),
     }
 }
 
 /// The fault of a plan, as one of the certificate.
-fn of_plan(method: usize, format: usize, direction: Direction, fault: PlanFault) -> CheckFault
-    ensures { result ≡ refusal_of method format direction fault }
+fn of_plan(place: FormatPlace, direction: Direction, fault: PlanFault) -> CheckFault
+    ensures { result ≡ refusal_of place.method place.format direction fault }
 {
+    let FormatPlace { method, format } = place;
     match fault {
         PlanFault::NotEnabled { step } => CheckFault::NotEnabled {
             method,

@@ -1,7 +1,7 @@
 //! From plans to fewer operations, for who draws fillings up and has them judged.
 
 use crate::operations::{CompiledPlan, Operations};
-use crate::steps::Shortened;
+use crate::steps::OperationsSoFar;
 use cert_types::{Direction, FormatPlans, MethodPlans, Step};
 use sem_profile::{Format, Method};
 use sqlite_items::{Items, at};
@@ -68,11 +68,11 @@ fn operations(
     direction: Direction,
     plan: &[Step],
 ) -> Result<Option<Operations>, AllocError> {
-    let mut shortened = Shortened::new(alloc, format, direction)?;
+    let mut so_far = OperationsSoFar::new(alloc, format, direction)?;
     for step in plan {
-        if !shortened.add(alloc, *step)? {
+        if !so_far.add(alloc, *step)? {
             return Ok(None);
         }
     }
-    Ok(Some(shortened.into_acts()))
+    Ok(Some(so_far.into_operations()))
 }

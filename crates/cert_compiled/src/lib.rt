@@ -1,7 +1,7 @@
 //! Plans made short, for who draws fillings up and has them judged. Nothing is promised of them.
 #![tactic(auto)]
 
-pub use operations::{Beginning, CompiledPlan, Count, Operation, Operations, Spelled};
+pub use operations::{Beginning, CompiledPlan, Count, Operation, Operations, ShortBits};
 pub use plans::CompiledPlans;
 
 mod compiler;

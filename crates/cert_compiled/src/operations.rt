@@ -67,7 +67,7 @@ pub enum Operation {
 
 /// So many bits, which spell the number.
 #[derive(Clone, Copy)]
-pub struct Spelled {
+pub struct ShortBits {
     pub count: usize,
     pub number: u64,
 }
@@ -77,8 +77,8 @@ pub struct Spelled {
 pub enum Beginning {
     /// A constant on either side, of no bits where there is none.
     Constants {
-        uncompressed: Spelled,
-        compressed: Spelled,
+        uncompressed: ShortBits,
+        compressed: ShortBits,
     },
     /// So many bits of the source, a number or a parameter, that many places after its begin, on that side; where it `copies`, on the other side as well.
     Taken {

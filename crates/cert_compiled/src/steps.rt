@@ -1,6 +1,6 @@
 //! The operations of a plan, step by step.
 
-use crate::operations::{Beginning, Count, Operation, Operations, Spelled};
+use crate::operations::{Beginning, Count, Operation, Operations, ShortBits};
 use cert_rules::choice_of;
 use cert_rules::equations::length_given;
 use cert_rules::fields::size_of;
@@ -21,7 +21,7 @@ struct Known {
 /// operation is to pass, and how many they are in all, as far as numbers tell it. Of the fields from the first new one on, to before the past one, a length may be
 /// known that isn't noted.
 #[derive(Drop)]
-pub(crate) struct Shortened<'a> {
+pub(crate) struct OperationsSoFar<'a> {
     format: &'a Format,
     direction: Direction,
     uncompressed: Vec<Known>,
@@ -35,13 +35,13 @@ pub(crate) struct Shortened<'a> {
     operations: Items<Operation>,
 }
 
-impl<'a> Shortened<'a> {
+impl<'a> OperationsSoFar<'a> {
     pub(crate) fn new(
         alloc: Global,
         format: &'a Format,
         direction: Direction,
-    ) -> Result<Shortened<'a>, AllocError> {
-        Ok(Shortened {
+    ) -> Result<OperationsSoFar<'a>, AllocError> {
+        Ok(OperationsSoFar {
             format,
             direction,
             uncompressed: unknown(alloc, format.fields.len())?,
@@ -57,7 +57,7 @@ impl<'a> Shortened<'a> {
     }
 
     /// What the plan came to.
-    pub(crate) fn into_acts(self) -> Operations {
+    pub(crate) fn into_operations(self) -> Operations {
         let is_hopeful = self.is_hopeful();
         Operations {
             beginnings: Items::from_vec(self.beginnings),
@@ -371,8 +371,8 @@ impl<'a> Shortened<'a> {
         let is_blank = matches!(
             self.beginning(field),
             Beginning::Constants {
-                uncompressed: Spelled { count: 0, .. },
-                compressed: Spelled { count: 0, .. },
+                uncompressed: ShortBits { count: 0, .. },
+                compressed: ShortBits { count: 0, .. },
             }
         );
         is_blank
@@ -403,7 +403,7 @@ impl<'a> Shortened<'a> {
                 is_given: true,
             },
         );
-        self.begin(field, constants(side, Spelled { count, number }));
+        self.begin(field, constants(side, ShortBits { count, number }));
         true
     }
 
@@ -661,7 +661,7 @@ fn constant_of(expr: &Expr) -> Option<u64> {
     u64::try_from(number_of(expr)?).ok()
 }
 
-const NOTHING: Spelled = Spelled {
+const NOTHING: ShortBits = ShortBits {
     count: 0,
     number: 0,
 };
@@ -680,7 +680,7 @@ fn blank(alloc: Global, fields: usize) -> Result<Vec<Beginning>, AllocError> {
 }
 
 /// A constant on that side.
-fn constants(side: Side, constant: Spelled) -> Beginning {
+fn constants(side: Side, constant: ShortBits) -> Beginning {
     match side {
         Side::Uncompressed => Beginning::Constants {
             uncompressed: constant,

@@ -9,8 +9,8 @@ use Rattle.cert_types.specs.declared.certificate.Version.{Version}
 use Rattle.cert_types.specs.declared.certificate.Node.{Node}
 use Rattle.cert_types.specs.Kept.{IsNodeKept, IsTreeKept, node_limit}
 use Rattle.cert_rules.specs.Trees.{Reach}
-use Rattle.cert_trees.specs.declared.told.Signature.{Signature}
-use Rattle.cert_trees.specs.Signature.{AreTold}
+use Rattle.cert_trees.specs.declared.signatures.Signature.{Signature}
+use Rattle.cert_trees.specs.Signature.{AreSignatures}
 use Rattle.cert_prove.specs.declared.tree.Unparted.{Unparted}
 use Rattle.cert_prove.specs.declared.tree.Unparted.TheVariants.{Stuck, Limit, OutOfMemory}
 use Rattle.cert_prove.specs.Tree.{Numbered, all_of}
@@ -21,9 +21,9 @@ use Rattle.cert_prove.proofs.TreeGrowth.{GrownTo, Next, nothing_grown, all_grown
 use Rattle.cert_prove.proofs.KnownTelling.{all_numbered, subsets_wait, far_found}
 
 module _ (version : Version) (formats : List Format) (s : MethodSizes) where
-  pub known_of : (tolds shown : List Signature) (far : List ℕ) (sizes : List FormatSizes) → sizes ≡ s.formats → AreTold tolds formats sizes → shown ≡ tolds → far ≡ flat_map (λ t. filter is_far (keys t.bits)) shown → AreKnown formats s tolds far
+  pub known_of : (tolds shown : List Signature) (far : List ℕ) (sizes : List FormatSizes) → sizes ≡ s.formats → AreSignatures tolds formats sizes → shown ≡ tolds → far ≡ flat_map (λ t. filter is_far (keys t.bits)) shown → AreKnown formats s tolds far
   known_of tolds shown far sizes bounds told same is = record {
-    told = subst (AreTold tolds formats) bounds told;
+    told = subst (AreSignatures tolds formats) bounds told;
     far_are = subst (AreFar tolds) (sym (is ∙ ap (flat_map (λ t. filter is_far (keys t.bits))) same)) (far_found tolds);
   }
 

@@ -15,8 +15,8 @@ use Rattle.cert_types.specs.declared.certificate.Node.TheVariants.{Bit, Paramete
 use Rattle.cert_types.specs.Kept.{IsWide, offset_limit}
 use Rattle.cert_rules.specs.Trees.{Reach}
 use Rattle.cert_trees.specs.declared.equations.Equation.{Equation}
-use Rattle.cert_trees.specs.declared.told.Signature.{Signature}
-use Rattle.cert_trees.specs.declared.told.Test.TheVariants.{Lacks}
+use Rattle.cert_trees.specs.declared.signatures.Signature.{Signature}
+use Rattle.cert_trees.specs.declared.signatures.Test.TheVariants.{Lacks}
 use Rattle.cert_prove.specs.declared.tree.Unparted.TheVariants as unparted
 use Rattle.cert_prove.specs.Tree.{Numbered, all_of, is_longer, knows, parts_at, parts_by, equations, TreeRule, refers_apart, references, least_offset, first_equation, first_reference, no_test, NodeRule}
 use Rattle.cert_prove.specs.Growing.{those}

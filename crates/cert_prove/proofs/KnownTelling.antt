@@ -18,11 +18,11 @@ use Rattle.cert_types.specs.declared.certificate.Node.TheVariants.{Bit, Paramete
 use Rattle.cert_types.specs.Kept.{IsNodeKept, offset_limit}
 use Rattle.cert_rules.specs.Trees.{Reach, onward, is_bit, known_bit, never_at, never_refers}
 use Rattle.cert_trees.specs.declared.equations.Equation.{Equation}
-use Rattle.cert_trees.specs.declared.told.Signature.{Signature}
-use Rattle.cert_trees.specs.declared.told.Test.{Test}
-use Rattle.cert_trees.specs.declared.told.Test.TheVariants.{Lacks, MayBe, MayDiffer, MayHold, MayLack}
-use Rattle.cert_trees.specs.Signature.{IsTold, AreTold, IsTest, survives}
-use Rattle.cert_trees.proofs.ToldPassing.{passes_is}
+use Rattle.cert_trees.specs.declared.signatures.Signature.{Signature}
+use Rattle.cert_trees.specs.declared.signatures.Test.{Test}
+use Rattle.cert_trees.specs.declared.signatures.Test.TheVariants.{Lacks, MayBe, MayDiffer, MayHold, MayLack}
+use Rattle.cert_trees.specs.Signature.{IsSignature, AreSignatures, IsTest, survives}
+use Rattle.cert_trees.proofs.SignaturesPassing.{passes_is}
 use Rattle.cert_prove.specs.Tree.{Numbered, numbered, all_of, is_longer, knows, parts_at, parts_by, lies_in, equations, is_word, refers_apart, references}
 use Rattle.cert_prove.specs.Growing.{those}
 use Rattle.cert_prove.specs.Known.{numbers, told_passes, stays, loses, least, are_longer, bit_parts, equation_parts, told_equations, reference_parts, told_references, references_by, subsets_by, is_far, AreFar, AreKnown}
@@ -40,7 +40,7 @@ numbers_from n (f ∷ formats) [] (suc count) e = absurd (omega (arith, e))
 numbers_from n (f ∷ formats) (z ∷ sizes) zero e = absurd (omega (arith, e))
 numbers_from n (f ∷ formats) (z ∷ sizes) (suc count) e = ap (λ ns. n ∷ ns) (numbers_from (n + 1) formats sizes count (omega (arith, e)))
 
-pub all_numbered : (formats : List Format) (s : MethodSizes) (tolds : List Signature) → AreTold tolds formats s.formats → range_with_len 0 (length tolds) ≡ numbers (all_of formats s)
+pub all_numbered : (formats : List Format) (s : MethodSizes) (tolds : List Signature) → AreSignatures tolds formats s.formats → range_with_len 0 (length tolds) ≡ numbers (all_of formats s)
 all_numbered formats s tolds told = sym (numbers_from 0 formats s.formats (length tolds) told.count)
 
 range_pushed : (n count : ℕ) → range_with_len n count ++ (n + count) ∷ [] ≡ range_with_len n (suc count)
@@ -61,7 +61,7 @@ one_more_number set newer count is pushed =
 pub record ToldOf (s : MethodSizes) (tolds : List Signature) (far : List ℕ) (z : Numbered) : Type 0 where
   pub told : Signature
   pub told_at : slice_get tolds z.number ≡ Some told
-  pub is_told : IsTold told z.format z.sizes
+  pub is_told : IsSignature told z.format z.sizes
   pub sizes_at : slice_get s.formats z.number ≡ Some z.sizes
   pub far_are : AreFar tolds far
 

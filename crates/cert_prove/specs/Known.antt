@@ -13,10 +13,10 @@ use Rattle.cert_types.specs.declared.certificate.Node.TheVariants.{Bit, Paramete
 use Rattle.cert_types.specs.Kept.{IsNodeKept, node_limit, offset_limit}
 use Rattle.cert_rules.specs.Trees.{Reach}
 use Rattle.cert_trees.specs.declared.equations.Equation.{Equation}
-use Rattle.cert_trees.specs.declared.told.Signature.{Signature}
-use Rattle.cert_trees.specs.declared.told.Test.{Test}
-use Rattle.cert_trees.specs.declared.told.Test.TheVariants.{Lacks, MayBe, MayDiffer, MayHold, MayLack}
-use Rattle.cert_trees.specs.Signature.{AreTold, passes}
+use Rattle.cert_trees.specs.declared.signatures.Signature.{Signature}
+use Rattle.cert_trees.specs.declared.signatures.Test.{Test}
+use Rattle.cert_trees.specs.declared.signatures.Test.TheVariants.{Lacks, MayBe, MayDiffer, MayHold, MayLack}
+use Rattle.cert_trees.specs.Signature.{AreSignatures, passes}
 use Rattle.cert_prove.specs.declared.tree.Unparted.{Unparted}
 use Rattle.cert_prove.specs.declared.tree.Unparted.TheVariants as unparted
 use Rattle.cert_prove.specs.Tree.{Numbered, all_of, lies_in, is_word, TreeRule, NodeRule}
@@ -94,7 +94,7 @@ AreFar tolds far = (n o : ℕ) (told : Signature) (b : Bool) → slice_get tolds
 
 -- what is told of each format that has bounds, and the offsets past the limit
 pub record AreKnown (formats : List Format) (s : MethodSizes) (tolds : List Signature) (far : List ℕ) : Type 0 where
-  pub told : AreTold tolds formats s.formats
+  pub told : AreSignatures tolds formats s.formats
   pub far_are : AreFar tolds far
 
 -- the numbers are those of a set of formats of the method

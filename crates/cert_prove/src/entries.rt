@@ -15,6 +15,7 @@ ghost use Rattle.cert_prove.specs.Made.{AreMade, IsEntryMade, AreFormatsMade, Is
 ghost use Rattle.cert_prove.specs.Proved.{ReadBefore, Lacks};
 
 use crate::unproved::Unproved;
+use crate::way::Way;
 use crate::{Unordered, Unparted, order_plan, part_formats};
 use cert_types::{Direction, FormatPlans, MethodPlans, Plans, Step, Version};
 use sem_profile::{Format, FormatSizes, Method, MethodSizes};
@@ -128,29 +129,25 @@ fn format_entry(
     ensures made { IfOk result (IsFormatMade version table.now sizes.now format.now) }
     ensures lacks { IfErr result (FormatLacks version table.now method index sizes.now format.now) }
 {
-    let read = match format_plan(
-        alloc,
+    let reading = Way {
         version,
-        Direction::Read,
+        direction: Direction::Read,
         table,
         sizes,
         format,
-        method,
-        index,
-    ) {
+    };
+    let read = match format_plan(alloc, &reading, method, index) {
         Ok(steps) => steps,
         Err(unproved) => return Err(unproved),
     };
-    let write = match format_plan(
-        alloc,
+    let writing = Way {
         version,
-        Direction::Write,
+        direction: Direction::Write,
         table,
         sizes,
         format,
-        method,
-        index,
-    ) {
+    };
+    let write = match format_plan(alloc, &writing, method, index) {
         Ok(steps) => steps,
         Err(unproved) => return Err(unproved),
     };
@@ -160,19 +157,22 @@ fn format_entry(
 /// The plan of a format in a direction; that to write comes after that to read.
 fn format_plan(
     alloc: Global,
-    version: Version,
-    direction: Direction,
-    table: &[MethodSizes],
-    sizes: &FormatSizes,
-    format: &Format,
+    way: &Way<'_, '_>,
     method: usize,
     index: usize,
 ) -> Result<Items<Step>, Unproved>
-    requires { ReadBefore version direction table.now sizes.now format.now }
-    ensures ordered { IfOk result (OrderedPlan (way_of version direction table.now sizes.now format.now) (order_of direction format.now)) }
+    requires { ReadBefore way.now.version way.now.direction way.now.table.now way.now.sizes.now way.now.format.now }
+    ensures ordered { IfOk result (OrderedPlan (way_of way.now.version way.now.direction way.now.table.now way.now.sizes.now way.now.format.now) (order_of way.now.direction way.now.format.now)) }
     ensures kept { IfOk result IsPlanKept }
-    ensures lacks { IfErr result (FormatLacks version table.now method index sizes.now format.now) }
+    ensures lacks { IfErr result (FormatLacks way.now.version way.now.table.now method index way.now.sizes.now way.now.format.now) }
 {
+    let Way {
+        version,
+        direction,
+        table,
+        sizes,
+        format,
+    } = *way;
     match order_plan(alloc, version, direction, table, sizes, format) {
         Ok(steps) => Ok(steps),
         Err(unordered) => Err(of_unordered(version, method, index, direction, unordered)),

@@ -30,3 +30,4 @@ pub mod tree;
 pub mod tree_laws;
 mod tried;
 pub mod unproved;
+mod way;

@@ -13,6 +13,7 @@ ghost use Rattle.cert_prove.specs.Searching as spec;
 use crate::glance::may_have_rule;
 use crate::kinds::{StepKind, kinds_of};
 use crate::links::rows;
+use crate::way::Way;
 use cert_plans::{NeedRule, rule_of};
 use cert_types::{Direction, Step, Version};
 use sem_expr::Side;
@@ -45,41 +46,27 @@ pub(crate) fn possible_steps<'a>(
 {
     let rows = rows(alloc, format)?;
     let steps = candidates(alloc, direction, rows.as_slice())?;
-    with_rules(
-        alloc,
+    let way = Way {
         version,
         direction,
         table,
         sizes,
         format,
-        steps.as_slice(),
-    )
+    };
+    with_rules(alloc, &way, steps.as_slice())
 }
 
 /// Those of the steps that have a rule.
 fn with_rules<'a>(
     alloc: Global,
-    version: Version,
-    direction: Direction,
-    table: &[MethodSizes],
-    sizes: &FormatSizes,
-    format: &'a Format,
+    way: &Way<'_, 'a>,
     steps: &[Step],
 ) -> Result<Items<Possible<'a>>, AllocError>
-    ensures { IfOk result (λ possible. map (spec.ruled format.now) possible ≡ spec.possible_of (plans.rule_of version direction table.now sizes.now format.now) steps.now) }
+    ensures { IfOk result (λ possible. map (spec.ruled way.now.format.now) possible ≡ spec.possible_of (plans.rule_of way.now.version way.now.direction way.now.table.now way.now.sizes.now way.now.format.now) steps.now) }
 {
     let mut possible = Items::from_vec(Vec::with_capacity(alloc, steps.len())?);
     for step in steps {
-        push_ruled(
-            alloc,
-            version,
-            direction,
-            table,
-            sizes,
-            format,
-            *step,
-            &mut possible,
-        )?;
+        push_ruled(alloc, way, *step, &mut possible)?;
     }
     Ok(possible)
 }
@@ -87,20 +74,24 @@ fn with_rules<'a>(
 /// Appends the step where it has a rule. Most of those that have none are told by a look at the field or the constraint.
 fn push_ruled<'a>(
     alloc: Global,
-    version: Version,
-    direction: Direction,
-    table: &[MethodSizes],
-    sizes: &FormatSizes,
-    format: &'a Format,
+    way: &Way<'_, 'a>,
     step: Step,
     possible: &mut Items<Possible<'a>>,
 ) -> Result<(), AllocError>
-    ensures { OnOk result (map (spec.ruled format.now) possible.new ≡ map (spec.ruled format.now) possible.old ++ option_to_list (spec.with_rule step (plans.rule_of version direction table.now sizes.now format.now step))) }
+    ensures { OnOk result (map (spec.ruled way.now.format.now) possible.new ≡ map (spec.ruled way.now.format.now) possible.old ++ option_to_list (spec.with_rule step (plans.rule_of way.now.version way.now.direction way.now.table.now way.now.sizes.now way.now.format.now step))) }
 {
-    if !may_have_rule(format, step) {
+    if !may_have_rule(way.format, step) {
         return Ok(());
     }
-    let rule = rule_of(alloc, version, direction, table, sizes, format, step)?;
+    let rule = rule_of(
+        alloc,
+        way.version,
+        way.direction,
+        way.table,
+        way.sizes,
+        way.format,
+        step,
+    )?;
     push_possible(step, rule, possible)
 }
 

@@ -20,16 +20,18 @@ use sem_expr::Interval;
 use sem_profile::{FormatSizes, MethodSizes};
 use sqlite_items::at;
 
+/// What is known of the formats of a method: the bounds, the signature of each, and the offsets past the limit at which one of them knows a bit.
+#[derive(Clone, Copy)]
+pub(crate) struct Known<'a> {
+    pub sizes: &'a MethodSizes,
+    pub tolds: &'a [Signature],
+    pub far: &'a [u128],
+}
+
 /// The node of a set of formats: none for the empty one, a leaf for one format, else a test.
-pub(crate) fn node_of(
-    version: Version,
-    tolds: &[Signature],
-    far: &[u128],
-    sizes: &MethodSizes,
-    set: &[usize],
-) -> Result<Node, Unparted>
-    ensures { (formats : List Format) (reach : Reach) → spec.AreKnown formats sizes.now tolds.now far.now → spec.AreOf formats sizes.now reach set.now →
-        MatchResult result (spec.IsNext version sizes.now.parameters (those reach (all_of formats sizes.now))) (spec.HasNoNode version sizes.now.parameters (those reach (all_of formats sizes.now))) }
+pub(crate) fn node_of(version: Version, known: &Known<'_>, set: &[usize]) -> Result<Node, Unparted>
+    ensures { (formats : List Format) (reach : Reach) → spec.AreKnown formats known.now.sizes.now known.now.tolds.now known.now.far.now → spec.AreOf formats known.now.sizes.now reach set.now →
+        MatchResult result (spec.IsNext version known.now.sizes.now.parameters (those reach (all_of formats known.now.sizes.now))) (spec.HasNoNode version known.now.sizes.now.parameters (those reach (all_of formats known.now.sizes.now))) }
 {
     let Some(first) = at(set, 0) else {
         return Ok(Node::Nowhere);
@@ -37,22 +39,21 @@ pub(crate) fn node_of(
     let Some(second) = at(set, 1) else {
         return Ok(Node::Leaf(*first));
     };
-    test_of(version, tolds, far, sizes, set, *first, *second)
+    test_of(version, known, set, *first, *second)
 }
 
 /// The test of a set, whose first two formats these are.
 fn test_of(
     version: Version,
-    tolds: &[Signature],
-    far: &[u128],
-    sizes: &MethodSizes,
+    known: &Known<'_>,
     set: &[usize],
     first: usize,
     second: usize,
 ) -> Result<Node, Unparted>
-    ensures { (formats : List Format) (reach : Reach) → spec.AreKnown formats sizes.now tolds.now far.now → spec.AreOf formats sizes.now reach set.now → slice_get set.now 0 ≡ Some first → slice_get set.now 1 ≡ Some second →
-        MatchResult result (spec.IsNext version sizes.now.parameters (those reach (all_of formats sizes.now))) (spec.HasNoNode version sizes.now.parameters (those reach (all_of formats sizes.now))) }
+    ensures { (formats : List Format) (reach : Reach) → spec.AreKnown formats known.now.sizes.now known.now.tolds.now known.now.far.now → spec.AreOf formats known.now.sizes.now reach set.now → slice_get set.now 0 ≡ Some first → slice_get set.now 1 ≡ Some second →
+        MatchResult result (spec.IsNext version known.now.sizes.now.parameters (those reach (all_of formats known.now.sizes.now))) (spec.HasNoNode version known.now.sizes.now.parameters (those reach (all_of formats known.now.sizes.now))) }
 {
+    let Known { sizes, tolds, far } = *known;
     let bounds = sizes.formats.as_slice();
     let shortest = least(bounds, first);
     if let Some(offset) = near_offset(tolds, bounds, set, tried(shortest)) {

@@ -6,10 +6,10 @@ ghost use Rattle.cert_prove.specs.Growing.{OrderedTree, IsUnparted};
 ghost use Rattle.cert_prove.specs.Known.{IsGrown};
 
 use crate::depths::is_shallow;
-use crate::rule::node_of;
+use crate::rule::{Known, node_of};
 use crate::sets::{all_numbers, far_offsets, push_subsets};
 use crate::stack::Stack;
-use cert_trees::all_told;
+use cert_trees::all_signatures;
 use cert_types::{NODE_LIMIT, Node, Version};
 use sem_profile::{Format, MethodSizes};
 use sqlite_items::Items;
@@ -67,8 +67,13 @@ fn grown(
     ensures grown { IfOk result (IsGrown version formats.now sizes.now) }
     ensures unparted { IfErr result (IsUnparted version formats.now sizes.now) }
 {
-    let tolds = all_told(alloc, formats, sizes.formats.as_slice())?;
+    let tolds = all_signatures(alloc, formats, sizes.formats.as_slice())?;
     let far = far_offsets(alloc, tolds.as_slice())?;
+    let known = Known {
+        sizes,
+        tolds: tolds.as_slice(),
+        far: far.as_slice(),
+    };
     let mut sets = Stack::new(alloc);
     sets.push(all_numbers(alloc, tolds.len())?)?;
     let mut nodes = Items::new(alloc);
@@ -76,13 +81,7 @@ fn grown(
         let Some(set) = sets.pop() else {
             return Ok(nodes);
         };
-        let node = node_of(
-            version,
-            tolds.as_slice(),
-            far.as_slice(),
-            sizes,
-            set.as_slice(),
-        )?;
+        let node = node_of(version, &known, set.as_slice())?;
         push_subsets(alloc, &mut sets, tolds.as_slice(), set.as_slice(), node)?;
         nodes.push(node)?;
     }

@@ -1,5 +1,7 @@
 -- Where a tree leads (docs/DEFINITIONS.md, Certificates).
-use Rattle.std.specs.Prelude.{ℕ, Bool, List, Option, Some, None, ℤ}
+use Rattle.std.specs.Prelude.{ℕ, Bool, List, [], Option, Some, None, ℤ}
+use Rattle.sem_profile.specs.declared.profile.Format.{Format as Formatted}
+use Rattle.sem_profile.specs.declared.profile.Method.{Method}
 use Rattle.cert_types.specs.declared.certificate.MethodPlans.{MethodPlans}
 use Rattle.cert_types.specs.Kept.{Entries}
 use Rattle.cert_rules.specs.Counts.{entry_at}
@@ -17,6 +19,11 @@ picked_of cut_off = Short
 abbrev pub arrival : Option MethodPlans → (ℕ → Option ℤ) → List Bool → List ℤ → Arrival
 arrival None refs bits args = nowhere
 arrival (Some entry) refs bits args = way refs bits args 0 entry.tree
+
+-- the formats of a method, none where there is no such method
+abbrev pub formats_of : Option Method → List Formatted
+formats_of (Some m) = m.formats
+formats_of None = []
 
 -- where a method's tree leads
 abbrev pub picks : Entries → ℕ → (ℕ → Option ℤ) → List ℤ → List Bool → Picked

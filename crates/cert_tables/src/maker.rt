@@ -9,7 +9,7 @@ ghost use Rattle.cert_tables.specs.Growth.{AreMarked, IsNext, AreNext, Grows};
 
 use crate::sizes::subtree_sizes;
 use crate::table::{TableStart, TreeTables};
-use crate::windows::{entry_at, numbers_of, width_after};
+use crate::windows::{Window, entry_at, numbers_of, width_after};
 use cert_types::{MethodPlans, Node};
 use sqlite_items::Items;
 use std::alloc::{AllocError, Global};
@@ -166,15 +166,12 @@ fn make_table(
         making.is_full = true;
         return Ok(None);
     }
-    add_entries(
-        &mut making.entries,
-        nodes,
-        sizes,
-        marks,
+    let window = Window {
         place,
         offset,
         width,
-    )?;
+    };
+    add_entries(&mut making.entries, nodes, sizes, marks, window)?;
     Ok(Some(TableStart {
         first: first as u32,
         width: width as u8,
@@ -187,19 +184,17 @@ fn add_entries(
     nodes: &[Node],
     sizes: &[u16],
     marks: &mut [bool],
-    place: usize,
-    offset: usize,
-    width: usize,
+    window: Window,
 ) -> Result<(), AllocError>
-    requires within { place < length nodes.now }
+    requires within { window.place < length nodes.now }
     requires sized { AreSizesFrom 0 nodes.now sizes.now }
     requires few { length nodes.now < 2 ^ 16 }
-    requires narrow { width ≤ 8 }
-    ensures added { OnOk result (entries.new ≡ entries.old ++ map (spec.entry width offset place (drop place nodes.now)) (range_with_len 0 (2 ^ width))) }
-    ensures marked { OnOk result ((named : List ℕ) → AreMarked (length marks.old) named marks.old → AreMarked (length marks.old) (named ++ map (spec.entry width offset place (drop place nodes.now)) (range_with_len 0 (2 ^ width))) marks.new) }
+    requires narrow { window.width ≤ 8 }
+    ensures added { OnOk result (entries.new ≡ entries.old ++ map (spec.entry window.width window.offset window.place (drop window.place nodes.now)) (range_with_len 0 (2 ^ window.width))) }
+    ensures marked { OnOk result ((named : List ℕ) → AreMarked (length marks.old) named marks.old → AreMarked (length marks.old) (named ++ map (spec.entry window.width window.offset window.place (drop window.place nodes.now)) (range_with_len 0 (2 ^ window.width))) marks.new) }
 {
-    for number in 0..numbers_of(width) {
-        let next = entry_at(nodes, sizes, place, offset, width, number);
+    for number in 0..numbers_of(window.width) {
+        let next = entry_at(nodes, sizes, window, number);
         entries.push(next as u16)?;
         mark(marks, next);
     }

@@ -14,8 +14,7 @@ use crate::sizes::second;
 use crate::table::{TableStart, TreeTables};
 use cert_types::Node;
 use sem_bits::Cursor;
-use sem_context::Context;
-use sem_profile::Format;
+use sem_filling::Frame;
 use std::alloc::{AllocError, Global};
 
 /// Where a tree leads.
@@ -40,33 +39,37 @@ pub(crate) enum Next {
     End(Picked),
 }
 
-/// Where the tree of a method with these formats, its nodes in preorder, leads in a context and below a path, under these arguments and for the bits so many
-/// places after the cursor's. It begins at a node to which the bits lead from the first. The error is out of memory.
+/// A decision tree, its nodes in preorder, with its tables and the entries of all tables.
+#[derive(Clone, Copy)]
+pub(crate) struct Tree<'a> {
+    pub(crate) entries: &'a [u16],
+    pub(crate) tables: &'a TreeTables,
+    pub(crate) nodes: &'a [Node],
+}
+
+/// Where the tree of the frame's method leads there, for the bits so many places after the cursor's. It begins at a node to which the bits lead from the first.
+/// The error is out of memory.
 #[inline(never)]
 pub(crate) fn follow(
     alloc: Global,
-    entries: &[u16],
-    tables: &TreeTables,
-    nodes: &[Node],
+    tree: &Tree<'_>,
     begin: usize,
-    context: &Context,
-    path: &str,
-    formats: &[Format],
-    arguments: &[i128],
+    frame: &Frame<'_>,
     cursor: &Cursor<'_>,
     from: usize,
 ) -> Result<Picked, AllocError>
-    requires serves { Serves entries.now nodes.now tables.now }
-    requires begins { IsSame (drop from cursor.now.left) nodes.now 0 begin }
-    ensures { IfOk result (λ picked. picked ≡ spec.picked_of (way (references (contexts.bits_at context.now) path.now formats.now) (drop from cursor.now.left) arguments.now 0 nodes.now)) }
+    requires serves { Serves tree.now.entries.now tree.now.nodes.now tree.now.tables.now }
+    requires begins { IsSame (drop from cursor.now.left) tree.now.nodes.now 0 begin }
+    ensures { IfOk result (λ picked. picked ≡ spec.picked_of (way (references (contexts.bits_at frame.now.context.now) frame.now.path.now (spec.formats_of (slice_get frame.now.profile.now.methods frame.now.method))) (drop from cursor.now.left) frame.now.arguments.now 0 tree.now.nodes.now)) }
 {
+    let (entries, tables, nodes) = (tree.entries, tree.tables, tree.nodes);
     let sizes = tables.sizes.as_slice();
     let mut place = begin;
     while place < nodes.len() {
-        let next = match step(tables, nodes, place, arguments, cursor, from) {
+        let next = match step(tables, nodes, place, frame.arguments, cursor, from) {
             Next::Node(next) => next,
             Next::Reference(field, constant) => {
-                let is_other = !refers(alloc, context, path, formats, field, constant)?;
+                let is_other = !refers(alloc, frame, field, constant)?;
                 subtree(nodes, sizes, place, is_other)
             }
             Next::End(picked) => return Ok(picked),

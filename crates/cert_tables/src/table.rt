@@ -1,20 +1,19 @@
 //! What is kept of decision trees.
 
-ghost use Rattle.std.specs.Prelude.{◌≡◌, drop, length, IfOk};
+ghost use Rattle.std.specs.Prelude.{◌≡◌, drop, length, slice_get, IfOk};
 ghost use Rattle.std.specs.Option.{option_copied};
 ghost use Rattle.sem_context.specs.Entries as contexts;
 ghost use Rattle.cert_rules.specs.Counts as counts;
 ghost use Rattle.cert_rules.specs.Trees.{references};
 ghost use Rattle.cert_tables.specs.Kept.{AreTables};
-ghost use Rattle.cert_tables.specs.Picked.{picks};
+ghost use Rattle.cert_tables.specs.Picked.{formats_of, picks};
 ghost use Rattle.cert_tables.specs.Tables.{entries_of};
 
 use crate::maker::{Making, entry_tables};
-use crate::picks::{Picked, follow, leaf_of, looked_up};
+use crate::picks::{Picked, Tree, follow, leaf_of, looked_up};
 use cert_types::{Certificate, MethodPlans};
 use sem_bits::Cursor;
-use sem_context::Context;
-use sem_profile::Format;
+use sem_filling::Frame;
 use sqlite_items::{Items, at};
 use std::alloc::{AllocError, Global};
 
@@ -57,27 +56,23 @@ impl Tables {
         })
     }
 
-    /// Where the method's tree leads, where these are the method's formats, in a context and below a path, under these arguments and for the bits so many places
-    /// after the cursor's. The error is out of memory, which is taken for the path of a reference alone.
+    /// Where the tree of the frame's method leads there, for the bits so many places after the cursor's. The error is out of memory, which is taken for the path
+    /// of a reference alone.
     pub fn pick(
         &self,
         alloc: Global,
         certificate: &Certificate,
-        method: usize,
-        context: &Context,
-        path: &str,
-        formats: &[Format],
-        arguments: &[i128],
+        frame: &Frame<'_>,
         cursor: &Cursor<'_>,
         from: usize,
     ) -> Result<Picked, AllocError>
         requires { AreTables certificate.now.methods self.now }
-        ensures { IfOk result (λ picked. picked ≡ picks certificate.now.methods method (references (contexts.bits_at context.now) path.now formats.now) arguments.now (drop from cursor.now.left)) }
+        ensures { IfOk result (λ picked. picked ≡ picks certificate.now.methods frame.now.method (references (contexts.bits_at frame.now.context.now) frame.now.path.now (formats_of (slice_get frame.now.profile.now.methods frame.now.method))) frame.now.arguments.now (drop from cursor.now.left)) }
     {
-        let Some(entry) = entry_at(certificate.methods(), method) else {
+        let Some(entry) = entry_at(certificate.methods(), frame.method) else {
             return Ok(Picked::Nothing);
         };
-        let Some(tables) = at(self.trees.as_slice(), method) else {
+        let Some(tables) = at(self.trees.as_slice(), frame.method) else {
             return Ok(Picked::Nothing);
         };
         let (entries, nodes) = (self.entries.as_slice(), entry.tree.as_slice());
@@ -85,9 +80,12 @@ impl Tables {
         if let Some(format) = leaf_of(nodes, begin) {
             return Ok(Picked::Format(format));
         }
-        follow(
-            alloc, entries, tables, nodes, begin, context, path, formats, arguments, cursor, from,
-        )
+        let tree = Tree {
+            entries,
+            tables,
+            nodes,
+        };
+        follow(alloc, &tree, begin, frame, cursor, from)
     }
 
     /// How many entries all tables have together.

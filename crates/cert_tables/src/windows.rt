@@ -9,6 +9,14 @@ ghost use Rattle.cert_tables.specs.Kept.{AreSizesFrom};
 use crate::sizes::second;
 use cert_types::Node;
 
+/// The bits at which a table looks: the place of its node, the offset of the first bit, and how many they are.
+#[derive(Clone, Copy)]
+pub(crate) struct Window {
+    pub(crate) place: usize,
+    pub(crate) offset: usize,
+    pub(crate) width: usize,
+}
+
 /// No table looks at more bits.
 const WIDEST: usize = 8;
 
@@ -60,25 +68,18 @@ fn ahead_of(tested: usize, offset: usize) -> Option<usize>
     }
 }
 
-/// Where the window's bits, which spell the number, lead from the node at a place, through tests of these bits alone.
-pub(crate) fn entry_at(
-    nodes: &[Node],
-    sizes: &[u16],
-    place: usize,
-    offset: usize,
-    width: usize,
-    number: usize,
-) -> usize
-    requires within { place ≤ length nodes.now }
+/// Where the window's bits, which spell the number, lead from its node, through tests of these bits alone.
+pub(crate) fn entry_at(nodes: &[Node], sizes: &[u16], window: Window, number: usize) -> usize
+    requires within { window.place ≤ length nodes.now }
     requires sized { AreSizesFrom 0 nodes.now sizes.now }
-    requires narrow { width ≤ 8 }
-    ensures value { result ≡ spec.entry width offset place (drop place nodes.now) number }
+    requires narrow { window.width ≤ 8 }
+    ensures value { result ≡ spec.entry window.width window.offset window.place (drop window.place nodes.now) number }
     ensures within { result ≤ length nodes.now }
 {
-    let mut at = place;
+    let mut at = window.place;
     while at < nodes.len() {
         match nodes[at] {
-            Node::Bit(tested) => match seen(width, number, offset, tested) {
+            Node::Bit(tested) => match seen(window.width, number, window.offset, tested) {
                 Some(is_one) => {
                     at += 1;
                     if is_one {

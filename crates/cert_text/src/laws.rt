@@ -21,7 +21,7 @@ pub fn one_code()
     ensures code { laws.OneCode }
 {}
 
-/// The printed text of a certificate is read as that certificate and as no other one, and up to its limit it is read but since memory is out.
+/// The printed text of a certificate is read as that certificate and as no other one, and up to its limit it is refused only where memory is out.
 pub fn text_reads_back()
     ensures reads { laws.ReadsBack }
     ensures only { laws.ReadsOnly }

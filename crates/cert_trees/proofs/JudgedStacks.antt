@@ -14,12 +14,12 @@ use Rattle.cert_types.specs.declared.certificate.Node.TheVariants.{Bit, Paramete
 use Rattle.cert_types.specs.Kept.{are_trees, trees_after}
 use Rattle.cert_rules.specs.Trees.{Reach, onward, reach_at, Reaches, IsRight, PartsFormats, everything}
 use Rattle.cert_trees.specs.declared.fault.TreeFault.TheVariants.{WrongLeaf, ShortFormat}
-use Rattle.cert_trees.specs.declared.told.Signature.{Signature}
-use Rattle.cert_trees.specs.declared.told.Test.TheVariants.{Lacks, MayBe, MayDiffer, MayHold, MayLack}
+use Rattle.cert_trees.specs.declared.signatures.Signature.{Signature}
+use Rattle.cert_trees.specs.declared.signatures.Test.TheVariants.{Lacks, MayBe, MayDiffer, MayHold, MayLack}
 use Rattle.cert_trees.specs.Faults.{Stands, IsTreeFault}
-use Rattle.cert_trees.specs.Signature.{AreTold, IsNode, branches}
+use Rattle.cert_trees.specs.Signature.{AreSignatures, IsNode, branches}
 use Rattle.cert_trees.specs.Judged.{Has, is_wrong, is_short, IsFirstWrong, reaching, stacked, JudgedTo}
-use Rattle.cert_trees.proofs.ToldPassing.{kept_is}
+use Rattle.cert_trees.proofs.SignaturesPassing.{kept_is}
 
 -- ---- a set's members are the formats that reach
 
@@ -140,17 +140,17 @@ pub record Taken (formats : List Format) (s : MethodSizes) (nodes : List Node) (
   pub at : (k : ℕ) → reach_at (everything ∷ []) nodes (place + suc k) ≡ reach_at (onward reach x ++ more) (drop (place + 1) nodes) k
   pub stands : Stands formats s nodes place x reach
 
-all_reach : (tolds : List Signature) (formats : List Format) (sizes : List FormatSizes) → AreTold tolds formats sizes → replicate (length tolds) true ≡ reaching everything formats sizes
+all_reach : (tolds : List Signature) (formats : List Format) (sizes : List FormatSizes) → AreSignatures tolds formats sizes → replicate (length tolds) true ≡ reaching everything formats sizes
 all_reach [] [] sizes told = refl
 all_reach [] (f ∷ formats) [] told = refl
 all_reach [] (f ∷ formats) (z ∷ sizes) told = absurd (omega (arith, told.count))
 all_reach (t ∷ tolds) [] sizes told = absurd (omega (arith, told.count))
 all_reach (t ∷ tolds) (f ∷ formats) [] told = absurd (omega (arith, told.count))
 all_reach (t ∷ tolds) (f ∷ formats) (z ∷ sizes) told =
-    let rest : AreTold tolds formats sizes = record { count = omega (arith, told.count); each = λ n. told.each (suc n) } in
+    let rest : AreSignatures tolds formats sizes = record { count = omega (arith, told.count); each = λ n. told.each (suc n) } in
     ap (λ set. true ∷ set) (all_reach tolds formats sizes rest)
 
-pub begun : (tolds : List Signature) (formats : List Format) (s : MethodSizes) (nodes : List Node) (sets : List (List Bool)) → AreTold tolds formats s.formats → are_trees 1 nodes ≡ true →
+pub begun : (tolds : List Signature) (formats : List Format) (s : MethodSizes) (nodes : List Node) (sets : List (List Bool)) → AreSignatures tolds formats s.formats → are_trees 1 nodes ≡ true →
     sets ≡ replicate (length tolds) true ∷ [] → JudgedTo formats s nodes 0 sets
 begun tolds formats s nodes sets told whole is = record {
   reaches = everything ∷ [];
@@ -209,7 +209,7 @@ module _ (formats : List Format) (s : MethodSizes) (nodes : List Node) where
   none_more [] = refl
   none_more (x ∷ rest) = ap (λ ys. x ∷ ys) (none_more rest)
 
-  branches_are : (tolds : List Signature) (reach : Reach) (more : List Reach) (x : Node) → AreTold tolds formats s.formats → IsNode x →
+  branches_are : (tolds : List Signature) (reach : Reach) (more : List Reach) (x : Node) → AreSignatures tolds formats s.formats → IsNode x →
       stacked formats s.formats more ++ branches tolds (reaching reach formats s.formats) x ≡ stacked formats s.formats (onward reach x ++ more)
   branches_are tolds reach more (Bit o) told is =
       let small : o < 2 ^ 128 = omega (arith, is) in
@@ -225,7 +225,7 @@ module _ (formats : List Format) (s : MethodSizes) (nodes : List Node) where
   branches_are tolds reach more Nowhere told is = none_more (stacked formats s.formats more)
 
   pub next : (tolds : List Signature) (place : ℕ) (x : Node) (rest sets : List (List Bool)) (set : List Bool) (t : Taken formats s nodes place x rest set) → IsRight formats s t.reach x →
-      AreTold tolds formats s.formats → IsNode x → sets ≡ rest ++ branches tolds set x → JudgedTo formats s nodes (place + 1) sets
+      AreSignatures tolds formats s.formats → IsNode x → sets ≡ rest ++ branches tolds set x → JudgedTo formats s nodes (place + 1) sets
   next tolds place x rest sets set t right told is made = record {
     reaches = onward t.reach x ++ t.more;
     are = made ∙ ((λ i. t.rest_is i ++ branches tolds (t.set_is i) x) ∙ branches_are tolds t.reach t.more x told is);

@@ -7,21 +7,21 @@ use Rattle.sem_profile.specs.declared.profile.Format.{Format}
 use Rattle.cert_types.specs.declared.certificate.Node.{Node}
 use Rattle.cert_types.specs.declared.certificate.Node.TheVariants.{Bit, Parameter, Reference, Leaf, Nowhere}
 use Rattle.cert_rules.specs.Trees.{known_bit, is_bit, lacks_bit, never_at, only_at, never_refers, only_refers, Reach}
-use Rattle.cert_trees.specs.declared.told.Signature.{Signature}
-use Rattle.cert_trees.specs.declared.told.Test.{Test}
-use Rattle.cert_trees.specs.declared.told.Test.TheVariants.{Lacks, MayBe, MayDiffer, MayHold, MayLack}
+use Rattle.cert_trees.specs.declared.signatures.Signature.{Signature}
+use Rattle.cert_trees.specs.declared.signatures.Test.{Test}
+use Rattle.cert_trees.specs.declared.signatures.Test.TheVariants.{Lacks, MayBe, MayDiffer, MayHold, MayLack}
 use Rattle.cert_trees.specs.Equations.{equation_of, reference_of, excludes, fixes}
 
 -- what is told of the format: its known bits, and its equations
-pub record IsTold (told : Signature) (format : Format) (sizes : FormatSizes) : Type 0 where
+pub record IsSignature (told : Signature) (format : Format) (sizes : FormatSizes) : Type 0 where
   pub bits : (o : ℕ) → o < 2 ^ 128 → get nat_eq told.bits o ≡ known_bit format.fields sizes.fields format.listing o
   pub equations : told.equations ≡ filter_map equation_of format.constraints
   pub references : told.references ≡ filter_map (reference_of format.fields) format.constraints
 
 -- of each format that has bounds
-pub record AreTold (tolds : List Signature) (formats : List Format) (sizes : List FormatSizes) : Type 0 where
+pub record AreSignatures (tolds : List Signature) (formats : List Format) (sizes : List FormatSizes) : Type 0 where
   pub count : length tolds ≡ min (length formats) (length sizes)
-  pub each : (n : ℕ) (told : Signature) (format : Format) (z : FormatSizes) → slice_get tolds n ≡ Some told → slice_get formats n ≡ Some format → slice_get sizes n ≡ Some z → IsTold told format z
+  pub each : (n : ℕ) (told : Signature) (format : Format) (z : FormatSizes) → slice_get tolds n ≡ Some told → slice_get formats n ≡ Some format → slice_get sizes n ≡ Some z → IsSignature told format z
 
 -- the offset is one that the code can name
 abbrev pub IsTest : Test → Type 0

@@ -12,7 +12,7 @@ use sqlite_items::Items;
 use std::alloc::{AllocError, Global};
 
 /// The methods by their places, each after those that it calls, where there is such an order and each call is of one of
-/// them. It fails only since memory is out.
+/// them. It fails only where memory is out.
 pub fn callees_first(alloc: Global, methods: &[Method]) -> Result<Items<usize>, AllocError>
     requires ordered { spec.HasOrder methods.now }
     requires within { spec.CallsWithin methods.now }

@@ -15,7 +15,7 @@ use std::alloc::{AllocError, Global};
 
 /// For each method how many candidates its write plans have by the certificate's entries (docs/DEFINITIONS.md, Certificates):
 /// the number, or the greatest of 64 bits where it is above that. In the order each method comes after those that it calls.
-/// It fails only since memory is out.
+/// It fails only where memory is out.
 pub fn count_candidates(
     alloc: Global,
     methods: &[Method],

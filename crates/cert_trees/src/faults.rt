@@ -9,11 +9,11 @@ ghost use Rattle.cert_types.specs.Kept.{are_trees};
 ghost use Rattle.cert_rules.specs.Trees.{Reach, IsRight, IsShort, PartsFormats};
 ghost use Rattle.cert_trees.specs.Faults.{Stands, IsTreeFault};
 ghost use Rattle.cert_trees.specs.Judged.{reaching, JudgedTo};
-ghost use Rattle.cert_trees.specs.Signature.{AreTold};
+ghost use Rattle.cert_trees.specs.Signature.{AreSignatures};
 
 use crate::fault::TreeFault;
 use crate::sets::{all, first_wrong, push_branches};
-use crate::told::{Signature, all_told};
+use crate::signatures::{Signature, all_signatures};
 use cert_types::Node;
 use sem_expr::Interval;
 use sem_profile::{Format, MethodSizes};
@@ -21,7 +21,7 @@ use sqlite_items::{Items, at};
 use std::alloc::{AllocError, Global};
 
 /// What is wrong with a method's decision tree (docs/DEFINITIONS.md, Certificates): at the first node, in preorder, at which
-/// something is. The nodes are one tree, and the bounds are those of the method. It fails only since memory is out.
+/// something is. The nodes are one tree, and the bounds are those of the method. It fails only where memory is out.
 pub fn tree_fault(
     alloc: Global,
     formats: &[Format],
@@ -32,7 +32,7 @@ pub fn tree_fault(
     ensures right { IfOk result (λ o. IfNone o (PartsFormats formats.now sizes.now nodes.now)) }
     ensures found { IfOk result (λ o. IfSome o (IsTreeFault formats.now sizes.now nodes.now)) }
 {
-    let tolds = all_told(alloc, formats, sizes.formats.as_slice())?;
+    let tolds = all_signatures(alloc, formats, sizes.formats.as_slice())?;
     let mut sets = Items::new(alloc);
     sets.push(all(alloc, tolds.len())?)?;
     for place in 0..nodes.len() {
@@ -60,7 +60,7 @@ fn judge(
     place: usize,
     node: Node,
 ) -> Result<Option<TreeFault>, AllocError>
-    ensures { IfOk result (λ o. (formats : List Format) (nodes : List Node) → AreTold tolds.now formats sizes.now.formats → slice_get nodes place ≡ Some node → JudgedTo formats sizes.now nodes place sets.old →
+    ensures { IfOk result (λ o. (formats : List Format) (nodes : List Node) → AreSignatures tolds.now formats sizes.now.formats → slice_get nodes place ≡ Some node → JudgedTo formats sizes.now nodes place sets.old →
         MatchOption o (JudgedTo formats sizes.now nodes (place + 1) sets.new) (IsTreeFault formats sizes.now nodes)) }
 {
     let Some(set) = sets.pop() else {

@@ -6,7 +6,7 @@ pub use counts::{count_candidates, format_count};
 pub use equations::Equation;
 pub use fault::TreeFault;
 pub use faults::{is_in_range, is_word, tree_fault};
-pub use told::{Signature, Test, all_told};
+pub use signatures::{Signature, Test, all_signatures};
 
 pub mod callees;
 mod choices;
@@ -16,5 +16,5 @@ pub mod fault;
 pub mod faults;
 pub mod laws;
 mod sets;
+pub mod signatures;
 mod tables;
-pub mod told;

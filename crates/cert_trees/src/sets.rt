@@ -1,11 +1,11 @@
 //! Sets of formats, as a mark for each.
 
 ghost use Rattle.std.specs.Prelude.{◌≡◌, ℕ, ◌++◌, replicate, true, false, slice_get, IfOk, MatchOption, ◌&&◌};
-ghost use Rattle.cert_trees.specs.declared.told.Test.TheVariants.{Lacks};
+ghost use Rattle.cert_trees.specs.declared.signatures.Test.TheVariants.{Lacks};
 ghost use Rattle.cert_trees.specs.Judged as judged;
 ghost use Rattle.cert_trees.specs.Signature as spec;
 
-use crate::told::{Signature, Test};
+use crate::signatures::{Signature, Test};
 use cert_types::Node;
 use sem_profile::FormatSizes;
 use sqlite_items::{Items, at};

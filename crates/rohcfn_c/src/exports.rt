@@ -8,8 +8,10 @@ ghost use Rattle.rohcfn_c.specs.Calls as spec;
 
 use crate::answer::CallAnswer;
 use crate::handle::Handle;
-use crate::opening::open;
-use crate::steps::{Counts, asked, contexts, most, pack, reset, robust, unpack, why};
+use crate::opening::{ProfileTexts, open};
+use crate::steps::{
+    Counts, ItemOctets, PacketOctets, asked, contexts, most, pack, reset, robust, unpack, why,
+};
 use std::alloc::Global;
 
 /// Opens a session of so many flows by the profile with this top, and its certificate; with no octets for that it is made. What the handle held is closed. `said`
@@ -27,7 +29,12 @@ pub extern "C" fn rohcfn_open(
 ) -> i32
     ensures { (told : CallAnswer) × (result ≡ code_of told) × Opens top.now profile.now certificate.now flows told handle.new.session line.old line.new said.new }
 {
-    let told = open(alloc, top, profile, certificate, flows, handle, line, said);
+    let texts = ProfileTexts {
+        top,
+        profile,
+        certificate,
+    };
+    let told = open(alloc, &texts, flows, handle, line, said);
     told.code()
 }
 
@@ -45,16 +52,12 @@ pub extern "C" fn rohcfn_pack(
 ) -> i32
     ensures { (told : CallAnswer) × (result ≡ code_of told) × spec.Packs flow header.now header_bits asked.now handle.old.session handle.new.session packed.old packed.new packed_bits.old packed_bits.new told }
 {
-    let told = pack_told(
-        alloc,
-        handle,
-        flow,
+    let item = ItemOctets {
         header,
         header_bits,
         asked,
-        packed,
-        packed_bits,
-    );
+    };
+    let told = pack_told(alloc, handle, flow, &item, packed, packed_bits);
     told.code()
 }
 
@@ -62,27 +65,16 @@ fn pack_told(
     alloc: Global,
     handle: &mut Handle,
     flow: usize,
-    header: &[u8],
-    header_bits: usize,
-    asked: &[u8],
+    item: &ItemOctets<'_, '_>,
     packed: &mut [u8],
     packed_bits: &mut usize,
 ) -> CallAnswer
-    ensures { spec.Packs flow header.now header_bits asked.now handle.old.session handle.new.session packed.old packed.new packed_bits.old packed_bits.new result }
+    ensures { spec.Packs flow item.now.header.now item.now.header_bits item.now.asked.now handle.old.session handle.new.session packed.old packed.new packed_bits.old packed_bits.new result }
 {
     let Some(mut opened) = handle.take(alloc) else {
         return CallAnswer::Closed;
     };
-    let told = pack(
-        alloc,
-        &mut opened,
-        flow,
-        header,
-        header_bits,
-        asked,
-        packed,
-        packed_bits,
-    );
+    let told = pack(alloc, &mut opened, flow, item, packed, packed_bits);
     handle.put(opened);
     told
 }
@@ -101,16 +93,11 @@ pub extern "C" fn rohcfn_unpack(
 ) -> i32
     ensures { (told : CallAnswer) × (result ≡ code_of told) × spec.Unpacks flow packed.now packed_bits handle.old.session handle.new.session header.old header.new asked.old asked.new counts.old counts.new told }
 {
-    let told = unpack_told(
-        alloc,
-        handle,
-        flow,
-        packed,
-        packed_bits,
-        header,
-        asked,
-        counts,
-    );
+    let packet = PacketOctets {
+        octets: packed,
+        bits: packed_bits,
+    };
+    let told = unpack_told(alloc, handle, flow, &packet, header, asked, counts);
     told.code()
 }
 
@@ -118,27 +105,17 @@ fn unpack_told(
     alloc: Global,
     handle: &mut Handle,
     flow: usize,
-    packed: &[u8],
-    packed_bits: usize,
+    packet: &PacketOctets<'_>,
     header: &mut [u8],
     asked: &mut [u8],
     counts: &mut Counts,
 ) -> CallAnswer
-    ensures { spec.Unpacks flow packed.now packed_bits handle.old.session handle.new.session header.old header.new asked.old asked.new counts.old counts.new result }
+    ensures { spec.Unpacks flow packet.now.octets.now packet.now.bits handle.old.session handle.new.session header.old header.new asked.old asked.new counts.old counts.new result }
 {
     let Some(mut opened) = handle.take(alloc) else {
         return CallAnswer::Closed;
     };
-    let told = unpack(
-        alloc,
-        &mut opened,
-        flow,
-        packed,
-        packed_bits,
-        header,
-        asked,
-        counts,
-    );
+    let told = unpack(alloc, &mut opened, flow, packet, header, asked, counts);
     handle.put(opened);
     told
 }

@@ -17,25 +17,31 @@ use walk_session::Session;
 /// The greatest count of flows of a session.
 const FLOW_LIMIT: usize = 64;
 
+/// What a session is opened by: the name of a top, the octets of a profile, and those of its certificate, none where one is to be made.
+#[derive(Clone, Copy)]
+pub(crate) struct ProfileTexts<'a, 'b, 'c> {
+    pub(crate) top: &'a [u8],
+    pub(crate) profile: &'b [u8],
+    pub(crate) certificate: &'c [u8],
+}
+
 /// Closes what the handle held, and opens a session of so many flows by the profile with this top and its certificate; with no octets for that it is made.
 pub(crate) fn open(
     alloc: Global,
-    top: &[u8],
-    profile: &[u8],
-    certificate: &[u8],
+    texts: &ProfileTexts<'_, '_, '_>,
     flows: usize,
     handle: &mut Handle,
     line: &mut [u8],
     said: &mut usize,
 ) -> CallAnswer
-    ensures { spec.Opens top.now profile.now certificate.now flows result handle.new.session line.old line.new said.new }
+    ensures { spec.Opens texts.now.top.now texts.now.profile.now texts.now.certificate.now flows result handle.new.session line.old line.new said.new }
 {
     drop(handle.take(alloc));
     *said = 0;
     if flows == 0 || flows > FLOW_LIMIT {
         return CallAnswer::NoSuch;
     }
-    match judge(alloc, top, profile, certificate, line, said) {
+    match judge(alloc, texts, line, said) {
         Ok(Some(accepted)) => put(alloc, accepted, flows as u8, handle),
         Ok(None) => CallAnswer::Refused,
         Err(_) => CallAnswer::NoMemory,
@@ -45,18 +51,16 @@ pub(crate) fn open(
 /// The profile with its certificate, where it is accepted; else the line of why it isn't is written.
 fn judge(
     alloc: Global,
-    top: &[u8],
-    profile: &[u8],
-    certificate: &[u8],
+    texts: &ProfileTexts<'_, '_, '_>,
     line: &mut [u8],
     said: &mut usize,
 ) -> Result<Option<Accepted>, AllocError>
-    ensures { spec.Judges top.now profile.now certificate.now result line.old line.new said.old said.new }
+    ensures { spec.Judges texts.now.top.now texts.now.profile.now texts.now.certificate.now result line.old line.new said.old said.new }
 {
-    let Ok(top) = str::from_utf8(top) else {
+    let Ok(top) = str::from_utf8(texts.top) else {
         return Ok(None);
     };
-    match accept(alloc, top, profile, origin_of(certificate))? {
+    match accept(alloc, top, texts.profile, origin_of(texts.certificate))? {
         Judged::Accepted(accepted) => Ok(Some(accepted)),
         Judged::Refused(text) => {
             cut(text.as_str().as_bytes(), line, said);

@@ -11,23 +11,40 @@ use std::alloc::{AllocError, Global};
 use walk_session::most::{most_header, most_packet};
 use walk_session::{PackRefusal, Taken, UnpackRefusal};
 
+/// An item as octets: its header, of so many bits, and the values of its asked fields.
+#[derive(Clone, Copy)]
+pub(crate) struct ItemOctets<'a, 'b> {
+    pub(crate) header: &'a [u8],
+    pub(crate) header_bits: usize,
+    pub(crate) asked: &'b [u8],
+}
+
+/// Bits as octets, with a packet at their front.
+#[derive(Clone, Copy)]
+pub(crate) struct PacketOctets<'a> {
+    pub(crate) octets: &'a [u8],
+    pub(crate) bits: usize,
+}
+
 /// Packs one item of a flow.
 pub(crate) fn pack(
     alloc: Global,
     opened: &mut Opened,
     flow: usize,
-    header: &[u8],
-    header_bits: usize,
-    asked: &[u8],
+    item: &ItemOctets<'_, '_>,
     packed: &mut [u8],
     packed_bits: &mut usize,
 ) -> CallAnswer
-    ensures { spec.PackTold opened.old opened.new flow header.now header_bits asked.now packed.old packed.new packed_bits.old packed_bits.new result }
+    ensures { spec.PackTold opened.old opened.new flow item.now.header.now item.now.header_bits item.now.asked.now packed.old packed.new packed_bits.old packed_bits.new result }
 {
-    match opened
-        .session
-        .pack(alloc, flow, header, header_bits, asked, packed)
-    {
+    match opened.session.pack(
+        alloc,
+        flow,
+        item.header,
+        item.header_bits,
+        item.asked,
+        packed,
+    ) {
         Ok(bits) => {
             *packed_bits = bits;
             CallAnswer::Done
@@ -71,17 +88,16 @@ pub(crate) fn unpack(
     alloc: Global,
     opened: &mut Opened,
     flow: usize,
-    packed: &[u8],
-    packed_bits: usize,
+    packet: &PacketOctets<'_>,
     header: &mut [u8],
     asked: &mut [u8],
     counts: &mut Counts,
 ) -> CallAnswer
-    ensures { spec.UnpackTold opened.old opened.new flow packed.now packed_bits header.old header.new asked.old asked.new counts.old counts.new result }
+    ensures { spec.UnpackTold opened.old opened.new flow packet.now.octets.now packet.now.bits header.old header.new asked.old asked.new counts.old counts.new result }
 {
     match opened
         .session
-        .unpack(alloc, flow, packed, packed_bits, header, asked)
+        .unpack(alloc, flow, packet.octets, packet.bits, header, asked)
     {
         Ok(taken) => {
             *counts = counts_of(taken);

@@ -7,7 +7,7 @@ use crate::contexts::put_context;
 use crate::words::{bits, count, parted, put_bits};
 use anyhow::{Context as _, Result, anyhow};
 use sem_context::Context;
-use sem_filling::{FilledField, Filling, advance, below};
+use sem_filling::{FilledField, Filling, Frame, advance, below};
 use sem_holds::holds;
 use sem_profile::{Declared, Name, Part, Profile, Shared};
 use sqlite_items::Items;
@@ -83,15 +83,14 @@ fn fits_top(
     if !bounds.parameters.is_empty() {
         return Err(anyhow!("the top has parameters"));
     }
-    Ok(holds(
-        alloc,
+    let frame = Frame {
         profile,
         context,
-        profile.top(),
-        [].as_slice(),
-        "",
-        filling,
-    )?)
+        method: profile.top(),
+        arguments: [].as_slice(),
+        path: "",
+    };
+    Ok(holds(alloc, &frame, filling)?)
 }
 
 /// `sides CONTEXT | FILLING`: the filling's header, packed bits, item, entries, and the context after it.

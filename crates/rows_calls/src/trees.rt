@@ -9,6 +9,7 @@ use cert_prove::prove;
 use cert_types::{Node, Version};
 use sem_bits::{Bits, Cursor};
 use sem_context::Context;
+use sem_filling::Frame;
 use sqlite_items::at;
 use std::alloc::Global;
 use std::fmt::Write;
@@ -106,8 +107,15 @@ fn is_alike(
     plain: Picked,
 ) -> Result<bool> {
     let context = Context::new(alloc);
-    let here = accepted.pick(alloc, method, &context, "", &[], &Cursor::new(bits))?;
-    let ahead = picked_ahead(alloc, accepted, method, &context, bits)?;
+    let frame = Frame {
+        profile: accepted.profile(),
+        context: &context,
+        method,
+        arguments: &[],
+        path: "",
+    };
+    let here = accepted.pick(alloc, &frame, &Cursor::new(bits))?;
+    let ahead = picked_ahead(alloc, accepted, &frame, bits)?;
     Ok(is_same(here, plain) && is_same(ahead, plain))
 }
 
@@ -115,13 +123,12 @@ fn is_alike(
 fn picked_ahead(
     alloc: Global,
     accepted: &Accepted,
-    method: usize,
-    context: &Context,
+    frame: &Frame<'_>,
     bits: &Bits,
 ) -> Result<Picked> {
     let mut more = Bits::from_value(alloc, 3, 5)?.context("no bits")?;
     more.append(bits)?;
-    Ok(accepted.pick_ahead(alloc, method, context, "", &[], &Cursor::new(&more), 3)?)
+    Ok(accepted.pick_ahead(alloc, frame, &Cursor::new(&more), 3)?)
 }
 
 fn is_same(one: Picked, other: Picked) -> bool {

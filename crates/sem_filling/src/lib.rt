@@ -4,11 +4,13 @@
 
 pub use entries::{FieldPath, advance, below};
 pub use filling::{AskedValue, FilledField, Filling, Item};
+pub use frame::Frame;
 pub use whole_sides::WholeSides;
 
 pub mod entries;
 pub mod filling;
 pub mod filling_laws;
+pub mod frame;
 pub mod laws;
 pub mod sides;
 pub mod whole_sides;

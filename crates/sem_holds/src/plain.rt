@@ -23,10 +23,9 @@ ghost use Rattle.sem_filling.specs.Ready.{IsShown, IsCoded};
 use crate::level::Level;
 use crate::numbers::{FillingNumbers, is_number, number_in};
 use sem_bits::Bits;
-use sem_context::Context;
 use sem_expr::{Expr, Side, Subject};
-use sem_filling::FilledField;
 use sem_filling::whole_sides::reference_below;
+use sem_filling::{FilledField, Frame};
 use sem_library::{crc_down, lsb_down};
 use sem_profile::{CrcArguments, Field, Library};
 use std::alloc::{AllocError, Global};
@@ -43,8 +42,7 @@ pub(crate) fn is_bare(filled: &FilledField) -> bool
 #[inline(always)]
 pub(crate) fn is_coded(
     alloc: Global,
-    context: &Context,
-    path: &str,
+    frame: &Frame<'_>,
     level: &Level<'_>,
     field: &Field,
     library: &Library,
@@ -52,7 +50,7 @@ pub(crate) fn is_coded(
 ) -> Result<bool, AllocError>
     requires ranged { AllRanged level.now.known (library_exprs library.now) }
     requires shown { IsShown level.now.format.now level.now.filling.now level.now.header.now level.now.packed.now }
-    ensures { IfOk result (λ b. IsTrue b ↔ IsCoded (bits_at context.now) path.now level.now.filling.now (assignment_of level.now.known) field.now library.now filled.now) }
+    ensures { IfOk result (λ b. IsTrue b ↔ IsCoded (bits_at frame.now.context.now) frame.now.path.now level.now.filling.now (assignment_of level.now.known) field.now library.now filled.now) }
 {
     if filled.inner.is_some() {
         return Ok(false);
@@ -66,9 +64,9 @@ pub(crate) fn is_coded(
             Ok(up.is_empty() && is_spelled(&level.known, length, value, down))
         }
         Library::Irregular { length } => Ok(is_carried(&level.known, length, up, down)),
-        Library::Static => is_kept(alloc, context, path, field, up, down),
+        Library::Static => is_kept(alloc, frame, field, up, down),
         Library::Lsb { bits, offset } => {
-            is_near(alloc, context, path, level, field, bits, offset, filled)
+            is_near(alloc, frame, level, field, bits, offset, filled)
         }
         Library::Crc(crc) => is_summed(alloc, level, crc.get(), filled),
     }
@@ -100,18 +98,17 @@ fn is_carried(known: &FillingNumbers<'_>, length: &Expr, up: &Bits, down: &Bits)
 #[inline(never)]
 fn is_kept(
     alloc: Global,
-    context: &Context,
-    path: &str,
+    frame: &Frame<'_>,
     field: &Field,
     up: &Bits,
     down: &Bits,
 ) -> Result<bool, AllocError>
-    ensures { IfOk result (λ b. IsTrue b ↔ Lib lib.static (reference_of field.now.declared.part (bits_at context.now) (below path.now field.now.declared.name) field.now.initial) up.now down.now) }
+    ensures { IfOk result (λ b. IsTrue b ↔ Lib lib.static (reference_of field.now.declared.part (bits_at frame.now.context.now) (below frame.now.path.now field.now.declared.name) field.now.initial) up.now down.now) }
 {
     if up.len() > 64 || !down.is_empty() {
         return Ok(false);
     }
-    let reference = reference_below(alloc, context, path, field)?;
+    let reference = reference_below(alloc, frame.context, frame.path, field)?;
     Ok(is_reference(reference, up))
 }
 
@@ -129,8 +126,7 @@ fn is_reference(reference: Option<&Bits>, bits: &Bits) -> bool
 #[inline(never)]
 fn is_near(
     alloc: Global,
-    context: &Context,
-    path: &str,
+    frame: &Frame<'_>,
     level: &Level<'_>,
     field: &Field,
     bits: &Expr,
@@ -140,7 +136,7 @@ fn is_near(
     requires bits { IsRanged (assignment_of level.now.known) bits.now }
     requires offset { IsRanged (assignment_of level.now.known) offset.now }
     requires outer { inner_of filled.now ≡ None }
-    ensures { IfOk result (λ b. IsTrue b ↔ IsCoded (bits_at context.now) path.now level.now.filling.now (assignment_of level.now.known) field.now (library.Lsb bits.now offset.now) filled.now) }
+    ensures { IfOk result (λ b. IsTrue b ↔ IsCoded (bits_at frame.now.context.now) frame.now.path.now level.now.filling.now (assignment_of level.now.known) field.now (library.Lsb bits.now offset.now) filled.now) }
 {
     let Some(bits) = number_in(bits, &level.known) else {
         return Ok(false);
@@ -148,7 +144,7 @@ fn is_near(
     let Some(offset) = number_in(offset, &level.known) else {
         return Ok(false);
     };
-    let reference = reference_below(alloc, context, path, field)?;
+    let reference = reference_below(alloc, frame.context, frame.path, field)?;
     let low = lsb_down(alloc, bits, offset, reference, &filled.uncompressed)?;
     Ok(is_found(&low, &filled.compressed))
 }

@@ -286,6 +286,13 @@ fn is_served_at(
     Ok(lacking.is_none())
 }
 
+/// A field that lacks something: its format and itself, by their indices.
+#[derive(Clone, Copy)]
+struct Lack {
+    format: usize,
+    field: usize,
+}
+
 /// What a format lacks at a site at which it doesn't have all that it needs.
 fn lacking_at(
     alloc: Global,
@@ -311,9 +318,11 @@ fn lacking_at(
     let Some(field) = first_unserved(alloc, ground, known, path, format.fields.as_slice())? else {
         unreachable!();
     };
-    lacking_path(
-        SITE_LIMIT, alloc, ground, known, path, method, number, field,
-    )
+    let lack = Lack {
+        format: number,
+        field,
+    };
+    lacking_path(SITE_LIMIT, alloc, ground, known, path, method, lack)
 }
 
 /// The path of a field that lacks something; of a field that calls a method, what a format of that lacks, and so on, so many calls deep at most.
@@ -324,17 +333,16 @@ fn lacking_path(
     known: &Growth,
     path: &str,
     method: usize,
-    number: usize,
-    place: usize,
+    lack: Lack,
 ) -> Result<String, AllocError>
     requires sites { sites.AreSites ground.now.methods.now ground.now.top ground.now.sites.now }
     requires grown { steps.IsGrown ground.now known.now.flags }
     requires site { sites.Holds ground.now.sites.now method path.now }
-    requires lacks { told.FieldLacks ground.now known.now.flags path.now method number place }
+    requires lacks { told.FieldLacks ground.now known.now.flags path.now method lack.format lack.field }
     requires listed { entries.IsListed ground.now known.now }
-    ensures { IfOk result (λ text. told.LacksBelow ground.now path.now method number (string_bytes text)) }
+    ensures { IfOk result (λ text. told.LacksBelow ground.now path.now method lack.format (string_bytes text)) }
 {
-    let Some(field) = field_at(ground.methods, method, number, place) else {
+    let Some(field) = field_at(ground.methods, method, lack.format, lack.field) else {
         unreachable!();
     };
     let name = field.declared.name.as_str();
@@ -346,7 +354,7 @@ fn lacking_path(
         return Ok(own);
     };
     let inner = inner_path(alloc, path, name)?;
-    let Some(lack) = first_lack(alloc, ground, known, called, inner.as_str())? else {
+    let Some(next) = first_lack(alloc, ground, known, called, inner.as_str())? else {
         return Ok(own);
     };
     let told = lacking_path(
@@ -356,17 +364,9 @@ fn lacking_path(
         known,
         inner.as_str(),
         called,
-        lack.format,
-        lack.field,
+        next,
     )?;
     Ok(told)
-}
-
-/// A field that lacks something: its format and itself, by their indices.
-#[derive(Clone, Copy)]
-struct Lack {
-    format: usize,
-    field: usize,
 }
 
 /// The first field of a method's formats that lacks something below a path.

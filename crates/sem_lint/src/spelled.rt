@@ -32,9 +32,10 @@ pub struct Owner {
     pub is_shared: bool,
 }
 
-/// The formats of a method, and which of them have a field of each name.
+/// The formats of a method, which goes by its index, and which of them have a field of each name.
 #[derive(Drop)]
 pub struct Owners<'a> {
+    pub method: usize,
     pub formats: &'a [Format],
     pub table: BTreeMap<String, Owner>,
 }
@@ -61,25 +62,24 @@ fn add_of_method(
 ) -> Result<(), AllocError>
     ensures { OnOk result (found.new ≡ found.old ++ spec.misspelled_method index method.now) }
 {
-    let owners = owners_in(alloc, method.formats.as_slice())?;
+    let owners = owners_in(alloc, index, method.formats.as_slice())?;
     for (number, format) in owners.formats.iter().enumerate() {
-        add_of_format(found, index, &owners, number, format)?;
+        add_of_format(found, &owners, number, format)?;
     }
     Ok(())
 }
 
 fn add_of_format(
     found: &mut Items<Misspelled>,
-    method: usize,
     owners: &Owners<'_>,
     number: usize,
     format: &Format,
 ) -> Result<(), AllocError>
     requires { spec.AreOwners owners.now.formats.now (get_by_text owners.now.table) }
-    ensures { OnOk result (found.new ≡ found.old ++ spec.misspelled_format method owners.now.formats.now number format.now) }
+    ensures { OnOk result (found.new ≡ found.old ++ spec.misspelled_format owners.now.method owners.now.formats.now number format.now) }
 {
     for (place, field) in format.fields.as_slice().iter().enumerate() {
-        add_of_field(found, method, owners, number, format, place, field)?;
+        add_of_field(found, owners, number, format, place, field)?;
     }
     Ok(())
 }
@@ -87,7 +87,6 @@ fn add_of_format(
 /// Adds a field, where COMPRESSED of its format alone declares its name and a field of the header may be meant.
 fn add_of_field(
     found: &mut Items<Misspelled>,
-    method: usize,
     owners: &Owners<'_>,
     number: usize,
     format: &Format,
@@ -95,7 +94,7 @@ fn add_of_field(
     field: &Field,
 ) -> Result<(), AllocError>
     requires { spec.AreOwners owners.now.formats.now (get_by_text owners.now.table) }
-    ensures { OnOk result (found.new ≡ found.old ++ spec.misspelled_field method owners.now.formats.now number format.now place field.now) }
+    ensures { OnOk result (found.new ≡ found.old ++ spec.misspelled_field owners.now.method owners.now.formats.now number format.now place field.now) }
 {
     let name = field.declared.name.as_str();
     if !is_local(field.declared.part) || !is_alone(owners, number, name) {
@@ -103,7 +102,7 @@ fn add_of_field(
     }
     match meant_in(format.fields.as_slice(), name.as_bytes()) {
         Some(meant) => found.push(Misspelled {
-            method,
+            method: owners.method,
             format: number,
             field: place,
             meant,
@@ -144,12 +143,21 @@ fn is_alone(owners: &Owners<'_>, number: usize, name: &str) -> bool
 }
 
 /// The names that the formats of a method have.
-fn owners_in<'a>(alloc: Global, formats: &'a [Format]) -> Result<Owners<'a>, AllocError>
+fn owners_in<'a>(
+    alloc: Global,
+    method: usize,
+    formats: &'a [Format],
+) -> Result<Owners<'a>, AllocError>
+    ensures method { IfOk result (λ owners. owners.method ≡ method) }
     ensures formats { IfOk result (λ owners. owners.formats.now ≡ formats.now) }
     ensures found { IfOk result (λ owners. spec.AreOwners owners.formats.now (get_by_text owners.table)) }
 {
     let table = owner_table(alloc, formats)?;
-    Ok(Owners { formats, table })
+    Ok(Owners {
+        method,
+        formats,
+        table,
+    })
 }
 
 fn owner_table(alloc: Global, formats: &[Format]) -> Result<BTreeMap<String, Owner>, AllocError>

@@ -29,6 +29,13 @@ pub struct Unnoticed {
     pub format: usize,
 }
 
+/// What makes a method loose: which methods each reaches by fields that aren't checked, and which have a field with `static` or `lsb` that isn't checked.
+#[derive(Clone, Copy)]
+struct Looseness<'a> {
+    reached: &'a [Items<bool>],
+    own: &'a [bool],
+}
+
 /// Of each open method the first format by which a wrong reference is not noticed, in the order of the text. The error is out of memory.
 pub fn unnoticed_formats(alloc: Global, profile: &Profile) -> Result<Items<Unnoticed>, AllocError>
     ensures { IfOk result (spec.AreUnnoticed profile.now) }
@@ -52,14 +59,11 @@ fn unnoticed_of(
     let own = own_of(alloc, dead, methods)?;
     let reached = table(alloc, graph.as_slice())?;
     let top = profile.top();
-    unnoticed_among(
-        alloc,
-        methods,
-        dead,
-        reached.as_slice(),
-        own.as_slice(),
-        top,
-    )
+    let loose = Looseness {
+        reached: reached.as_slice(),
+        own: own.as_slice(),
+    };
+    unnoticed_among(alloc, methods, dead, &loose, top)
 }
 
 // ---- checksums
@@ -234,15 +238,14 @@ fn unnoticed_among(
     alloc: Global,
     methods: &[Method],
     dead: &[Items<bool>],
-    reached: &[Items<bool>],
-    own: &[bool],
+    loose: &Looseness<'_>,
     top: usize,
 ) -> Result<Items<Unnoticed>, AllocError>
-    ensures { IfOk result (λ found. found ≡ spec.unnoticed_among methods.now dead.now (spec.loose_by reached.now own.now) (spec.open_by reached.now top)) }
+    ensures { IfOk result (λ found. found ≡ spec.unnoticed_among methods.now dead.now (spec.loose_by loose.now.reached.now loose.now.own.now) (spec.open_by loose.now.reached.now top)) }
 {
     let mut found = Items::new(alloc);
     for (index, method) in methods.iter().enumerate() {
-        add_of_method(&mut found, dead, reached, own, top, index, method)?;
+        add_of_method(&mut found, dead, loose, top, index, method)?;
     }
     Ok(found)
 }
@@ -250,18 +253,17 @@ fn unnoticed_among(
 fn add_of_method(
     found: &mut Items<Unnoticed>,
     dead: &[Items<bool>],
-    reached: &[Items<bool>],
-    own: &[bool],
+    loose: &Looseness<'_>,
     top: usize,
     index: usize,
     method: &Method,
 ) -> Result<(), AllocError>
-    ensures { OnOk result (found.new ≡ found.old ++ spec.unnoticed_method dead.now (spec.loose_by reached.now own.now) (spec.open_by reached.now top) index method.now) }
+    ensures { OnOk result (found.new ≡ found.old ++ spec.unnoticed_method dead.now (spec.loose_by loose.now.reached.now loose.now.own.now) (spec.open_by loose.now.reached.now top) index method.now) }
 {
-    if !is_open(reached, top, index) {
+    if !is_open(loose.reached, top, index) {
         return Ok(());
     }
-    match first_wrong(dead, reached, own, index, method.formats.as_slice()) {
+    match first_wrong(dead, loose, index, method.formats.as_slice()) {
         Some(format) => found.push(Unnoticed {
             method: index,
             format,
@@ -273,15 +275,14 @@ fn add_of_method(
 /// The first format that makes its method loose.
 fn first_wrong(
     dead: &[Items<bool>],
-    reached: &[Items<bool>],
-    own: &[bool],
+    loose: &Looseness<'_>,
     method: usize,
     formats: &[Format],
 ) -> Option<usize>
-    ensures { result ≡ spec.first_wrong dead.now (spec.loose_by reached.now own.now) method formats.now }
+    ensures { result ≡ spec.first_wrong dead.now (spec.loose_by loose.now.reached.now loose.now.own.now) method formats.now }
 {
     for (number, format) in formats.iter().enumerate() {
-        if is_wrong_format(dead, reached, own, method, number, format) {
+        if is_wrong_format(dead, loose, method, number, format) {
             return Some(number);
         }
     }
@@ -290,22 +291,21 @@ fn first_wrong(
 
 fn is_wrong_format(
     dead: &[Items<bool>],
-    reached: &[Items<bool>],
-    own: &[bool],
+    loose: &Looseness<'_>,
     method: usize,
     number: usize,
     format: &Format,
 ) -> bool
-    ensures { result ≡ spec.is_wrong_format dead.now (spec.loose_by reached.now own.now) method number format.now }
+    ensures { result ≡ spec.is_wrong_format dead.now (spec.loose_by loose.now.reached.now loose.now.own.now) method number format.now }
 {
-    !is_dead(dead, method, number) && has_wrong_field(reached, own, format)
+    !is_dead(dead, method, number) && has_wrong_field(loose, format)
 }
 
-fn has_wrong_field(reached: &[Items<bool>], own: &[bool], format: &Format) -> bool
-    ensures { result ≡ spec.any_place (spec.is_wrong_field (spec.loose_by reached.now own.now) format.now) 0 format.now.fields }
+fn has_wrong_field(loose: &Looseness<'_>, format: &Format) -> bool
+    ensures { result ≡ spec.any_place (spec.is_wrong_field (spec.loose_by loose.now.reached.now loose.now.own.now) format.now) 0 format.now.fields }
 {
     for (place, field) in format.fields.as_slice().iter().enumerate() {
-        if is_wrong_field(reached, own, format, place, field) {
+        if is_wrong_field(loose, format, place, field) {
             return true;
         }
     }
@@ -313,39 +313,33 @@ fn has_wrong_field(reached: &[Items<bool>], own: &[bool], format: &Format) -> bo
 }
 
 /// Whether the field has `static` or `lsb` or calls a loose method, and isn't checked.
-fn is_wrong_field(
-    reached: &[Items<bool>],
-    own: &[bool],
-    format: &Format,
-    place: usize,
-    field: &Field,
-) -> bool
-    ensures { result ≡ spec.is_wrong_field (spec.loose_by reached.now own.now) format.now place field.now }
+fn is_wrong_field(loose: &Looseness<'_>, format: &Format, place: usize, field: &Field) -> bool
+    ensures { result ≡ spec.is_wrong_field (spec.loose_by loose.now.reached.now loose.now.own.now) format.now place field.now }
 {
     let encoding = field.encoding.get();
-    (takes_reference(encoding) || calls_loose(reached, own, encoding)) && !is_checked(format, place)
+    (takes_reference(encoding) || calls_loose(loose, encoding)) && !is_checked(format, place)
 }
 
-fn calls_loose(reached: &[Items<bool>], own: &[bool], encoding: &Encoding) -> bool
-    ensures { result ≡ spec.calls_loose (spec.loose_by reached.now own.now) (places.called_by encoding.now) }
+fn calls_loose(loose: &Looseness<'_>, encoding: &Encoding) -> bool
+    ensures { result ≡ spec.calls_loose (spec.loose_by loose.now.reached.now loose.now.own.now) (places.called_by encoding.now) }
 {
     match called_by(encoding) {
-        Some(method) => is_loose(reached, own, method),
+        Some(method) => is_loose(loose, method),
         None => false,
     }
 }
 
-fn is_loose(reached: &[Items<bool>], own: &[bool], method: usize) -> bool
-    ensures { result ≡ spec.loose_by reached.now own.now method }
+fn is_loose(loose: &Looseness<'_>, method: usize) -> bool
+    ensures { result ≡ spec.loose_by loose.now.reached.now loose.now.own.now method }
 {
-    is_marked(own, method) || reaches_own(reached, own, method)
+    is_marked(loose.own, method) || reaches_own(loose, method)
 }
 
-fn reaches_own(reached: &[Items<bool>], own: &[bool], method: usize) -> bool
-    ensures { result ≡ spec.reaches_own reached.now own.now method }
+fn reaches_own(loose: &Looseness<'_>, method: usize) -> bool
+    ensures { result ≡ spec.reaches_own loose.now.reached.now loose.now.own.now method }
 {
-    for (index, refers) in own.iter().enumerate() {
-        if *refers && is_reached(reached, method, index) {
+    for (index, refers) in loose.own.iter().enumerate() {
+        if *refers && is_reached(loose.reached, method, index) {
             return true;
         }
     }

@@ -1,7 +1,6 @@
 -- What the filling of a page leaves in the context, field by field.
 use Rattle.std.proofs.Common.{◌≡◌, ◌∙◌, refl, sym, ap, subst, ℕ, suc, zero, ◌+◌, ◌≤◌, map, length, drop, List, [], ◌∷◌, ◌++◌, append_assoc, append-nil, add-one, Bool, true, false, arith}
-use Rattle.std.specs.Prelude.{slice_get, Option, Some, None, option_map, option_and_then}
-use Rattle.std.proofs.lemmas.Option.{slice_get-map}
+use Rattle.std.specs.Prelude.{slice_get, Option, Some, None, option_and_then}
 use Rattle.sem_expr.specs.declared.expr.Expr.{Expr}
 use Rattle.sem_profile.specs.declared.profile.Encoding.{Encoding}
 use Rattle.sem_profile.specs.declared.profile.Encoding.TheVariants as encoding

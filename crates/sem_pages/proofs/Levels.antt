@@ -1,6 +1,6 @@
 -- A level by a format's fields and what is shown of them.
-use Rattle.std.proofs.Common.{◌≡◌, ◌∙◌, refl, sym, ap, subst, ℕ, suc, zero, ◌+◌, ◌<◌, map, length, drop, get_or, List, [], ◌∷◌, ◌++◌, append_assoc, append-nil, add-one, drop-cons, Bool, true, false, arith}
-use Rattle.std.specs.Prelude.{slice_get, Option, Some, None, option_map, unwrap_or}
+use Rattle.std.proofs.Common.{◌≡◌, ◌∙◌, refl, sym, ap, ℕ, suc, zero, ◌+◌, ◌<◌, length, drop, get_or, List, [], ◌∷◌, ◌++◌, append_assoc, append-nil, add-one, drop-cons, Bool, true, false, arith}
+use Rattle.std.specs.Prelude.{slice_get, Some, None, option_map, unwrap_or}
 use Rattle.sem_expr.specs.declared.expr.Side.TheVariants.{Uncompressed, Compressed}
 use Rattle.sem_profile.specs.declared.profile.Field.{Field}
 use Rattle.sem_filling.specs.Fillings.{Sides, is_header, header_bits, packed_bits}

@@ -1,6 +1,6 @@
 -- The filling that a page shows.
 use Rattle.std.proofs.Common.{◌≡◌, ◌∙◌, refl, sym, ap, subst, ℕ, suc, zero, ◌≤◌, map, length, List, [], ◌∷◌, Bool, false, arith}
-use Rattle.std.specs.Prelude.{slice_get, Option, Some, None, option_map, option_and_then, ℤ}
+use Rattle.std.specs.Prelude.{slice_get, Option, Some, None, option_and_then, ℤ}
 use Rattle.sem_expr.specs.declared.expr.Expr.{Expr}
 use Rattle.sem_profile.specs.Fields.{lists}
 use Rattle.sem_profile.specs.declared.profile.Constraint.{Constraint}

@@ -1,5 +1,5 @@
 -- Bits as a count and a number.
-use Rattle.std.proofs.Common.{◌≡◌, ◌∙◌, refl, sym, subst, ℕ, ◌+◌, ◌*◌, ◌<◌, ◌≤◌, ◌^◌, List, Bool, ◌++◌, [], length}
+use Rattle.std.proofs.Common.{◌≡◌, sym, subst, ℕ, ◌+◌, ◌*◌, ◌<◌, ◌≤◌, ◌^◌, List, Bool, ◌++◌, [], length}
 use Rattle.sem_bits.specs.Number.{num, enc}
 use Rattle.sem_bits.proofs.Numbers.{length-enc, num-enc, enc_nil}
 use Rattle.sem_bits.proofs.Words.{beside_room, beside_word}

@@ -13,7 +13,7 @@ use Rattle.sem_profile.specs.declared.profile.Library.{Library}
 use Rattle.sem_profile.specs.declared.profile.Method as profile
 use Rattle.sem_filling.specs.declared.filling.Filling.{Filling, out-Filling}
 use Rattle.sem_filling.specs.declared.filling.FilledField.{FilledField}
-use Rattle.sem_filling.specs.Fillings.{Sides, sides_of, inner_of, inner_at, fields_of, listing_of, level, header, packed}
+use Rattle.sem_filling.specs.Fillings.{Sides, sides_of, inner_of, inner_at, listing_of, level, header, packed}
 use Rattle.sem_filling.specs.Entries.{Path, below}
 use Rattle.sem_filling.specs.Fits.{Context, Fits, FieldFits, assigned, side_of, format_at, method_of, reference_of, vals}
 use Rattle.sem_pages.specs.declared.page.Page.{Page, out-Page}

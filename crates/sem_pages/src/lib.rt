@@ -7,6 +7,7 @@
 #![tactic(auto)]
 
 pub use entries::{advance, asked_values};
+pub use frame::PageFrame;
 pub use judge::page_fits;
 pub use page::{Page, Shown};
 pub use sides::whole_of;
@@ -14,6 +15,7 @@ pub use sides::whole_of;
 mod constraints;
 mod entries;
 mod expressions;
+mod frame;
 mod judge;
 mod page;
 mod plain;

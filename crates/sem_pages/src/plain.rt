@@ -11,12 +11,14 @@ ghost use Rattle.sem_library.specs.Methods as lib;
 ghost use Rattle.sem_library.specs.Methods.{Lib};
 ghost use Rattle.sem_profile.specs.declared.profile.Field as normal;
 ghost use Rattle.sem_profile.specs.declared.profile.Library.TheVariants as library;
+ghost use Rattle.sem_pages.specs.declared.page.Shown.{out-Shown};
 ghost use Rattle.sem_pages.specs.Pages.{numbers_in, IsCodedBy};
 
 use crate::expressions::{is_number, value};
+use crate::frame::PageFrame;
+use crate::page::Shown;
 use crate::view::View;
 use sem_bits::Bits;
-use sem_context::Context;
 use sem_expr::Expr;
 use sem_filling::whole_sides::reference_below;
 use sem_library::{crc_down, lsb_down};
@@ -27,16 +29,15 @@ use std::alloc::{AllocError, Global};
 #[inline(always)]
 pub(crate) fn is_coded(
     alloc: Global,
-    context: &Context,
-    path: &str,
+    frame: &PageFrame<'_>,
     view: &View<'_>,
     field: &Field,
     library: &Library,
-    up: &Bits,
-    down: &Bits,
+    shown: &Shown,
 ) -> Result<bool, AllocError>
-    ensures { IfOk result (λ b. IsTrue b → IsCodedBy (bits_at context.now) path.now view.now field.now library.now up.now down.now) }
+    ensures { IfOk result (λ b. IsTrue b → IsCodedBy (bits_at frame.now.context.now) frame.now.path.now view.now field.now library.now (out-Shown shown.now).uncompressed (out-Shown shown.now).compressed) }
 {
+    let (up, down) = (&shown.uncompressed, &shown.compressed);
     match library {
         Library::UncompressedValue { length, value } => {
             Ok(down.is_empty() && is_spelled(view, length, value, up))
@@ -45,10 +46,8 @@ pub(crate) fn is_coded(
             Ok(up.is_empty() && is_spelled(view, length, value, down))
         }
         Library::Irregular { length } => Ok(is_carried(view, length, up, down)),
-        Library::Static => is_kept(alloc, context, path, field, up, down),
-        Library::Lsb { bits, offset } => {
-            is_near(alloc, context, path, view, field, bits, offset, up, down)
-        }
+        Library::Static => is_kept(alloc, frame, field, up, down),
+        Library::Lsb { bits, offset } => { is_near(alloc, frame, view, field, bits, offset, shown) }
         Library::Crc(crc) => is_summed(alloc, view, crc.get(), up, down),
     }
 }
@@ -79,18 +78,17 @@ fn is_carried(view: &View<'_>, length: &Expr, up: &Bits, down: &Bits) -> bool
 #[inline(never)]
 fn is_kept(
     alloc: Global,
-    context: &Context,
-    path: &str,
+    frame: &PageFrame<'_>,
     field: &Field,
     up: &Bits,
     down: &Bits,
 ) -> Result<bool, AllocError>
-    ensures { IfOk result (λ b. IsTrue b → Lib lib.static (reference_of field.now.declared.part (bits_at context.now) (below path.now field.now.declared.name) field.now.initial) up.now down.now) }
+    ensures { IfOk result (λ b. IsTrue b → Lib lib.static (reference_of field.now.declared.part (bits_at frame.now.context.now) (below frame.now.path.now field.now.declared.name) field.now.initial) up.now down.now) }
 {
     if up.len() > 64 || !down.is_empty() {
         return Ok(false);
     }
-    let reference = reference_below(alloc, context, path, field)?;
+    let reference = reference_below(alloc, frame.context, frame.path, field)?;
     Ok(is_reference(reference, up))
 }
 
@@ -108,16 +106,14 @@ fn is_reference(reference: Option<&Bits>, bits: &Bits) -> bool
 #[inline(never)]
 fn is_near(
     alloc: Global,
-    context: &Context,
-    path: &str,
+    frame: &PageFrame<'_>,
     view: &View<'_>,
     field: &Field,
     bits: &Expr,
     offset: &Expr,
-    up: &Bits,
-    down: &Bits,
+    shown: &Shown,
 ) -> Result<bool, AllocError>
-    ensures { IfOk result (λ b. IsTrue b → IsCodedBy (bits_at context.now) path.now view.now field.now (library.Lsb bits.now offset.now) up.now down.now) }
+    ensures { IfOk result (λ b. IsTrue b → IsCodedBy (bits_at frame.now.context.now) frame.now.path.now view.now field.now (library.Lsb bits.now offset.now) (out-Shown shown.now).uncompressed (out-Shown shown.now).compressed) }
 {
     let Some(bits) = value(bits, view) else {
         return Ok(false);
@@ -125,9 +121,15 @@ fn is_near(
     let Some(offset) = value(offset, view) else {
         return Ok(false);
     };
-    let reference = reference_below(alloc, context, path, field)?;
-    let low = lsb_down(alloc, wide(bits), wide(offset), reference, up)?;
-    Ok(is_found(&low, down))
+    let reference = reference_below(alloc, frame.context, frame.path, field)?;
+    let low = lsb_down(
+        alloc,
+        wide(bits),
+        wide(offset),
+        reference,
+        &shown.uncompressed,
+    )?;
+    Ok(is_found(&low, &shown.compressed))
 }
 
 /// Whether `crc` with these arguments makes the packed side of the other one.

@@ -67,7 +67,7 @@ agrees_is k c h coded packed_goes header_goes packed_has header_has = record {
   where
     turned : (m : lib.Method) → MethodAt k c.index c.field.now m → m ≡ method_of c.method c.covered.now
     turned m has =
-        method_same (setting_of k.look.spot) k.look.format.now k.look.sizes.now k.seen.now c.index c.field.now m (method_of c.method c.covered.now) has (has_method k c h coded)
+        method_same (setting_of k.look.question) k.look.format.now k.look.sizes.now k.seen.now c.index c.field.now m (method_of c.method c.covered.now) has (has_method k c h coded)
 
     referred : (side : Side) (m : lib.Method) (own : List Bool) (o : Option (List Bool)) → IsOnly (Related m (reference_of k c.field.now) side own) o → IsOnly (Related m (option_copied c.reference) side own) o
     referred side m own o only = subst (λ z. IsOnly (Related m z side own) o) (sym coded.reference_is) only
@@ -98,7 +98,7 @@ agrees_unvalued k h i d l is none = agrees_none k i d (λ m has.
     let same : has.library ≡ l = let e = sym has.library_is ∙ is in cc in
     let no = no_method (bounding_of k.ranges.now) l has.covered none in
     let yes : method_in (bounding_of k.ranges.now) has.covered l ≡ Some m =
-    subst (λ z. method_in (bounding_of z) has.covered l ≡ Some m) (sym h.ranges_are) (subst (λ z. method_in (ranges_in (setting_of k.look.spot) k.look.sizes.now k.seen.now) has.covered z ≡ Some m) same has.method_is) in
+    subst (λ z. method_in (bounding_of z) has.covered l ≡ Some m) (sym h.ranges_are) (subst (λ z. method_in (ranges_in (setting_of k.look.question) k.look.sizes.now k.seen.now) has.covered z ≡ Some m) same has.method_is) in
     let wrong = sym no ∙ yes in
     absurd (cc))
 
@@ -136,20 +136,20 @@ has_due k c side own due is only other own_is none =
 
 -- ---- the length of a field
 
-pub uncut_far : (k : Sighted) (i : ℕ) → length k.look.spot.bits.now < 2147483648 → IsFar (begin_of (length_in k.look.lengths.now) i k.look.order.now) → IsUncut k i
+pub uncut_far : (k : Sighted) (i : ℕ) → length k.look.question.bits.now < 2147483648 → IsFar (begin_of (length_in k.look.lengths.now) i k.look.order.now) → IsUncut k i
 uncut_far k i few far offset due within begins is less = let more : 2147483648 ≤ offset = subst (λ z. IsFar z) begins far in omega (arith, few, within, more)
 
 pub uncut_unknown : (k : Sighted) (i : ℕ) → length_in k.look.lengths.now i ≡ None → IsUncut k i
 uncut_unknown k i none offset due within begins is less = let wrong = sym none ∙ is in absurd (cc)
 
-pub uncut_beyond : (k : Sighted) (i other : ℕ) → BeginsAt k.look.order.now (length_in k.look.lengths.now) i other → length k.look.spot.bits.now < other → IsUncut k i
+pub uncut_beyond : (k : Sighted) (i other : ℕ) → BeginsAt k.look.order.now (length_in k.look.lengths.now) i other → length k.look.question.bits.now < other → IsUncut k i
 uncut_beyond k i other there beyond offset due within begins is less = let same : offset ≡ other = one_value _ offset other begins there in omega (arith, same, beyond, within)
 
-pub uncut_enough : (k : Sighted) (i other many : ℕ) → BeginsAt k.look.order.now (length_in k.look.lengths.now) i other → length_in k.look.lengths.now i ≡ Some many → many ≤ length (drop other k.look.spot.bits.now) → IsUncut k i
+pub uncut_enough : (k : Sighted) (i other many : ℕ) → BeginsAt k.look.order.now (length_in k.look.lengths.now) i other → length_in k.look.lengths.now i ≡ Some many → many ≤ length (drop other k.look.question.bits.now) → IsUncut k i
 uncut_enough k i other many there many_is enough offset due within begins is less =
     let same : offset ≡ other = one_value _ offset other begins there in
     let as_many : due ≡ many = one_value _ due many is many_is in
-    let fewer : length (drop other k.look.spot.bits.now) < due = subst (λ z. length (drop z k.look.spot.bits.now) < due) same less in
+    let fewer : length (drop other k.look.question.bits.now) < due = subst (λ z. length (drop z k.look.question.bits.now) < due) same less in
     omega (arith, as_many, enough, fewer)
 
 -- ---- fields
@@ -175,7 +175,7 @@ no_length k h i none = by (length_in k.look.lengths.now i) refl
     by : (o : Option ℕ) → length_in k.look.lengths.now i ≡ o → length_in k.look.lengths.now i ≡ None
     by None is = is
     by (Some m) is =
-        let t = noted (setting_of k.look.spot) k.look.base.now k.look.sizes.now 0 k.look.format.now.fields i m (ap (λ z. length_in z i) (sym h.look.lengths_are) ∙ is) in
+        let t = noted (setting_of k.look.question) k.look.base.now k.look.sizes.now 0 k.look.format.now.fields i m (ap (λ z. length_in z i) (sym h.look.lengths_are) ∙ is) in
         let wrong = sym none ∙ t.1 in
         absurd (cc)
 
@@ -246,7 +246,7 @@ all_valued r cs n past each j = by (slice_get cs j) refl
 
 module _ (k : Sighted) (h : IsSighted k) (clear : AreClear k) (none : (j : ℕ) → IsUntrue k.look.format.now.constraints (bounding_of k.ranges.now) j → ⊥) (valued : (j : ℕ) → undefined_at (bounding_of k.ranges.now) k.look.format.now.constraints j ≡ None) where
   abbrev s : Setting
-  s = setting_of k.look.spot
+  s = setting_of k.look.question
 
   abbrev n : ℕ
   n = k.number
@@ -287,7 +287,7 @@ module _ (k : Sighted) (h : IsSighted k) (clear : AreClear k) (none : (j : ℕ) 
       (λ is. let wrong = sym (valued j) ∙ (ap (λ z. undefined_at z k.look.format.now.constraints j) ranges ∙ is) in absurd (cc)) format sizes seen v is
 
   -- no reason by what is seen of the format stands against it
-  pub sees_none : SeesNone (setting_of k.look.spot) k.number
+  pub sees_none : SeesNone (setting_of k.look.question) k.number
   sees_none r by_sight stands = go r stands by_sight
 
 -- nothing is seen of a format that isn't there, or has no bounds

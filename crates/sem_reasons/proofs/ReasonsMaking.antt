@@ -50,11 +50,11 @@ use Rattle.sem_reasons.proofs.MethodsValued.{method_is}
 -- ---- what is told
 
 -- the lengths that a look goes by are those of its format
-pub lengths_same : (k : Look) (n : ℕ) → IsLook k n → length_in k.lengths.now ≡ length_of (setting_of k.spot) k.format.now k.sizes.now
-lengths_same k n look = ap length_in (look.lengths_are ∙ ap (λ z. lengths_from (setting_of k.spot) z k.sizes.now 0 k.format.now.fields) look.base_is)
+pub lengths_same : (k : Look) (n : ℕ) → IsLook k n → length_in k.lengths.now ≡ length_of (setting_of k.question) k.format.now k.sizes.now
+lengths_same k n look = ap length_in (look.lengths_are ∙ ap (λ z. lengths_from (setting_of k.question) z k.sizes.now 0 k.format.now.fields) look.base_is)
 
-pub begins_same : (k : Look) (n : ℕ) → IsLook k n → (i offset : ℕ) → BeginsAt k.order.now (length_in k.lengths.now) i offset → BeginsAt (order_of k.format.now k.spot.side) (length_of (setting_of k.spot) k.format.now k.sizes.now) i offset
-begins_same k n look i offset b = subst (λ z. BeginsAt (order_of k.format.now k.spot.side) z i offset) (lengths_same k n look) (subst (λ z. BeginsAt z (length_in k.lengths.now) i offset) look.order_is b)
+pub begins_same : (k : Look) (n : ℕ) → IsLook k n → (i offset : ℕ) → BeginsAt k.order.now (length_in k.lengths.now) i offset → BeginsAt (order_of k.format.now k.question.side) (length_of (setting_of k.question) k.format.now k.sizes.now) i offset
+begins_same k n look i offset b = subst (λ z. BeginsAt (order_of k.format.now k.question.side) z i offset) (lengths_same k n look) (subst (λ z. BeginsAt z (length_in k.lengths.now) i offset) look.order_is b)
 
 pub weaker : {X : Type 0} (o : Option X) (P Q : X → Type 0) → ((x : X) → P x → Q x) → IfSome o P → IfSome o Q
 weaker None P Q f h = tt
@@ -95,7 +95,7 @@ one_seen k i old new sight is seen so = record {
 pub none_seen : (k : Look) → SoFar k [] 0
 none_seen k = record { count = refl; each = λ j x at. absurd (cc) }
 
-pub all_seen : (k : Look) (n : ℕ) (sights : List ObservedSides) → n ≡ length k.format.now.fields → SoFar k sights n → AreInFull (setting_of k.spot) k.format.now k.sizes.now sights
+pub all_seen : (k : Look) (n : ℕ) (sights : List ObservedSides) → n ≡ length k.format.now.fields → SoFar k sights n → AreInFull (setting_of k.question) k.format.now k.sizes.now sights
 all_seen k n sights is so = record { count = so.count ∙ is; each = λ i d sight at here. so.each i sight here d at }
 
 -- the two sides of a field
@@ -111,22 +111,22 @@ pub past_seen : (k : Look) (i : ℕ) (sight : ObservedSides) → slice_get k.for
 past_seen k i sight none d at = let wrong = sym none ∙ at in absurd (cc)
 
 -- the bits at a place, by the lengths that a look goes by
-pub placed_same : (k : Look) (n : ℕ) → IsLook k n → (i : ℕ) → held k.order.now (length_in k.lengths.now) k.spot.bits.now i ≡ held (order_of k.format.now k.spot.side) (length_of (setting_of k.spot) k.format.now k.sizes.now) k.spot.bits.now i
-placed_same k n look i = λ j. held (look.order_is j) (lengths_same k n look j) k.spot.bits.now i
+pub placed_same : (k : Look) (n : ℕ) → IsLook k n → (i : ℕ) → held k.order.now (length_in k.lengths.now) k.question.bits.now i ≡ held (order_of k.format.now k.question.side) (length_of (setting_of k.question) k.format.now k.sizes.now) k.question.bits.now i
+placed_same k n look i = λ j. held (look.order_is j) (lengths_same k n look j) k.question.bits.now i
 
 -- ---- what stands against a format
 
-view_is : (k : Sighted) → IsSighted k → IsFullView (setting_of k.look.spot) k.number k.look.format.now k.look.sizes.now k.seen.now
+view_is : (k : Sighted) → IsSighted k → IsFullView (setting_of k.look.question) k.number k.look.format.now k.look.sizes.now k.seen.now
 view_is k h = h.seen
 
-pub has_method : (k : Sighted) (c : Coded) → IsSighted k → IsCoded k c → HasMethod (setting_of k.look.spot) k.look.format.now k.look.sizes.now k.seen.now c.index c.field.now (method_of c.method c.covered.now)
+pub has_method : (k : Sighted) (c : Coded) → IsSighted k → IsCoded k c → HasMethod (setting_of k.look.question) k.look.format.now k.look.sizes.now k.seen.now c.index c.field.now (method_of c.method c.covered.now)
 has_method k c h coded = record {
   field_is = coded.at;
   library = c.library.now;
   library_is = coded.encoding_is;
   covered = c.covered.now;
   covers = coded.covers;
-  method_is = method_is (ranges_in (setting_of k.look.spot) k.look.sizes.now k.seen.now) c.library.now c.method c.covered.now (ap (λ z. with_values (bounding_of z) c.library.now) (sym h.ranges_are) ∙ coded.method_is);
+  method_is = method_is (ranges_in (setting_of k.look.question) k.look.sizes.now k.seen.now) c.library.now c.method c.covered.now (ap (λ z. with_values (bounding_of z) c.library.now) (sym h.ranges_are) ∙ coded.method_is);
 }
 
 pub differs_is : (k : Sighted) (c : Coded) → IsSighted k → IsCoded k c → (side : Side) (own found due : List Bool) → seen_at k.seen.now.fields c.index side ≡ Some own → seen_at k.seen.now.fields c.index (opposite side) ≡ Some found
@@ -142,7 +142,7 @@ no_side_is k c h coded side found found_is only =
     (subst (λ z. IsOnly (Related (method_of c.method c.covered.now) z side found) None) coded.reference_is only)
 
 pub no_reference_is : (k : Sighted) → IsSighted k → (i : ℕ) (d : Field) → slice_get k.look.format.now.fields i ≡ Some d → wants_reference d.encoding ≡ true → reference_of k d ≡ None
-    → (path : String Global) → string_bytes path ≡ below k.look.spot.path.now d.declared.name → StandsIn k (reason.NoReference i path)
+    → (path : String Global) → string_bytes path ≡ below k.look.question.path.now d.declared.name → StandsIn k (reason.NoReference i path)
 no_reference_is k h i d at wants none path is = no_reference k.look.format.now d h.look.format_is at wants none is
 
 pub dead_is : (s : Setting) (n : ℕ) (o : Obstacle) → Hinders s.profile s.method n o → Stands s n (reason.Dead o)
@@ -156,7 +156,7 @@ pub long_is : (s : Setting) (n : ℕ) (sizes : FormatSizes) → sizes_at s.profi
 long_is s n sizes at whole many most m l more =
     subst (λ z. Stands s n (reason.Long z most)) (sym m) (subst (λ z. Stands s n (reason.Long (length s.bits) z)) (sym l) (long sizes at whole (omega (arith, m, l, more))))
 
-pub cut_is : (k : Sighted) → IsSighted k → (i offset due left : ℕ) → offset ≤ length k.look.spot.bits.now → BeginsAt k.look.order.now (length_in k.look.lengths.now) i offset → length_in k.look.lengths.now i ≡ Some due → left ≡ length (drop offset k.look.spot.bits.now) → left < due → StandsIn k (reason.Cut i left due)
+pub cut_is : (k : Sighted) → IsSighted k → (i offset due left : ℕ) → offset ≤ length k.look.question.bits.now → BeginsAt k.look.order.now (length_in k.look.lengths.now) i offset → length_in k.look.lengths.now i ≡ Some due → left ≡ length (drop offset k.look.question.bits.now) → left < due → StandsIn k (reason.Cut i left due)
 cut_is k h i offset due left within begins is left_is few =
     subst (λ z. StandsIn k (reason.Cut i z due)) (sym left_is)
     (cut offset k.look.format.now k.look.sizes.now h.look.format_is h.look.sizes_are within (begins_same k.look k.number h.look i offset begins) (ap (λ z. z i) (sym (lengths_same k.look k.number h.look)) ∙ is) (subst (λ z. z < due) left_is few))
@@ -181,7 +181,7 @@ pub alone_is : (s : Setting) (depth n : ℕ) (r : Reason) (line : Line) (lines :
 alone_is s depth n r line lines stands is are = subst (λ z. Tells s depth n z) (sym (are ∙ (λ j. is j ∷ []))) (by_reason r stands)
 
 pub calls_is : (k : Sighted) → IsSighted k → (i : ℕ) (d : Field) → slice_get k.look.format.now.fields i ≡ Some d → (m : ℕ) (es : List Expr) → d.encoding ≡ encoding.Call m es → (parameters : List Interval) → all_ranged (bounding_of k.ranges.now) es ≡ Some parameters
-    → (offset : ℕ) → BeginsAt k.look.order.now (length_in k.look.lengths.now) i offset → (inner : Setting) → inner ≡ inside (setting_of k.look.spot) d m parameters offset → Calls (setting_of k.look.spot) k.number i inner
+    → (offset : ℕ) → BeginsAt k.look.order.now (length_in k.look.lengths.now) i offset → (inner : Setting) → inner ≡ inside (setting_of k.look.question) d m parameters offset → Calls (setting_of k.look.question) k.number i inner
 calls_is k h i d at m es is parameters ranges offset begins inner inner_is = record {
   format = k.look.format.now;
   sizes = k.look.sizes.now;

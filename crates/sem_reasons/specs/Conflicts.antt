@@ -24,14 +24,14 @@ use Rattle.sem_reasons.specs.declared.reason.Reason.TheVariants.{Dead, Short, Lo
 -- all that is seen of the look's format, and the ranges by that
 pub record IsSighted (k : Sighted) : Type 0 where
   pub look : IsLook k.look k.number
-  pub seen : IsFullView (setting_of k.look.spot) k.number k.look.format.now k.look.sizes.now k.seen.now
-  pub ranges_are : k.ranges.now ≡ ranges_seen k.seen.now (base_ranges (setting_of k.look.spot) k.look.sizes.now)
+  pub seen : IsFullView (setting_of k.look.question) k.number k.look.format.now k.look.sizes.now k.seen.now
+  pub ranges_are : k.ranges.now ≡ ranges_seen k.seen.now (base_ranges (setting_of k.look.question) k.look.sizes.now)
 
 abbrev pub StandsIn : Sighted → Reason → Type 0
-StandsIn k r = Stands (setting_of k.look.spot) k.number r
+StandsIn k r = Stands (setting_of k.look.question) k.number r
 
 abbrev pub reference_of : Sighted → Field → Option (List Bool)
-reference_of k d = reference_in (setting_of k.look.spot) d
+reference_of k d = reference_in (setting_of k.look.question) d
 
 -- a field of the format with its library method
 pub record IsCoded (k : Sighted) (c : Coded) : Type 0 where
@@ -53,7 +53,7 @@ abbrev pub HasOther : Sighted → Coded → Side → Type 0
 HasOther k c side = (own : List Bool) → seen_at k.seen.now.fields c.index side ≡ Some own → IsOnly (Related (method_of c.method c.covered.now) (option_copied c.reference) side own) None → ⊥
 
 abbrev pub MethodAt : Sighted → ℕ → Field → lib.Method → Type 0
-MethodAt k i d m = HasMethod (setting_of k.look.spot) k.look.format.now k.look.sizes.now k.seen.now i d m
+MethodAt k i d m = HasMethod (setting_of k.look.question) k.look.format.now k.look.sizes.now k.seen.now i d m
 
 -- so it is of each side of the field i
 pub record Agrees (k : Sighted) (i : ℕ) (d : Field) : Type 0 where
@@ -63,7 +63,7 @@ pub record Agrees (k : Sighted) (i : ℕ) (d : Field) : Type 0 where
 
 -- where the field i begins within the bits, as many are left as are due
 abbrev pub IsUncut : Sighted → ℕ → Type 0
-IsUncut k i = (offset due : ℕ) → offset ≤ length k.look.spot.bits.now → BeginsAt k.look.order.now (length_in k.look.lengths.now) i offset → length_in k.look.lengths.now i ≡ Some due → length (drop offset k.look.spot.bits.now) < due → ⊥
+IsUncut k i = (offset due : ℕ) → offset ≤ length k.look.question.bits.now → BeginsAt k.look.order.now (length_in k.look.lengths.now) i offset → length_in k.look.lengths.now i ≡ Some due → length (drop offset k.look.question.bits.now) < due → ⊥
 
 -- each argument of the field has a value
 abbrev pub HasValues : Sighted → Field → Type 0

@@ -12,24 +12,24 @@ use Rattle.sem_reasons.specs.Told.{base_ranges, lengths_from, reference_in, seen
 use Rattle.sem_reasons.specs.declared.observation.Look.{Look}
 use Rattle.sem_reasons.specs.declared.sight.ObservedSides.{ObservedSides}
 
--- a format of the spot's method with its bounds, the order of the fields on the spot's side, and the ranges by the bounds
+-- a format of the question's method with its bounds, the order of the fields on the question's side, and the ranges by the bounds
 pub record IsLook (k : Look) (n : ℕ) : Type 0 where
-  pub format_is : format_at k.spot.profile.now.methods k.spot.method n ≡ Some k.format.now
-  pub sizes_are : sizes_at k.spot.profile.now.sizes k.spot.method n ≡ Some k.sizes.now
-  pub order_is : k.order.now ≡ order_of k.format.now k.spot.side
-  pub lengths_are : k.lengths.now ≡ lengths_from (setting_of k.spot) k.base.now k.sizes.now 0 k.format.now.fields
-  pub base_is : k.base.now ≡ base_ranges (setting_of k.spot) k.sizes.now
+  pub format_is : format_at k.question.profile.now.methods k.question.method n ≡ Some k.format.now
+  pub sizes_are : sizes_at k.question.profile.now.sizes k.question.method n ≡ Some k.sizes.now
+  pub order_is : k.order.now ≡ order_of k.format.now k.question.side
+  pub lengths_are : k.lengths.now ≡ lengths_from (setting_of k.question) k.base.now k.sizes.now 0 k.format.now.fields
+  pub base_is : k.base.now ≡ base_ranges (setting_of k.question) k.sizes.now
 
 -- what is told first of that side of the field i
 abbrev pub FirstOf : Look → ℕ → Field → Side → Option (List Bool)
-FirstOf k i d side = first_told (setting_of k.spot) k.format.now k.sizes.now i d side
+FirstOf k i d side = first_told (setting_of k.question) k.format.now k.sizes.now i d side
 
 -- what its method relates to these bits
 abbrev pub AcrossOf : Look → Field → Side → List Bool → Option (List Bool) → Type 0
-AcrossOf k d side own o = IsAcross (plain_method (bounding_of (base_ranges (setting_of k.spot) k.sizes.now)) d.encoding) (reference_in (setting_of k.spot) d) side own o
+AcrossOf k d side own o = IsAcross (plain_method (bounding_of (base_ranges (setting_of k.question) k.sizes.now)) d.encoding) (reference_in (setting_of k.question) d) side own o
 
 abbrev pub SeenOn : Look → ℕ → Field → Side → Option (List Bool) → Type 0
-SeenOn k i d side o = IsSeenOn (setting_of k.spot) k.format.now k.sizes.now i d side o
+SeenOn k i d side o = IsSeenOn (setting_of k.question) k.format.now k.sizes.now i d side o
 
 abbrev pub SeenOf : Look → ℕ → ObservedSides → Type 0
 SeenOf k i sight = (d : Field) → slice_get k.format.now.fields i ≡ Some d → (side : Side) → SeenOn k i d side (seen_side sight side)

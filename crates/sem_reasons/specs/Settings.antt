@@ -12,7 +12,7 @@ use Rattle.sem_filling.specs.Bounded.{ArgumentsLie}
 use Rattle.sem_filling.specs.Fits.{Fits}
 use Rattle.sem_filling.specs.Ready.{ArgumentsLieAt}
 use Rattle.sem_profile.specs.Resolved.{Resolved}
-use Rattle.sem_reasons.specs.declared.spot.Spot.{Spot}
+use Rattle.sem_reasons.specs.declared.question.Question.{Question}
 
 -- where fillings of a method stand, what is known of the arguments, and which bits the one side of them begins
 pub record Setting : Type 0 where
@@ -29,7 +29,7 @@ pub record Setting : Type 0 where
   -- the first values of the asked fields, in their order, as far as they are known
   pub asked : List AskedValue
 
-abbrev pub setting_of : Spot → Setting
+abbrev pub setting_of : Question → Setting
 setting_of s = record {
   profile = s.profile.now;
   context = s.context.now;

@@ -42,8 +42,8 @@ pub(crate) fn conflict(
     requires at { slice_get sighted.now.look.format.now.fields index ≡ Some field.now }
     ensures { IfOk result (λ o. MatchOption o (spec.Agrees sighted.now index field.now) (spec.StandsIn sighted.now)) }
 {
-    let spot = &sighted.look.spot;
-    let reference = reference_below(alloc, spot.context, spot.path, field)?;
+    let question = &sighted.look.question;
+    let reference = reference_below(alloc, question.context, question.path, field)?;
     if reference.is_none() && wants_reference(field.encoding.get()) {
         let reason = no_reference(alloc, sighted, index, field)?;
         return Ok(Some(reason));
@@ -233,7 +233,11 @@ fn no_reference(
     requires none { spec.reference_of sighted.now field.now ≡ None }
     ensures { IfOk result (spec.StandsIn sighted.now) }
 {
-    let path = below(alloc, sighted.look.spot.path, field.declared.name.as_str())?;
+    let path = below(
+        alloc,
+        sighted.look.question.path,
+        field.declared.name.as_str(),
+    )?;
     Ok(Reason::NoReference { field: index, path })
 }
 

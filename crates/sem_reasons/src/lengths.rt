@@ -8,7 +8,7 @@ ghost use Rattle.sem_reasons.specs.Told as spec;
 
 use crate::across::pinned;
 use crate::places::only_length;
-use crate::spot::Spot;
+use crate::question::Question;
 use sem_bits::Bits;
 use sem_expr::{Expr, Ranges, Side};
 use sem_filling::whole_sides::reference_below;
@@ -16,19 +16,19 @@ use sem_profile::{Encoding, Field, FormatSizes, Library};
 use sqlite_items::Items;
 use std::alloc::{AllocError, Global};
 
-/// The length of each field on the spot's side, in bits, where it is known. The error is out of memory.
+/// The length of each field on the question's side, in bits, where it is known. The error is out of memory.
 pub(crate) fn lengths(
     alloc: Global,
-    spot: &Spot<'_>,
+    question: &Question<'_>,
     fields: &[Field],
     sizes: &FormatSizes,
     base: &Ranges,
 ) -> Result<Items<Option<u128>>, AllocError>
-    ensures { IfOk result (λ found. found ≡ spec.lengths_from (setting_of spot.now) base.now sizes.now 0 fields.now) }
+    ensures { IfOk result (λ found. found ≡ spec.lengths_from (setting_of question.now) base.now sizes.now 0 fields.now) }
 {
     let mut found = Items::new(alloc);
     for (index, field) in fields.iter().enumerate() {
-        let length = length_at(alloc, spot, sizes, base, index, field)?;
+        let length = length_at(alloc, question, sizes, base, index, field)?;
         found.push(length)?;
     }
     Ok(found)
@@ -37,20 +37,20 @@ pub(crate) fn lengths(
 /// The length of the field: by its bounds, else by its method.
 fn length_at(
     alloc: Global,
-    spot: &Spot<'_>,
+    question: &Question<'_>,
     sizes: &FormatSizes,
     base: &Ranges,
     index: usize,
     field: &Field,
 ) -> Result<Option<u128>, AllocError>
-    ensures { IfOk result (λ o. o ≡ spec.length_at (setting_of spot.now) base.now sizes.now index field.now) }
+    ensures { IfOk result (λ o. o ≡ spec.length_at (setting_of question.now) base.now sizes.now index field.now) }
 {
-    let only = only_length(sizes.fields.as_slice(), spot.side, index);
+    let only = only_length(sizes.fields.as_slice(), question.side, index);
     if only.is_some() {
         return Ok(only);
     }
-    let reference = reference_below(alloc, spot.context, spot.path, field)?;
-    Ok(told_length(field.encoding.get(), base, reference, spot.side))
+    let reference = reference_below(alloc, question.context, question.path, field)?;
+    Ok(told_length(field.encoding.get(), base, reference, question.side))
 }
 
 fn told_length(

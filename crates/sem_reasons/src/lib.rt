@@ -3,8 +3,8 @@
 
 pub use figures::Figure;
 pub use line::Line;
+pub use question::Question;
 pub use reason::{Reason, Within};
-pub use spot::Spot;
 pub use verdicts::{reasons, reasons_against};
 
 mod across;
@@ -16,9 +16,9 @@ pub mod line;
 mod numbers;
 mod observation;
 mod places;
+pub mod question;
 pub mod reason;
 mod references;
 mod sight;
-pub mod spot;
 mod subjects;
 pub mod verdicts;

@@ -10,8 +10,8 @@ ghost use Rattle.sem_reasons.specs.Told as told;
 use crate::across::{other_side, with_values};
 use crate::figures::is_same_side;
 use crate::places::held;
+use crate::question::Question;
 use crate::sight::ObservedSides;
-use crate::spot::Spot;
 use sem_bits::Bits;
 use sem_expr::{Ranges, Side};
 use sem_filling::whole_sides::reference_below;
@@ -19,11 +19,11 @@ use sem_profile::{Encoding, Field, Format, FormatSizes, Library};
 use sqlite_items::{Items, at};
 use std::alloc::{AllocError, Global};
 
-/// What a look at a format of the spot's method goes by: its bounds, the fields on the spot's side in order, their lengths on that side where they are known, and the
+/// What a look at a format of the question's method goes by: its bounds, the fields on the question's side in order, their lengths on that side where they are known, and the
 /// ranges of its numbers by the bounds.
 #[derive(Clone, Copy)]
 pub(crate) struct Look<'a> {
-    pub(crate) spot: Spot<'a>,
+    pub(crate) question: Question<'a>,
     pub(crate) format: &'a Format,
     pub(crate) sizes: &'a FormatSizes,
     pub(crate) order: &'a [usize],
@@ -38,7 +38,7 @@ pub(crate) fn sights(
     format: usize,
 ) -> Result<Items<ObservedSides>, AllocError>
     requires { spec.IsLook look.now format }
-    ensures { IfOk result (full.AreInFull (setting_of look.now.spot) look.now.format.now look.now.sizes.now) }
+    ensures { IfOk result (full.AreInFull (setting_of look.now.question) look.now.format.now look.now.sizes.now) }
 {
     let mut found = Items::new(alloc);
     for index in 0..look.format.fields.len() {
@@ -215,7 +215,7 @@ fn asked_side(
     side: Side,
 ) -> Result<Option<Bits>, AllocError>
     requires at { slice_get look.now.format.now.fields index ≡ Some field.now }
-    ensures { IfOk result (λ o. o ≡ full.asked_side (setting_of look.now.spot) look.now.format.now index field.now side) }
+    ensures { IfOk result (λ o. o ≡ full.asked_side (setting_of look.now.question) look.now.format.now index field.now side) }
 {
     match side {
         Side::Uncompressed => asked_bits(alloc, look, index, field),
@@ -231,7 +231,7 @@ fn asked_bits(
     field: &Field,
 ) -> Result<Option<Bits>, AllocError>
     requires at { slice_get look.now.format.now.fields index ≡ Some field.now }
-    ensures { IfOk result (λ o. o ≡ full.asked_side (setting_of look.now.spot) look.now.format.now index field.now Side.Uncompressed) }
+    ensures { IfOk result (λ o. o ≡ full.asked_side (setting_of look.now.question) look.now.format.now index field.now Side.Uncompressed) }
 {
     if field.declared.asked {
         asked_value(alloc, look, index)
@@ -243,10 +243,10 @@ fn asked_bits(
 /// The value that is asked for of the asked field of that index.
 fn asked_value(alloc: Global, look: &Look<'_>, index: usize) -> Result<Option<Bits>, AllocError>
     requires within { index ≤ length look.now.format.now.fields }
-    ensures { IfOk result (λ o. o ≡ full.asked_value (setting_of look.now.spot) look.now.format.now index) }
+    ensures { IfOk result (λ o. o ≡ full.asked_value (setting_of look.now.question) look.now.format.now index) }
 {
     let before = asked_before(look.format.fields.as_slice(), index);
-    let Some(value) = at(look.spot.asked, before) else {
+    let Some(value) = at(look.question.asked, before) else {
         return Ok(None);
     };
     let bits = value.bits.copy(alloc)?;
@@ -283,10 +283,10 @@ fn placed_side(
     side: Side,
 ) -> Result<Option<Bits>, AllocError>
     requires { spec.IsLook look.now format }
-    ensures { IfOk result (λ o. o ≡ full.placed_side (setting_of look.now.spot) look.now.format.now look.now.sizes.now index side) }
+    ensures { IfOk result (λ o. o ≡ full.placed_side (setting_of look.now.question) look.now.format.now look.now.sizes.now index side) }
 {
-    if is_same_side(side, look.spot.side) {
-        held(alloc, look.order, look.lengths, look.spot.bits, index)
+    if is_same_side(side, look.question.side) {
+        held(alloc, look.order, look.lengths, look.question.bits, index)
     } else {
         Ok(None)
     }
@@ -323,7 +323,7 @@ fn across_library(
     own: &Bits,
 ) -> Result<Option<Bits>, AllocError>
     requires { spec.IsLook look.now format }
-    ensures { IfOk result (full.IsAcross (full.plain_library (bounding_of (told.base_ranges (setting_of look.now.spot) look.now.sizes.now)) library.now) (told.reference_in (setting_of look.now.spot) field.now) side own.now) }
+    ensures { IfOk result (full.IsAcross (full.plain_library (bounding_of (told.base_ranges (setting_of look.now.question) look.now.sizes.now)) library.now) (told.reference_in (setting_of look.now.question) field.now) side own.now) }
 {
     if is_crc(library) {
         return Ok(None);
@@ -331,7 +331,7 @@ fn across_library(
     let Some(method) = with_values(library, look.base) else {
         return Ok(None);
     };
-    let reference = reference_below(alloc, look.spot.context, look.spot.path, field)?;
+    let reference = reference_below(alloc, look.question.context, look.question.path, field)?;
     let covered = Bits::new(alloc);
     other_side(alloc, method, &covered, reference, side, own)
 }

@@ -21,10 +21,10 @@ use crate::line::Line;
 use crate::numbers::ranges_seen;
 use crate::observation::{Look, sights};
 use crate::places::{begin_of, length_in, order_of};
+use crate::question::Question;
 use crate::reason::{Reason, Within};
 use crate::references::unreferenced;
 use crate::sight::{Observed, ObservedSides};
-use crate::spot::Spot;
 use crate::subjects::joined;
 use sem_bits::Bits;
 use sem_bounds::ranges::format_ranges;
@@ -41,15 +41,15 @@ use text_source::Span;
 /// How many fields and conditions of called methods are looked at, in equal shares for the formats.
 const EFFORT_LIMIT: usize = 1 << 16;
 
-/// For each format of the spot's method, in the order of the text, what stands against it: a line, or several where that is in the methods that a field calls, or
+/// For each format of the question's method, in the order of the text, what stands against it: a line, or several where that is in the methods that a field calls, or
 /// that nothing is found. What a look into called methods has not found within the format's share of the effort isn't told. The error is out of memory.
-pub fn reasons(alloc: Global, spot: &Spot<'_>) -> Result<Items<Line>, AllocError>
-    ensures { IfOk result (spec.Verdicts (setting_of spot.now) 0) }
+pub fn reasons(alloc: Global, question: &Question<'_>) -> Result<Items<Line>, AllocError>
+    ensures { IfOk result (spec.Verdicts (setting_of question.now) 0) }
 {
     let mut lines = Items::new(alloc);
-    let share = share_of(spot);
-    for format in 0..formats_of(spot) {
-        add_verdict(alloc, spot, format, share, &mut lines)?;
+    let share = share_of(question);
+    for format in 0..formats_of(question) {
+        add_verdict(alloc, question, format, share, &mut lines)?;
     }
     Ok(lines)
 }
@@ -57,26 +57,26 @@ pub fn reasons(alloc: Global, spot: &Spot<'_>) -> Result<Items<Line>, AllocError
 /// The same of one format. Past the formats of the method it is that nothing is found.
 pub fn reasons_against(
     alloc: Global,
-    spot: &Spot<'_>,
+    question: &Question<'_>,
     format: usize,
 ) -> Result<Items<Line>, AllocError>
-    ensures { IfOk result (spec.IsVerdict (setting_of spot.now) format) }
+    ensures { IfOk result (spec.IsVerdict (setting_of question.now) format) }
 {
     let mut lines = Items::new(alloc);
-    add_verdict(alloc, spot, format, share_of(spot), &mut lines)?;
+    add_verdict(alloc, question, format, share_of(question), &mut lines)?;
     Ok(lines)
 }
 
 /// The share of the effort that each format of the method has.
-fn share_of(spot: &Spot<'_>) -> usize {
-    EFFORT_LIMIT / formats_of(spot).max(1)
+fn share_of(question: &Question<'_>) -> usize {
+    EFFORT_LIMIT / formats_of(question).max(1)
 }
 
 /// How many formats the method has.
-fn formats_of(spot: &Spot<'_>) -> usize
-    ensures { result ≡ spec.formats_of (setting_of spot.now) }
+fn formats_of(question: &Question<'_>) -> usize
+    ensures { result ≡ spec.formats_of (setting_of question.now) }
 {
-    match spot.profile.profile().methods().get(spot.method) {
+    match question.profile.profile().methods().get(question.method) {
         Some(method) => method.formats.len(),
         None => 0,
     }
@@ -85,70 +85,74 @@ fn formats_of(spot: &Spot<'_>) -> usize
 /// Adds what stands against a format.
 fn add_verdict(
     alloc: Global,
-    spot: &Spot<'_>,
+    question: &Question<'_>,
     format: usize,
     share: usize,
     lines: &mut Items<Line>,
 ) -> Result<(), AllocError>
-    ensures { OnOk result (listing.AddsVerdict (setting_of spot.now) format lines.old lines.new) }
+    ensures { OnOk result (listing.AddsVerdict (setting_of question.now) format lines.old lines.new) }
 {
-    match at_once(alloc, spot, format)? {
-        Some(reason) => lines.push(line(spot, 0, format, reason)),
-        None => add_look(alloc, spot, format, share, lines),
+    match at_once(alloc, question, format)? {
+        Some(reason) => lines.push(line(question, 0, format, reason)),
+        None => add_look(alloc, question, format, share, lines),
     }
 }
 
 /// Adds what a look at the fields of a format tells against it, where nothing does without one.
 fn add_look(
     alloc: Global,
-    spot: &Spot<'_>,
+    question: &Question<'_>,
     format: usize,
     share: usize,
     lines: &mut Items<Line>,
 ) -> Result<(), AllocError>
-    requires { spec.IsOpen (setting_of spot.now) format }
-    ensures { OnOk result (listing.AddsVerdict (setting_of spot.now) format lines.old lines.new) }
+    requires { spec.IsOpen (setting_of question.now) format }
+    ensures { OnOk result (listing.AddsVerdict (setting_of question.now) format lines.old lines.new) }
 {
     let mut effort = share;
-    match told(DEPTH_LIMIT, &mut effort, alloc, spot, 0, format)? {
+    match told(DEPTH_LIMIT, &mut effort, alloc, question, 0, format)? {
         Some(more) => lines.append(more),
-        None => add_rest(alloc, spot, format, lines),
+        None => add_rest(alloc, question, format, lines),
     }
 }
 
 /// Adds that a field lacks its reference, or that nothing stands against the format.
 fn add_rest(
     alloc: Global,
-    spot: &Spot<'_>,
+    question: &Question<'_>,
     format: usize,
     lines: &mut Items<Line>,
 ) -> Result<(), AllocError>
-    requires is_open { spec.IsOpen (setting_of spot.now) format }
-    requires none { SeesNone (setting_of spot.now) format }
-    ensures { OnOk result (listing.AddsVerdict (setting_of spot.now) format lines.old lines.new) }
+    requires is_open { spec.IsOpen (setting_of question.now) format }
+    requires none { SeesNone (setting_of question.now) format }
+    ensures { OnOk result (listing.AddsVerdict (setting_of question.now) format lines.old lines.new) }
 {
-    match rest_at(alloc, spot, format)? {
-        Some(reason) => lines.push(line(spot, 0, format, reason)),
-        None => lines.push(line(spot, 0, format, Reason::Nothing)),
+    match rest_at(alloc, question, format)? {
+        Some(reason) => lines.push(line(question, 0, format, reason)),
+        None => lines.push(line(question, 0, format, Reason::Nothing)),
     }
 }
 
 /// The first field that lacks its reference.
-fn rest_at(alloc: Global, spot: &Spot<'_>, format: usize) -> Result<Option<Reason>, AllocError>
-    ensures { IfOk result (λ o. MatchOption o (spec.HasReferences (setting_of spot.now) format) (spec.Stands (setting_of spot.now) format)) }
+fn rest_at(
+    alloc: Global,
+    question: &Question<'_>,
+    format: usize,
+) -> Result<Option<Reason>, AllocError>
+    ensures { IfOk result (λ o. MatchOption o (spec.HasReferences (setting_of question.now) format) (spec.Stands (setting_of question.now) format)) }
 {
-    match format_of(spot.profile, spot.method, format) {
-        Some(found) => unreferenced(alloc, spot, format, found),
+    match format_of(question.profile, question.method, format) {
+        Some(found) => unreferenced(alloc, question, format, found),
         None => Ok(None),
     }
 }
 
-fn line(spot: &Spot<'_>, depth: usize, format: usize, reason: Reason) -> Line
-    ensures { result ≡ spec.line_of (setting_of spot.now) depth format reason }
+fn line(question: &Question<'_>, depth: usize, format: usize, reason: Reason) -> Line
+    ensures { result ≡ spec.line_of (setting_of question.now) depth format reason }
 {
     Line {
         depth,
-        method: spot.method,
+        method: question.method,
         format,
         reason,
     }
@@ -160,27 +164,27 @@ fn told(
     left: usize,
     effort: &mut usize,
     alloc: Global,
-    spot: &Spot<'_>,
+    question: &Question<'_>,
     depth: usize,
     format: usize,
 ) -> Result<Option<Items<Line>>, AllocError>
-    ensures { IfOk result (λ o. MatchOption o (SeesNone (setting_of spot.now) format) (spec.Tells (setting_of spot.now) depth format)) }
+    ensures { IfOk result (λ o. MatchOption o (SeesNone (setting_of question.now) format) (spec.Tells (setting_of question.now) depth format)) }
 {
-    if let Some(reason) = at_once(alloc, spot, format)? {
-        return Ok(Some(alone(alloc, spot, depth, format, reason)?));
+    if let Some(reason) = at_once(alloc, question, format)? {
+        return Ok(Some(alone(alloc, question, depth, format, reason)?));
     }
-    let Some(found) = format_of(spot.profile, spot.method, format) else {
+    let Some(found) = format_of(question.profile, question.method, format) else {
         return Ok(None);
     };
-    let Some(sizes) = sizes_of(spot.profile, spot.method, format) else {
+    let Some(sizes) = sizes_of(question.profile, question.method, format) else {
         return Ok(None);
     };
     spend(effort, found);
-    let order = order_of(alloc, found, spot.side)?;
-    let base = format_ranges(alloc, sizes, spot.parameters)?;
-    let lengths = lengths(alloc, spot, found.fields.as_slice(), sizes, &base)?;
+    let order = order_of(alloc, found, question.side)?;
+    let base = format_ranges(alloc, sizes, question.parameters)?;
+    let lengths = lengths(alloc, question, found.fields.as_slice(), sizes, &base)?;
     let look = Look {
-        spot: *spot,
+        question: *question,
         format: found,
         sizes,
         order: order.as_slice(),
@@ -209,45 +213,49 @@ fn spend(effort: &mut usize, format: &Format) {
 /// One line of this reason.
 fn alone(
     alloc: Global,
-    spot: &Spot<'_>,
+    question: &Question<'_>,
     depth: usize,
     format: usize,
     reason: Reason,
 ) -> Result<Items<Line>, AllocError>
-    requires { spec.Stands (setting_of spot.now) format reason }
-    ensures { IfOk result (spec.Tells (setting_of spot.now) depth format) }
+    requires { spec.Stands (setting_of question.now) format reason }
+    ensures { IfOk result (spec.Tells (setting_of question.now) depth format) }
 {
     let mut lines = Items::new(alloc);
-    lines.push(line(spot, depth, format, reason))?;
+    lines.push(line(question, depth, format, reason))?;
     Ok(lines)
 }
 
 /// What stands against the format without a look at its fields.
-fn at_once(alloc: Global, spot: &Spot<'_>, format: usize) -> Result<Option<Reason>, AllocError>
-    ensures { IfOk result (λ o. MatchOption o (spec.IsOpen (setting_of spot.now) format) (spec.Stands (setting_of spot.now) format)) }
+fn at_once(
+    alloc: Global,
+    question: &Question<'_>,
+    format: usize,
+) -> Result<Option<Reason>, AllocError>
+    ensures { IfOk result (λ o. MatchOption o (spec.IsOpen (setting_of question.now) format) (spec.Stands (setting_of question.now) format)) }
 {
-    if let Some(obstacle) = obstacle_of(alloc, spot.profile, spot.method, format)? {
+    if let Some(obstacle) = obstacle_of(alloc, question.profile, question.method, format)? {
         return Ok(Some(Reason::Dead(obstacle)));
     }
-    Ok(of_length(spot, format))
+    Ok(of_length(question, format))
 }
 
 /// Whether there are fewer or more bits than a filling of the format has.
-fn of_length(spot: &Spot<'_>, format: usize) -> Option<Reason>
-    ensures { MatchOption result (spec.HasRoom (setting_of spot.now) format) (spec.Stands (setting_of spot.now) format) }
+fn of_length(question: &Question<'_>, format: usize) -> Option<Reason>
+    ensures { MatchOption result (spec.HasRoom (setting_of question.now) format) (spec.Stands (setting_of question.now) format) }
 {
-    let Some(sizes) = sizes_of(spot.profile, spot.method, format) else {
+    let Some(sizes) = sizes_of(question.profile, question.method, format) else {
         return None;
     };
-    let bounds = whole_bounds(sizes, spot.side);
-    let length = spot.bits.len();
+    let bounds = whole_bounds(sizes, question.side);
+    let length = question.bits.len();
     if (length as u128) < bounds.least {
         return Some(Reason::Short {
             length,
             least: bounds.least,
         });
     }
-    if spot.is_whole && bounds.most < length as u128 {
+    if question.is_whole && bounds.most < length as u128 {
         return Some(Reason::Long {
             length,
             most: bounds.most,
@@ -268,7 +276,7 @@ fn whole_bounds(sizes: &FormatSizes, side: Side) -> Bounds
 /// All that is seen of the format: of its fields and of the whole.
 fn seen_of(alloc: Global, look: &Look<'_>, format: usize) -> Result<Observed, AllocError>
     requires { listing.IsLook look.now format }
-    ensures { IfOk result (full.IsFullView (setting_of look.now.spot) format look.now.format.now look.now.sizes.now) }
+    ensures { IfOk result (full.IsFullView (setting_of look.now.question) format look.now.format.now look.now.sizes.now) }
 {
     let fields = sights(alloc, look, format)?;
     let header = whole_side(alloc, fields.as_slice(), look.format, Side::Uncompressed)?;
@@ -305,7 +313,7 @@ fn told_by(
     depth: usize,
 ) -> Result<Option<Items<Line>>, AllocError>
     requires { IsSighted sighted.now }
-    ensures { IfOk result (λ o. MatchOption o (SeesNone (setting_of sighted.now.look.spot) sighted.now.number) (spec.Tells (setting_of sighted.now.look.spot) depth sighted.now.number)) }
+    ensures { IfOk result (λ o. MatchOption o (SeesNone (setting_of sighted.now.look.question) sighted.now.number) (spec.Tells (setting_of sighted.now.look.question) depth sighted.now.number)) }
 {
     match told_by_fields(left, effort, alloc, sighted, depth)? {
         Some(lines) => Ok(Some(lines)),
@@ -323,7 +331,7 @@ fn told_by_fields(
     depth: usize,
 ) -> Result<Option<Items<Line>>, AllocError>
     requires { IsSighted sighted.now }
-    ensures { IfOk result (λ o. MatchOption o (AreClear sighted.now) (spec.Tells (setting_of sighted.now.look.spot) depth sighted.now.number)) }
+    ensures { IfOk result (λ o. MatchOption o (AreClear sighted.now) (spec.Tells (setting_of sighted.now.look.question) depth sighted.now.number)) }
 {
     for next in sighted.look.order {
         if let Some(lines) = told_by_field(left, effort, alloc, sighted, depth, *next)? {
@@ -348,7 +356,7 @@ fn told_by_condition(
 ) -> Result<Option<Items<Line>>, AllocError>
     requires sighted { IsSighted sighted.now }
     requires clear { AreClear sighted.now }
-    ensures { IfOk result (λ o. MatchOption o (SeesNone (setting_of sighted.now.look.spot) sighted.now.number) (spec.Tells (setting_of sighted.now.look.spot) depth sighted.now.number)) }
+    ensures { IfOk result (λ o. MatchOption o (SeesNone (setting_of sighted.now.look.question) sighted.now.number) (spec.Tells (setting_of sighted.now.look.question) depth sighted.now.number)) }
 {
     let constraints = sighted.look.format.constraints.as_slice();
     let Some(constraint) = first_untrue(constraints, sighted.ranges) else {
@@ -359,7 +367,7 @@ fn told_by_condition(
         constraint,
         figures,
     };
-    let lines = alone(alloc, &sighted.look.spot, depth, sighted.number, reason)?;
+    let lines = alone(alloc, &sighted.look.question, depth, sighted.number, reason)?;
     Ok(Some(lines))
 }
 
@@ -372,7 +380,7 @@ fn told_by_truth(
     requires sighted { IsSighted sighted.now }
     requires clear { AreClear sighted.now }
     requires none { (j : _) → IsUntrue sighted.now.look.format.now.constraints (bounding_of sighted.now.ranges.now) j → ⊥ }
-    ensures { IfOk result (λ o. MatchOption o (SeesNone (setting_of sighted.now.look.spot) sighted.now.number) (spec.Tells (setting_of sighted.now.look.spot) depth sighted.now.number)) }
+    ensures { IfOk result (λ o. MatchOption o (SeesNone (setting_of sighted.now.look.question) sighted.now.number) (spec.Tells (setting_of sighted.now.look.question) depth sighted.now.number)) }
 {
     let constraints = sighted.look.format.constraints.as_slice();
     for number in 0..constraints.len() {
@@ -381,7 +389,7 @@ fn told_by_truth(
                 at,
                 within: Within::Condition(number),
             };
-            let lines = alone(alloc, &sighted.look.spot, depth, sighted.number, reason)?;
+            let lines = alone(alloc, &sighted.look.question, depth, sighted.number, reason)?;
             return Ok(Some(lines));
         }
     }
@@ -406,10 +414,10 @@ fn told_by_length(
     index: usize,
 ) -> Result<Option<Items<Line>>, AllocError>
     requires { IsSighted sighted.now }
-    ensures { IfOk result (λ o. MatchOption o (IsUncut sighted.now index) (spec.Tells (setting_of sighted.now.look.spot) depth sighted.now.number)) }
+    ensures { IfOk result (λ o. MatchOption o (IsUncut sighted.now index) (spec.Tells (setting_of sighted.now.look.question) depth sighted.now.number)) }
 {
     let look = &sighted.look;
-    let many = look.spot.bits.len();
+    let many = look.question.bits.len();
     let Some(offset) = begin_of(look.order, look.lengths, index) else {
         return Ok(None);
     };
@@ -428,7 +436,7 @@ fn told_by_length(
         left,
         due,
     };
-    let lines = alone(alloc, &look.spot, depth, sighted.number, reason)?;
+    let lines = alone(alloc, &look.question, depth, sighted.number, reason)?;
     Ok(Some(lines))
 }
 
@@ -442,7 +450,7 @@ fn told_by_argument(
 ) -> Result<Option<Items<Line>>, AllocError>
     requires sighted { IsSighted sighted.now }
     requires at { slice_get sighted.now.look.format.now.fields index ≡ Some field.now }
-    ensures { IfOk result (λ o. MatchOption o (HasValues sighted.now field.now) (spec.Tells (setting_of sighted.now.look.spot) depth sighted.now.number)) }
+    ensures { IfOk result (λ o. MatchOption o (HasValues sighted.now field.now) (spec.Tells (setting_of sighted.now.look.question) depth sighted.now.number)) }
 {
     let Some(at) = undefined_argument(field.encoding.get(), sighted.ranges) else {
         return Ok(None);
@@ -451,7 +459,7 @@ fn told_by_argument(
         at,
         within: Within::Argument(index),
     };
-    let lines = alone(alloc, &sighted.look.spot, depth, sighted.number, reason)?;
+    let lines = alone(alloc, &sighted.look.question, depth, sighted.number, reason)?;
     Ok(Some(lines))
 }
 
@@ -466,7 +474,7 @@ fn told_by_field(
     index: usize,
 ) -> Result<Option<Items<Line>>, AllocError>
     requires { IsSighted sighted.now }
-    ensures { IfOk result (λ o. MatchOption o (IsClearAt sighted.now index) (spec.Tells (setting_of sighted.now.look.spot) depth sighted.now.number)) }
+    ensures { IfOk result (λ o. MatchOption o (IsClearAt sighted.now index) (spec.Tells (setting_of sighted.now.look.question) depth sighted.now.number)) }
 {
     if let Some(lines) = told_by_length(alloc, sighted, depth, index)? {
         return Ok(Some(lines));
@@ -491,26 +499,15 @@ fn told_by_encoding(
     requires sighted { IsSighted sighted.now }
     requires at { slice_get sighted.now.look.format.now.fields index ≡ Some field.now }
     requires uncut { IsUncut sighted.now index }
-    ensures { IfOk result (λ o. MatchOption o (IsClearAt sighted.now index) (spec.Tells (setting_of sighted.now.look.spot) depth sighted.now.number)) }
+    ensures { IfOk result (λ o. MatchOption o (IsClearAt sighted.now index) (spec.Tells (setting_of sighted.now.look.question) depth sighted.now.number)) }
 {
     if let Some(lines) = told_by_argument(alloc, sighted, depth, index, field)? {
         return Ok(Some(lines));
     }
-    if let Encoding::Call { method, arguments } = field.encoding.get() {
-        if left > 0 {
-            if let Some(lines) = told_by_call(
-                left - 1,
-                effort,
-                alloc,
-                sighted,
-                depth,
-                index,
-                field,
-                *method,
-                arguments.as_slice(),
-            )? {
-                return Ok(Some(lines));
-            }
+    if left > 0 {
+        let lines = told_by_call(left - 1, effort, alloc, sighted, depth, index, field)?;
+        if lines.is_some() {
+            return Ok(lines);
         }
     }
     told_by_conflict(alloc, sighted, depth, index, field)
@@ -528,12 +525,12 @@ fn told_by_conflict(
     requires at { slice_get sighted.now.look.format.now.fields index ≡ Some field.now }
     requires uncut { IsUncut sighted.now index }
     requires values { HasValues sighted.now field.now }
-    ensures { IfOk result (λ o. MatchOption o (IsClearAt sighted.now index) (spec.Tells (setting_of sighted.now.look.spot) depth sighted.now.number)) }
+    ensures { IfOk result (λ o. MatchOption o (IsClearAt sighted.now index) (spec.Tells (setting_of sighted.now.look.question) depth sighted.now.number)) }
 {
     let Some(reason) = conflict(alloc, sighted, index, field)? else {
         return Ok(None);
     };
-    let lines = alone(alloc, &sighted.look.spot, depth, sighted.number, reason)?;
+    let lines = alone(alloc, &sighted.look.question, depth, sighted.number, reason)?;
     Ok(Some(lines))
 }
 
@@ -547,32 +544,32 @@ fn told_by_call(
     depth: usize,
     index: usize,
     field: &Field,
-    method: usize,
-    arguments: &[Expr],
 ) -> Result<Option<Items<Line>>, AllocError>
     requires sighted { IsSighted sighted.now }
     requires at { slice_get sighted.now.look.format.now.fields index ≡ Some field.now }
-    requires call { field.now.encoding ≡ encoding.Call method arguments.now }
-    ensures { IfOk result (λ o. IfSome o (spec.Tells (setting_of sighted.now.look.spot) depth sighted.now.number)) }
+    ensures { IfOk result (λ o. IfSome o (spec.Tells (setting_of sighted.now.look.question) depth sighted.now.number)) }
 {
+    let Encoding::Call { method, arguments } = field.encoding.get() else {
+        return Ok(None);
+    };
     let look = &sighted.look;
     let Some(offset) = begin_of(look.order, look.lengths, index) else {
         return Ok(None);
     };
-    let Some(parameters) = all_ranged(alloc, arguments, sighted.ranges)? else {
+    let Some(parameters) = all_ranged(alloc, arguments.as_slice(), sighted.ranges)? else {
         return Ok(None);
     };
-    let Some(bits) = rest_of(alloc, look.spot.bits, offset)? else {
+    let Some(bits) = rest_of(alloc, look.question.bits, offset)? else {
         return Ok(None);
     };
-    let path = below(alloc, look.spot.path, field.declared.name.as_str())?;
-    let inner = Spot {
-        profile: look.spot.profile,
-        context: look.spot.context,
-        method,
+    let path = below(alloc, look.question.path, field.declared.name.as_str())?;
+    let inner = Question {
+        profile: look.question.profile,
+        context: look.question.context,
+        method: *method,
         parameters: parameters.as_slice(),
         path: path.as_str(),
-        side: look.spot.side,
+        side: look.question.side,
         bits: &bits,
         is_whole: false,
         asked: &[],
@@ -585,7 +582,7 @@ fn told_by_call(
     };
     let mut lines = Items::new(alloc);
     lines.push(line(
-        &look.spot,
+        &look.question,
         depth,
         sighted.number,
         Reason::Inside { field: index },
@@ -600,17 +597,17 @@ fn all_told(
     left: usize,
     effort: &mut usize,
     alloc: Global,
-    spot: &Spot<'_>,
+    question: &Question<'_>,
     depth: usize,
 ) -> Result<Option<Items<Line>>, AllocError>
-    ensures { IfOk result (λ o. IfSome o (spec.TellAll (setting_of spot.now) depth 0)) }
+    ensures { IfOk result (λ o. IfSome o (spec.TellAll (setting_of question.now) depth 0)) }
 {
     let mut lines = Items::new(alloc);
-    for format in 0..formats_of(spot) {
+    for format in 0..formats_of(question) {
         if *effort == 0 {
             return Ok(None);
         }
-        let Some(more) = told(left, effort, alloc, spot, depth, format)? else {
+        let Some(more) = told(left, effort, alloc, question, depth, format)? else {
             return Ok(None);
         };
         lines.append(more)?;

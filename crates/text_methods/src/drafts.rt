@@ -7,7 +7,7 @@ ghost use Rattle.text_methods.specs.Drafts as spec;
 ghost use Rattle.text_methods.specs.Kept.{HasKept};
 
 use crate::constraints::format_constraints;
-use crate::encodings::format_encodings;
+use crate::encodings::{OwnSection, format_encodings};
 use crate::kept::Kept;
 use sem_bits::Bits;
 use sem_profile::{Constraint, Encoding, ProfileFault, Shared, Words, earlier};
@@ -72,25 +72,23 @@ pub(crate) fn draft_format<'t>(
         setting.parameters,
         &fields.words,
     );
+    let chosen = chosen.as_slice();
+    let items = section.items.as_slice();
+    let own_section = OwnSection {
+        number,
+        items,
+        listing: listing.as_slice(),
+    };
     let encodings = format_encodings(
         alloc,
         &scope,
         setting.methods,
         setting.sections,
         kept,
-        chosen.as_slice(),
-        number,
-        listing.as_slice(),
-        section.items.as_slice(),
+        chosen,
+        &own_section,
     )?;
-    let constraints = format_constraints(
-        alloc,
-        &scope,
-        setting.sections,
-        kept,
-        chosen.as_slice(),
-        section.items.as_slice(),
-    )?;
+    let constraints = format_constraints(alloc, &scope, setting.sections, kept, chosen, items)?;
     let fault = earlier(encodings.fault, constraints.fault);
     Ok(Draft {
         fields,

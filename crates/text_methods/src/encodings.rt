@@ -25,8 +25,16 @@ pub struct Encodings {
     pub fault: Option<ProfileFault>,
 }
 
+/// A section of a method: its number among the method's sections, its statements, and the place of the field that each mention of them stands for.
+#[derive(Clone, Copy)]
+pub(crate) struct OwnSection<'a> {
+    pub number: usize,
+    pub items: &'a [Item],
+    pub listing: &'a [usize],
+}
+
 /// The encodings of the fields whose encoding statements these are, and the earliest fault in them and in all that the section's statements
-/// give, whether a field is encoded by them or not. The section has this number, and its mentions stand for these fields.
+/// give, whether a field is encoded by them or not.
 #[tactic(auto, unfolding(crate::specs::Encodings::format_fault))]
 pub(crate) fn format_encodings(
     alloc: Global,
@@ -35,19 +43,17 @@ pub(crate) fn format_encodings(
     sections: &[Section],
     kept: &Kept<'_>,
     chosen: &[Option<Mention>],
-    number: usize,
-    listing: &[usize],
-    items: &[Item],
+    own: &OwnSection<'_>,
 ) -> Result<Encodings, AllocError>
     requires given { AreGiven scope.now methods.now kept.now sections.now }
     requires bare { kept.now.bare ≡ Encoding.Bare }
-    requires own { spec.items_at sections.now number ≡ Some items.now }
-    ensures fault { IfOk result (λ e. e.fault ≡ spec.format_fault scope.now methods.now sections.now chosen.now items.now) }
+    requires own { spec.items_at sections.now own.now.number ≡ Some own.now.items.now }
+    ensures fault { IfOk result (λ e. e.fault ≡ spec.format_fault scope.now methods.now sections.now chosen.now own.now.items.now) }
     ensures found { IfOk result (λ e. e.fault ≡ None → AllZip (spec.FieldMeans scope.now methods.now sections.now) chosen.now e.found) }
 {
     let encodings = field_encodings(alloc, scope, methods, sections, kept, chosen)?;
     let fine = fine_ones(chosen, &encodings.fault);
-    let own_fault = own_fault(alloc, scope, methods, number, fine, listing, items)?;
+    let own_fault = own_fault(alloc, scope, methods, fine, own)?;
     Ok(Encodings {
         found: encodings.found,
         fault: earlier(encodings.fault, own_fault),
@@ -143,18 +149,20 @@ fn own_fault(
     alloc: Global,
     scope: &Scope<'_, '_>,
     methods: &Methods<'_, '_>,
-    number: usize,
     fine: &[Option<Mention>],
-    listing: &[usize],
-    items: &[Item],
+    own: &OwnSection<'_>,
 ) -> Result<Option<ProfileFault>, AllocError>
-    requires { spec.AreFine scope.now methods.now fine.now number items.now }
-    ensures { IfOk result (λ fault. fault ≡ earliest (spec.own_fault scope.now methods.now) items.now) }
+    requires { spec.AreFine scope.now methods.now fine.now own.now.number own.now.items.now }
+    ensures { IfOk result (λ fault. fault ≡ earliest (spec.own_fault scope.now methods.now) own.now.items.now) }
 {
     let mut fault = None;
     let mut next = 0;
-    for (place, item) in items.iter().enumerate() {
-        let is_fine = is_at(number, place, choice_of(fine, listing.get(next).copied()));
+    for (place, item) in own.items.iter().enumerate() {
+        let is_fine = is_at(
+            own.number,
+            place,
+            choice_of(fine, own.listing.get(next).copied()),
+        );
         fault = earlier(fault, item_fault(alloc, scope, methods, item, is_fine)?);
         next = after(item, next);
     }

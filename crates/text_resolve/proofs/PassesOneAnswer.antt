@@ -1,4 +1,4 @@
--- Octets with a reading are refused since memory is out alone.
+-- Octets with a reading are refused only where memory is out.
 use Rattle.std.proofs.Common.{◌≡◌, ap, ℕ, ◌<◌, ◌≤◌, inl, inr, List, [], ◌∷◌, ◌++◌, append-nil, length, refl, sym, subst, arith}
 use Rattle.text_source.specs.declared.fault.Fault.{Fault}
 use Rattle.text_source.specs.declared.fault.FaultKind.{FaultKind}

@@ -53,6 +53,6 @@ NoCauseOfBounds = (text : List ℕ) (parts : List Part) (name : List ℕ) (p : R
 abbrev pub NoCause : Type 0
 NoCause = (text : List ℕ) (parts : List Part) (name : List ℕ) (p : Resolved) → IsNormalForm text parts name p → (f : ProfileFault) → Cause text parts name f → ⊥
 
--- octets that have a reading are refused since memory is out alone
+-- octets that have a reading are refused only where memory is out
 abbrev pub NoRefusal : Type 0
 NoRefusal = (octets top : List ℕ) (p : Resolved) → Reads octets top p → (e : ReadError) → Refuses octets top e → e ≡ errors.OutOfMemory

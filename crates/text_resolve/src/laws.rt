@@ -65,7 +65,7 @@ pub fn no_cause()
     ensures { excluded.NoCause }
 {}
 
-/// Octets with a reading are refused since memory is out alone: no fault of the text, its tokens, its grammar or its tree is there.
+/// Octets with a reading are refused only where memory is out: no fault of the text, its tokens, its grammar or its tree is there.
 pub fn no_refusal()
     ensures { excluded.NoRefusal }
 {}

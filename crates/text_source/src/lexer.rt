@@ -539,7 +539,7 @@ pub fn lex(alloc: Global, source: &Source<'_>) -> Result<Vec<Token>, SourceError
     ensures lexed { IfOk result (λ v. spec.Lexed source.now v.items) }
     // E01 and E03 stand only where they are, after tokens and gaps; no other fault comes.
     ensures fault { IfErr result (spec.Refuses source.now) }
-    // A text that has tokens is not refused but since memory is out.
+    // A text that has tokens is refused only where memory is out.
     ensures only { (ts : List Token) → spec.Lexed source.now ts
         → MatchResult result (λ v. v.items ≡ ts) (λ e. e ≡ SourceError.OutOfMemory) }
 {

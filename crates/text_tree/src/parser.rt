@@ -38,7 +38,7 @@ fn fault_of(len: usize, refusal: PlacedFault) -> Fault
 pub fn parse(alloc: Global, source: &Source<'_>, tokens: &[Token]) -> Result<File, SourceError>
     // What is read is the tree of the tokens, and they keep every rule.
     ensures found { IfOk result (λ file. Parsed tokens.now file) }
-    // Tokens with a tree are read as that one, and refused only since memory is out.
+    // Tokens with a tree are read as that one, and refused only where memory is out.
     ensures only { (file : File) → Parsed tokens.now file → MatchResult result (λ f. f ≡ file) (λ e. e ≡ SourceError.OutOfMemory) }
     // The tokens in front of the refused one begin a text of the grammar; with it none does that keeps the fault's rule,
     // but one without that rule does; at the end, the tokens are no text.

@@ -1,7 +1,7 @@
 //! What two formats are known to begin with, which no tree parts.
 
 use crate::places::place_text;
-use cert_trees::{Signature, all_told};
+use cert_trees::{Signature, all_signatures};
 use cert_types::Version;
 use sem_profile::Profile;
 use std::alloc::{AllocError, Global};
@@ -28,7 +28,7 @@ pub fn tree_notes(
     let Some(sizes) = profile.sizes().get(method) else {
         return Ok(String::new(alloc));
     };
-    let tolds = all_told(alloc, found.formats.as_slice(), sizes.formats.as_slice())?;
+    let tolds = all_signatures(alloc, found.formats.as_slice(), sizes.formats.as_slice())?;
     let Some(one) = tolds.get(first) else {
         return Ok(String::new(alloc));
     };

@@ -19,17 +19,29 @@ struct Waiting {
     fact: Fact,
 }
 
-/// The line of the first step that waits, of a format that has no plan in a direction, where these sides are missing.
+/// A plan that no certificate has: of a format, by its method and itself by their indices, in a direction, and the sides that are missing in it.
+#[derive(Clone, Copy)]
+pub struct MissingPlan<'a> {
+    pub method: usize,
+    pub format: usize,
+    pub direction: Direction,
+    pub sides: &'a [FieldSide],
+}
+
+/// The line of the first step that waits, of a format that has no such plan in certificates of that version.
 pub fn plan_notes(
     alloc: Global,
     octets: &[u8],
     profile: &Profile,
     version: Version,
-    method: usize,
-    format: usize,
-    direction: Direction,
-    sides: &[FieldSide],
+    plan: MissingPlan<'_>,
 ) -> Result<String, AllocError> {
+    let MissingPlan {
+        method,
+        format,
+        direction,
+        sides,
+    } = plan;
     let methods = profile.methods();
     let Some(found) = format_at(methods, method, format) else {
         return Ok(String::new(alloc));

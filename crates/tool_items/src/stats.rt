@@ -41,6 +41,21 @@ impl Model for Counted {
     ghost view = { λ row. record { depth = row.depth; part = row.part; name = string_bytes row.name; tally = row.tally } };
 }
 
+/// A format of one of these methods: the numbers of both.
+#[derive(Clone, Copy)]
+struct FormatAt<'a> {
+    methods: &'a [Method],
+    method: usize,
+    number: usize,
+}
+
+/// A listed field: its name, and the method that it calls, if it calls one.
+#[derive(Clone, Copy)]
+struct ListedField<'a> {
+    name: &'a str,
+    called: Option<usize>,
+}
+
 /// The lines of what is counted of packed items: a head line for all of them; and in columns a line for each format of the top, for each of its listed fields that
 /// has packed bits, and below a field for each format of the method that it calls, and so on. No line feed stands after the last line. The error is out of memory.
 pub fn stats_text(
@@ -156,7 +171,12 @@ fn add_format(
     match sums.formats.get(number) {
         Some(sums) => {
             rows.push(row_of(0, RowOf::Format, name, sums.all))?;
-            add_fields(sums, alloc, rows, methods, top, number, listing, 1)
+            let format = FormatAt {
+                methods,
+                method: top,
+                number,
+            };
+            add_fields(sums, alloc, rows, &format, listing, 1)
         }
         None => rows.push(row_of(0, RowOf::Format, name, Tally::none())),
     }
@@ -164,24 +184,20 @@ fn add_format(
 
 // ---- fields, and what is inside
 
-/// Adds the rows of the listed fields of a format of a method. Their names stand after some blanks.
+/// Adds the rows of the listed fields of a format. Their names stand after some blanks.
 #[cycle(inside)]
 fn add_fields(
     sums: &FormatSums,
     alloc: Global,
     rows: &mut Items<Counted>,
-    methods: &[Method],
-    method: usize,
-    format: usize,
+    format: &FormatAt<'_>,
     listing: &[usize],
     depth: usize,
 ) -> Result<(), AllocError>
-    ensures { OnOk result (steps.AddFields methods.now method format listing.now depth sums.now rows.old rows.new) }
+    ensures { OnOk result (steps.AddFields format.now.methods.now format.now.method format.now.number listing.now depth sums.now rows.old rows.new) }
 {
     for (place, field) in listing.iter().enumerate() {
-        add_listed(
-            sums, alloc, rows, methods, method, format, place, *field, depth,
-        )?;
+        add_listed(sums, alloc, rows, format, place, *field, depth)?;
     }
     Ok(())
 }
@@ -192,27 +208,31 @@ fn add_listed(
     sums: &FormatSums,
     alloc: Global,
     rows: &mut Items<Counted>,
-    methods: &[Method],
-    method: usize,
-    format: usize,
+    format: &FormatAt<'_>,
     place: usize,
     field: usize,
     depth: usize,
 ) -> Result<(), AllocError>
-    ensures { OnOk result (steps.AddListed methods.now method format place field depth sums.now rows.old rows.new) }
+    ensures { OnOk result (steps.AddListed format.now.methods.now format.now.method format.now.number place field depth sums.now rows.old rows.new) }
 {
+    let FormatAt {
+        methods,
+        method,
+        number,
+    } = *format;
     let items = sums.all.items;
     match sums.places.get(place) {
         Some(sums) => {
-            let name = field_name(methods, method, format, field);
-            let called = callee(encoding_at(methods, method, format, field));
-            add_field(sums, alloc, rows, methods, items, name, called, depth)
+            let name = field_name(methods, method, number, field);
+            let called = callee(encoding_at(methods, method, number, field));
+            let listed = ListedField { name, called };
+            add_field(sums, alloc, rows, methods, items, &listed, depth)
         }
         None => Ok(()),
     }
 }
 
-/// Adds the row of a field of that name, where it has packed bits, and those of the method that it calls.
+/// Adds the row of a listed field, where it has packed bits, and those of the method that it calls.
 #[cycle(inside)]
 fn add_field(
     sums: &PlaceSums,
@@ -220,19 +240,18 @@ fn add_field(
     rows: &mut Items<Counted>,
     methods: &[Method],
     items: usize,
-    name: &str,
-    called: Option<usize>,
+    field: &ListedField<'_>,
     depth: usize,
 ) -> Result<(), AllocError>
-    ensures { OnOk result (steps.AddField methods.now items name.now called depth sums.now rows.old rows.new) }
+    ensures { OnOk result (steps.AddField methods.now items field.now.name.now field.now.called depth sums.now rows.old rows.new) }
 {
     let bits = sums.bits;
     if bits == 0 {
         return Ok(());
     }
-    let name = String::from_str(alloc, name)?;
+    let name = String::from_str(alloc, field.name)?;
     rows.push(row_of(depth, RowOf::Field, name, Tally { items, bits }))?;
-    let Some(method) = called else {
+    let Some(method) = field.called else {
         return Ok(());
     };
     let further = further_in(depth)?;
@@ -253,7 +272,12 @@ fn add_inside(
 {
     for (number, format) in formats_of(methods, method).iter().enumerate() {
         let listing = format.listing.get().as_slice();
-        add_inner(sums, alloc, rows, methods, method, number, listing, depth)?;
+        let inner = FormatAt {
+            methods,
+            method,
+            number,
+        };
+        add_inner(sums, alloc, rows, &inner, listing, depth)?;
     }
     Ok(())
 }
@@ -264,16 +288,14 @@ fn add_inner(
     sums: &Sums,
     alloc: Global,
     rows: &mut Items<Counted>,
-    methods: &[Method],
-    method: usize,
-    number: usize,
+    format: &FormatAt<'_>,
     listing: &[usize],
     depth: usize,
 ) -> Result<(), AllocError>
-    ensures { OnOk result (steps.AddInner methods.now method number listing.now depth sums.now rows.old rows.new) }
+    ensures { OnOk result (steps.AddInner format.now.methods.now format.now.method format.now.number listing.now depth sums.now rows.old rows.new) }
 {
-    match sums.formats.get(number) {
-        Some(sums) => add_inner_format(sums, alloc, rows, methods, method, number, listing, depth),
+    match sums.formats.get(format.number) {
+        Some(sums) => add_inner_format(sums, alloc, rows, format, listing, depth),
         None => Ok(()),
     }
 }
@@ -284,14 +306,17 @@ fn add_inner_format(
     sums: &FormatSums,
     alloc: Global,
     rows: &mut Items<Counted>,
-    methods: &[Method],
-    method: usize,
-    number: usize,
+    format: &FormatAt<'_>,
     listing: &[usize],
     depth: usize,
 ) -> Result<(), AllocError>
-    ensures { OnOk result (steps.AddInnerFormat methods.now method number listing.now depth sums.now rows.old rows.new) }
+    ensures { OnOk result (steps.AddInnerFormat format.now.methods.now format.now.method format.now.number listing.now depth sums.now rows.old rows.new) }
 {
+    let FormatAt {
+        methods,
+        method,
+        number,
+    } = *format;
     let all = sums.all;
     if all.items == 0 {
         return Ok(());
@@ -303,7 +328,7 @@ fn add_inner_format(
     )?;
     rows.push(row_of(depth, RowOf::Format, name, all))?;
     let further = further_in(depth)?;
-    add_fields(sums, alloc, rows, methods, method, number, listing, further)
+    add_fields(sums, alloc, rows, format, listing, further)
 }
 
 /// The name of a format of a called method.

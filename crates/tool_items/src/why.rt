@@ -232,21 +232,20 @@ fn reason_words(
             side,
             found,
             due,
-        } => differing_words(alloc, methods, method, format, *field, *side, found, due),
+        } => {
+            let coded = coded_words(alloc, methods, method, format, *field)?;
+            differing_words(alloc, coded.as_str(), *side, found, due)
+        }
         Reason::NoSide { field, side, found } => {
             lacking_words(alloc, methods, method, format, *field, *side, found)
         }
         Reason::Untrue {
             constraint,
             figures,
-        } => untrue_words(
-            alloc,
-            methods,
-            method,
-            format,
-            *constraint,
-            figures.as_slice(),
-        ),
+        } => {
+            let figures = figures.as_slice();
+            untrue_words(alloc, methods, method, format, *constraint, figures)
+        }
         Reason::Undefined { .. } => {
             String::from_str(
                 alloc,
@@ -305,21 +304,17 @@ fn reference_words(alloc: Global, coded: &str, path: &str) -> Result<String, All
 
 fn differing_words(
     alloc: Global,
-    methods: &[Method],
-    method: usize,
-    format: usize,
-    field: usize,
+    coded: &str,
     side: Side,
     found: &Bits,
     due: &Bits,
 ) -> Result<String, AllocError>
-    ensures { IfOk result (λ text. string_bytes text ≡ spec.coded_words methods.now method format field ++ codes ": the " ++ spec.side_word side ++ codes " has " ++ bits_text found.now ++ codes ", and " ++ bits_text due.now ++ codes " is due") }
+    ensures { IfOk result (λ text. string_bytes text ≡ coded.now ++ codes ": the " ++ spec.side_word side ++ codes " has " ++ bits_text found.now ++ codes ", and " ++ bits_text due.now ++ codes " is due") }
 {
-    let coded = coded_words(alloc, methods, method, format, field)?;
     let has = bits_cell(alloc, found)?;
     let wants = bits_cell(alloc, due)?;
     let word = side_word(side);
-    due_words(alloc, coded.as_str(), word, has.as_str(), wants.as_str())
+    due_words(alloc, coded, word, has.as_str(), wants.as_str())
 }
 
 fn due_words(

@@ -15,7 +15,7 @@ use std::alloc::{AllocError, Global};
 use text_resolve::{ReadError, read};
 use tool_explain::faults::fault_notes;
 use tool_explain::trees::tree_notes;
-use tool_explain::waits::plan_notes;
+use tool_explain::waits::{MissingPlan, plan_notes};
 use tool_input::status::{Answer, Status};
 
 /// The answer to `prove`, and below the line of what is missing the lines that explain it.
@@ -109,16 +109,15 @@ fn unproved_notes(
             format,
             direction,
             sides,
-        } => plan_notes(
-            alloc,
-            octets,
-            profile,
-            version,
-            method,
-            format,
-            direction,
-            sides.as_slice(),
-        ),
+        } => {
+            let plan = MissingPlan {
+                method,
+                format,
+                direction,
+                sides: sides.as_slice(),
+            };
+            plan_notes(alloc, octets, profile, version, plan)
+        }
         Unproved::NoTree {
             method,
             first,

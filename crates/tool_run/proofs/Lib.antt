@@ -11,6 +11,7 @@ pub mod ProgramReplies
 pub mod PrintedReplying
 pub mod PrintedStepping
 pub mod PrintedTallying
+pub mod WayLemmas
 pub mod Losing
 pub mod SenderLemmas
 pub mod SendersLines

@@ -128,9 +128,6 @@ pub data Framed (end : End) (lost : ℕ) (order : Order) (profile : List ℕ) (p
 abbrev pub AnswersFrames : End → ℕ → Order → List ℕ → Parts → Answer → Type 0
 AnswersFrames end lost order profile parts answer = Framed end lost order profile parts answer.status (string_bytes answer.output)
 
-abbrev pub AnswersFramesBy : End → ℕ → List ℕ → List ℕ → Origin → List ℕ → Answer → Type 0
-AnswersFramesBy end lost top profile origin input answer = FramedBy end lost top profile origin input answer.status (string_bytes answer.output)
-
 abbrev pub AnswersEnd : End → ℕ → Accepting → List ℕ → Answer → Type 0
 AnswersEnd end lost a input answer = AnsweredEnd end lost a input answer.status (string_bytes answer.output)
 

@@ -8,5 +8,6 @@ pub mod Refused
 pub mod Senders
 pub mod Loss
 pub mod Printed
+pub mod Way
 pub mod Program
 pub mod Avoidance

@@ -128,9 +128,6 @@ pub data Lined (end : End) (order : Order) (profile : List ℕ) (parts : Parts) 
 abbrev pub AnswersLine : End → Order → List ℕ → Parts → Answer → Type 0
 AnswersLine end order profile parts answer = Lined end order profile parts answer.status (string_bytes answer.output)
 
-abbrev pub AnswersLineBy : End → LineVersion → List ℕ → List ℕ → Origin → List ℕ → Answer → Type 0
-AnswersLineBy end version top profile origin input answer = LinedBy end version top profile origin input answer.status (string_bytes answer.output)
-
 abbrev pub AnswersEnd : End → LineVersion → Accepting → List ℕ → Answer → Type 0
 AnswersEnd end version a input answer = AnsweredEnd end version a input answer.status (string_bytes answer.output)
 

@@ -20,6 +20,7 @@ use Rattle.tool_loss.specs.LossObjects.{loss_objects}
 use Rattle.tool_words.specs.declared.words.Form.{Form}
 use Rattle.tool_words.specs.declared.words.Form.TheVariants as form
 use Rattle.tool_run.specs.Senders.{Blames, IsSenderFault, RefusesSent, Sends, own_of}
+use Rattle.tool_run.specs.declared.loss.LossRun.{LossRun}
 use Rattle.tool_run.specs.declared.sender.Sender.{Sender}
 
 -- ---- the contexts that are held
@@ -80,9 +81,9 @@ pub record IsLost (a : Accepting) (most : ℕ) (from to : Sender) (old new : Lis
   pub new_is : new ≡ held_after most n old (own_of to)
 
 -- or of one that was refused
-abbrev pub IsLossStep : Accepting → ℕ → Sender → Sender → List Entries → List Entries → Tally → Tally → Journal → Journal → ℕ → Item → Option RobustFault → Type 0
-IsLossStep a most from to old new before after was is n it None = IsLost a most from to old new before after was is n it
-IsLossStep a most from to old new before after was is n it (Some e) = Blames e a from it
+abbrev pub IsLossStep : Accepting → ℕ → LossRun → LossRun → ℕ → Item → Option RobustFault → Type 0
+IsLossStep a most old new n it None = IsLost a most old.sender new.sender old.held new.held old.tally new.tally old.journal new.journal n it
+IsLossStep a most old new n it (Some e) = Blames e a old.sender it
 
 pub record IsPrintedLoss (form : Form) (a : Accepting) (most : ℕ) (all : Tally) (j : Journal) (answer : Answer) : Type 0 where
   pub status_is : answer.status ≡ status.Done

@@ -503,24 +503,12 @@ AnswersLint order profile parts = Holds (LintedWith order profile parts)
 abbrev pub AnswersRun : Direction → Shape → Order → List ℕ → Parts → Answer → Type 0
 AnswersRun direction shape order profile parts = Holds (AnsweredRun direction shape order profile parts)
 
-abbrev pub AnswersBy : Direction → Shape → Order → List ℕ → Parts → List ℕ → Answer → Type 0
-AnswersBy direction shape order profile parts input = Holds (AnsweredBy direction shape order profile parts input)
-
-abbrev pub AnswersFor : Direction → Shape → Bool → Accepting → Option (Bor (List ℕ)) → List ℕ → Answer → Type 0
-AnswersFor direction shape shows a context input = Holds (AnsweredFor direction shape shows a context input)
-
 abbrev pub AnswersIn : Direction → Shape → Bool → Accepting → Entries → List ℕ → Answer → Type 0
 AnswersIn direction shape shows a ctx input = Holds (AnsweredIn direction shape shows a ctx input)
 
 -- what is answered to `stats`
 abbrev pub AnswersStats : Survey → Order → List ℕ → Parts → Answer → Type 0
 AnswersStats what order profile parts = Holds (Stated what order profile parts)
-
-abbrev pub AnswersStatsBy : Survey → Order → List ℕ → Parts → List ℕ → Answer → Type 0
-AnswersStatsBy what order profile parts input = Holds (StatsWith what order profile parts input)
-
-abbrev pub AnswersStatsFor : Survey → Accepting → Option (Bor (List ℕ)) → List ℕ → Answer → Type 0
-AnswersStatsFor what a context input = Holds (StatsFor what a context input)
 
 abbrev pub AnswersStatsIn : Survey → Accepting → Entries → List ℕ → Answer → Type 0
 AnswersStatsIn what a ctx input = Holds (StatsIn what a ctx input)

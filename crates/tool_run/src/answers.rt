@@ -8,17 +8,18 @@ use crate::frames::answer_frames;
 use crate::line::answer_line;
 use crate::packets::{Shape, pack_all, unpack_all};
 use crate::stats::{Survey, answer_stats};
+use crate::way::{InputTask, Task, answer_by};
 use cert_accepted::Accepted;
 use sem_context::Context;
 use std::alloc::{AllocError, Global};
 use tool_input::bundle::Parts;
-use tool_input::inputs::{BadLine, read_context, read_items, read_packets};
-use tool_input::refusals::{context_line, refusal};
+use tool_input::inputs::{BadLine, read_items, read_packets};
+use tool_input::refusals::refusal;
 use tool_input::status::{Answer, Status};
 use tool_json::lines::as_objects;
 use tool_report::check::answer_check;
 use tool_report::explanations::{explain_check, explain_prove};
-use tool_report::profile_and_certificate::{Judged, Origin, accept};
+use tool_report::profile_and_certificate::Origin;
 use tool_report::prove::answer_prove;
 use tool_report::show::answer_listing;
 use tool_report::surveys::{answer_draw, answer_lint, draw_objects};
@@ -168,69 +169,24 @@ fn answer_run(
 {
     match direction {
         Direction::Pack => match parts.items {
-            Some(items) => answer_by(alloc, Direction::Pack, shape, order, profile, parts, items),
+            Some(items) => {
+                let task = Task::Inputs(InputTask::Run(Direction::Pack, shape));
+                answer_by(alloc, task, order, profile, parts, items)
+            }
             None => refusal(alloc, "bundle: I4 bad part items"),
         },
         Direction::Unpack => match parts.packets {
-            Some(packets) => answer_by(
-                alloc,
-                Direction::Unpack,
-                shape,
-                order,
-                profile,
-                parts,
-                packets,
-            ),
+            Some(packets) => {
+                let task = Task::Inputs(InputTask::Run(Direction::Unpack, shape));
+                answer_by(alloc, task, order, profile, parts, packets)
+            }
             None => refusal(alloc, "bundle: I4 bad part packets"),
         },
     }
 }
 
-/// The answer in a direction, by the octets of a profile and of items or packets.
-fn answer_by(
-    alloc: Global,
-    direction: Direction,
-    shape: Shape<'_>,
-    order: &Order<'_>,
-    profile: &[u8],
-    parts: &Parts<'_>,
-    input: &[u8],
-) -> Result<Answer, AllocError>
-    ensures { IfOk result (spec.AnswersBy direction shape.entry order.now profile.now parts.now input.now) }
-{
-    match accept(alloc, order.top, profile, Origin::of(order.version, parts))? {
-        Judged::Accepted(accepted) => {
-            let shows = order.shows_context;
-            answer_for(alloc, direction, shape, shows, &accepted, parts, input)
-        }
-        Judged::Refused(line) => refusal(alloc, line.as_str()),
-    }
-}
-
-/// The answer in a direction, by an accepted profile and the octets of items or packets.
-fn answer_for(
-    alloc: Global,
-    direction: Direction,
-    shape: Shape<'_>,
-    shows: bool,
-    accepted: &Accepted,
-    parts: &Parts<'_>,
-    input: &[u8],
-) -> Result<Answer, AllocError>
-    ensures { IfOk result (spec.AnswersFor direction shape.entry shows accepted.now parts.now.context input.now) }
-{
-    match read_context(alloc, parts) {
-        Ok(context) => answer_each(alloc, direction, shape, shows, accepted, context, input),
-        Err(BadLine::Number(number)) => {
-            let line = context_line(alloc, number)?;
-            refusal(alloc, line.as_str())
-        }
-        Err(BadLine::OutOfMemory) => Err(AllocError),
-    }
-}
-
 /// The answer in a direction and a context.
-fn answer_each(
+pub(crate) fn answer_each(
     alloc: Global,
     direction: Direction,
     shape: Shape<'_>,

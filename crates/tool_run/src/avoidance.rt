@@ -16,7 +16,7 @@ use sem_filling::whole_sides::header_of;
 use sem_filling::{Filling, Item, advance, below};
 use sem_lint::Judged;
 use sem_profile::Profile;
-use sem_reasons::{Line, Reason, Spot, reasons_against};
+use sem_reasons::{Line, Question, Reason, reasons_against};
 use sqlite_items::Items;
 use std::alloc::{AllocError, Global};
 use tool_input::refusals::refusal;
@@ -417,7 +417,7 @@ fn lines_against(
     requires { spec.IsWhole sought.now }
     ensures { IfOk result (IsVerdict (spec.item_setting sought.now.accepted.now context.now item.now) format) }
 {
-    let spot = Spot {
+    let question = Question {
         profile: sought.judged,
         context,
         method: sought.accepted.profile().top(),
@@ -428,7 +428,7 @@ fn lines_against(
         is_whole: true,
         asked: item.asked.as_slice(),
     };
-    reasons_against(alloc, &spot, format)
+    reasons_against(alloc, &question, format)
 }
 
 /// What stands against a format of its method for the header of a part, whatever the arguments are; where nothing is found, under those of the part. None where the
@@ -474,7 +474,7 @@ fn lines_under(
     requires header { header_bits.now ≡ header part.now.filling.now }
     ensures { IfOk result (IsVerdict (spec.part_setting sought.now.accepted.now context.now part.now ranges.now) format) }
 {
-    let spot = Spot {
+    let question = Question {
         profile: sought.judged,
         context,
         method: part.method,
@@ -485,7 +485,7 @@ fn lines_under(
         is_whole: true,
         asked: &[],
     };
-    reasons_against(alloc, &spot, format)
+    reasons_against(alloc, &question, format)
 }
 
 /// For each value the range that holds it alone.

@@ -1,13 +1,13 @@
 //! What is answered to `line --frames`.
 
 ghost use Rattle.std.specs.Prelude.{◌≡◌, ◌++◌, ◌∷◌, [], IfOk, OnOk, codes, decimal, map, string_bytes};
-ghost use Rattle.tool_report.specs.Accepting.{origin_of};
 ghost use Rattle.tool_input.specs.OneLine.{IsLine};
 ghost use Rattle.tool_run.specs.Frames as spec;
 
 use crate::events::read_events;
 use crate::line::{bad_event_line, event_fault, print_sent, push_item};
 use crate::packets::plain_line;
+use crate::way::{Task, answer_by};
 use cert_accepted::Accepted;
 use itoa::Buffer;
 use sem_profile::Method;
@@ -19,7 +19,6 @@ use tool_input::refusals::refusal;
 use tool_input::status::{Answer, Status};
 use tool_input::texts::push_line;
 use tool_names::names::{format_name, method_name};
-use tool_report::profile_and_certificate::{Judged, Origin, accept};
 use tool_words::words::{End, Order};
 use walk_frames::{FrameFault, Given, PacketRefusal, Receiver, RunFault, run};
 use walk_line::{Event, Flow};
@@ -43,36 +42,24 @@ pub(crate) fn answer_frames(
 {
     match end {
         End::Sending => match parts.events {
-            Some(events) => frames_by(alloc, End::Sending, lost, order, profile, parts, events),
+            Some(events) => {
+                let task = Task::Frames(End::Sending, lost);
+                answer_by(alloc, task, order, profile, parts, events)
+            }
             None => refusal(alloc, "bundle: I4 bad part events"),
         },
         End::Receiving => match parts.octets {
-            Some(octets) => frames_by(alloc, End::Receiving, lost, order, profile, parts, octets),
+            Some(octets) => {
+                let task = Task::Frames(End::Receiving, lost);
+                answer_by(alloc, task, order, profile, parts, octets)
+            }
             None => refusal(alloc, "bundle: I4 bad part octets"),
         },
     }
 }
 
-/// The answer at an end, by the octets of a profile and of the end's part.
-fn frames_by(
-    alloc: Global,
-    end: End,
-    lost: u8,
-    order: &Order<'_>,
-    profile: &[u8],
-    parts: &Parts<'_>,
-    input: &[u8],
-) -> Result<Answer, AllocError>
-    ensures { IfOk result (spec.AnswersFramesBy end lost order.now.top.now profile.now (origin_of order.now.version parts.now.certificate) input.now) }
-{
-    match accept(alloc, order.top, profile, Origin::of(order.version, parts))? {
-        Judged::Accepted(accepted) => answer_end(alloc, end, lost, &accepted, input),
-        Judged::Refused(line) => refusal(alloc, line.as_str()),
-    }
-}
-
 /// The answer at an end, by an accepted profile.
-fn answer_end(
+pub(crate) fn answer_end(
     alloc: Global,
     end: End,
     lost: u8,

@@ -16,4 +16,5 @@ mod reasons;
 mod sender;
 mod senders;
 mod stats;
+mod way;
 mod ways;

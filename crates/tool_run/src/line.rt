@@ -3,12 +3,12 @@
 ghost use Rattle.std.specs.Prelude.{◌≡◌, ◌++◌, IfOk, OnOk, codes, decimal, map, string_bytes};
 ghost use Rattle.walk_line.specs.Laws.{items_sent};
 ghost use Rattle.walk_line.specs.Runs.{event_of};
-ghost use Rattle.tool_report.specs.Accepting.{origin_of};
 ghost use Rattle.tool_run.specs.Line as spec;
 ghost use Rattle.tool_input.specs.OneLine.{IsLine};
 
 use crate::events::read_events;
 use crate::packets::{asked_line, plain_line};
+use crate::way::{Task, answer_by};
 use cert_accepted::Accepted;
 use itoa::Buffer;
 use sem_filling::Item;
@@ -19,7 +19,6 @@ use tool_input::octets::read_octets;
 use tool_input::refusals::refusal;
 use tool_input::status::{Answer, Status};
 use tool_input::texts::{push_item_text, push_line};
-use tool_report::profile_and_certificate::{Judged, Origin, accept};
 use tool_words::words::{End, Order};
 use walk_engine::PackFault;
 use walk_line::{Event, Flow, LineFault, LineVersion, Receiver, RunFault, run};
@@ -40,38 +39,32 @@ pub(crate) fn answer_line(
 {
     match end {
         End::Sending => match parts.events {
-            Some(events) => line_by(alloc, End::Sending, order, profile, parts, events),
+            Some(events) => answer_by(
+                alloc,
+                Task::Line(End::Sending),
+                order,
+                profile,
+                parts,
+                events,
+            ),
             None => refusal(alloc, "bundle: I4 bad part events"),
         },
         End::Receiving => match parts.octets {
-            Some(octets) => line_by(alloc, End::Receiving, order, profile, parts, octets),
+            Some(octets) => answer_by(
+                alloc,
+                Task::Line(End::Receiving),
+                order,
+                profile,
+                parts,
+                octets,
+            ),
             None => refusal(alloc, "bundle: I4 bad part octets"),
         },
     }
 }
 
-/// The answer at an end, by the octets of a profile and of the end's part.
-fn line_by(
-    alloc: Global,
-    end: End,
-    order: &Order<'_>,
-    profile: &[u8],
-    parts: &Parts<'_>,
-    input: &[u8],
-) -> Result<Answer, AllocError>
-    ensures { IfOk result (spec.AnswersLineBy end (spec.line_version order.now.is_wide) order.now.top.now profile.now (origin_of order.now.version parts.now.certificate) input.now) }
-{
-    match accept(alloc, order.top, profile, Origin::of(order.version, parts))? {
-        Judged::Accepted(accepted) => {
-            let version = line_version(order.is_wide);
-            answer_end(alloc, end, version, &accepted, input)
-        }
-        Judged::Refused(line) => refusal(alloc, line.as_str()),
-    }
-}
-
 /// The version of a line: the second, where the wide line is asked for.
-fn line_version(wide: bool) -> LineVersion
+pub(crate) fn line_version(wide: bool) -> LineVersion
     ensures { result ≡ spec.line_version wide }
 {
     if wide {
@@ -82,7 +75,7 @@ fn line_version(wide: bool) -> LineVersion
 }
 
 /// The answer at an end of a line of a version, by an accepted profile.
-fn answer_end(
+pub(crate) fn answer_end(
     alloc: Global,
     end: End,
     version: LineVersion,

@@ -20,6 +20,16 @@ use tool_words::words::Form;
 use walk_loss::{Journal, judge};
 use walk_robust::RobustFault;
 
+/// Items that are sent where packets may be lost: their sender, the contexts in which a receiver may be before the next packet, what is counted of the packets so
+/// far, and what receivers read of them.
+#[derive(Drop)]
+struct LossRun {
+    sender: Sender,
+    held: Items<Context>,
+    tally: Tally,
+    journal: Journal,
+}
+
 /// What receivers read of the packets of items where up to so many packets are lost, or the line of the first item that is refused.
 pub(crate) fn lose_all(
     alloc: Global,
@@ -31,28 +41,23 @@ pub(crate) fn lose_all(
 ) -> Result<Answer, AllocError>
     ensures { IfOk result (spec.LosesItems form most accepted.now start items.now) }
 {
-    let mut sender = start;
     let mut held = Items::new(alloc);
-    held.push(sender.context().copy(alloc)?)?;
-    let mut tally = Tally::none();
-    let mut journal = Journal::new(alloc);
+    held.push(start.context().copy(alloc)?)?;
+    let tally = Tally::none();
+    let journal = Journal::new(alloc);
+    let mut run = LossRun {
+        sender: start,
+        held,
+        tally,
+        journal,
+    };
     for (i, item) in items.iter().enumerate() {
-        let refused = lose_one(
-            alloc,
-            accepted,
-            most,
-            &mut sender,
-            &mut held,
-            &mut tally,
-            &mut journal,
-            i + 1,
-            item,
-        )?;
+        let refused = lose_one(alloc, accepted, most, &mut run, i + 1, item)?;
         if let Some(fault) = refused {
             return refuse(alloc, i + 1, fault);
         }
     }
-    print_losses(alloc, accepted, form, most, tally, &journal)
+    print_losses(alloc, accepted, form, most, run.tally, &run.journal)
 }
 
 /// The line of a refused item.
@@ -70,28 +75,25 @@ fn lose_one(
     alloc: Global,
     accepted: &Accepted,
     most: u8,
-    sender: &mut Sender,
-    held: &mut Items<Context>,
-    tally: &mut Tally,
-    journal: &mut Journal,
+    run: &mut LossRun,
     number: usize,
     item: &Item,
 ) -> Result<Option<RobustFault>, AllocError>
-    ensures { IfOk result (spec.IsLossStep accepted.now most sender.old sender.new held.old held.new tally.old tally.new journal.old journal.new number item.now) }
+    ensures { IfOk result (spec.IsLossStep accepted.now most run.old run.new number item.now) }
 {
-    match sender.send(alloc, accepted, item) {
+    match run.sender.send(alloc, accepted, item) {
         Ok(sent) => {
             judge(
                 alloc,
                 accepted,
-                held.as_slice(),
+                run.held.as_slice(),
                 number,
                 item,
                 &sent,
-                journal,
+                &mut run.journal,
             )?;
-            *tally = tally.with(&sent.filling)?;
-            hold(alloc, most, held, number, sender.context())?;
+            run.tally = run.tally.with(&sent.filling)?;
+            hold(alloc, most, &mut run.held, number, run.sender.context())?;
             Ok(None)
         }
         Err(fault) => Ok(Some(fault)),

@@ -35,6 +35,22 @@ pub enum Shape<'a> {
     Why(&'a [u8]),
 }
 
+/// An item that is refused: its number, which counts from 1, the item, and why.
+#[derive(Drop)]
+pub(crate) struct RefusedItem<'a> {
+    pub number: usize,
+    pub item: &'a Item,
+    pub fault: PackFault,
+}
+
+/// A packet that is refused: its number, which counts from 1, the packet, and why.
+#[derive(Clone, Copy)]
+pub(crate) struct RefusedPacket<'a> {
+    pub number: usize,
+    pub packet: &'a Bits,
+    pub fault: UnpackFault,
+}
+
 /// The status after an item or a packet that is refused.
 pub(crate) fn stop_status(shape: Shape<'_>) -> Status
     ensures { result ≡ spec.stop_of shape.entry }
@@ -165,7 +181,12 @@ fn pack_one(
             Ok(false)
         }
         Err(fault) => {
-            stop_item(alloc, shape, accepted, context, output, number, item, fault)?;
+            let refused = RefusedItem {
+                number,
+                item,
+                fault,
+            };
+            stop_item(alloc, shape, accepted, context, output, refused)?;
             Ok(true)
         }
     }
@@ -178,20 +199,16 @@ fn stop_item(
     accepted: &Accepted,
     context: &Context,
     output: &mut String,
-    number: usize,
-    item: &Item,
-    fault: PackFault,
+    refused: RefusedItem<'_>,
 ) -> Result<(), AllocError>
-    requires flow { fault ≢ PackFault.Flow }
-    requires blames { writing.Blames fault accepted.now context.now item.now }
-    ensures { OnOk result (spec.HasLine (spec.FaultsItem shape.entry accepted.now context.now number item.now) (string_bytes output.old) (string_bytes output.new)) }
+    requires flow { refused.fault ≢ PackFault.Flow }
+    requires blames { writing.Blames refused.fault accepted.now context.now refused.item.now }
+    ensures { OnOk result (spec.HasLine (spec.FaultsItem shape.entry accepted.now context.now refused.entry.number refused.entry.item.now) (string_bytes output.old) (string_bytes output.new)) }
 {
     match shape {
-        Shape::Line => refuse_item(alloc, output, number, fault),
-        Shape::Tree(_) => refuse_item(alloc, output, number, fault),
-        Shape::Why(octets) => explain_item(
-            alloc, octets, accepted, context, output, number, item, fault,
-        ),
+        Shape::Line => refuse_item(alloc, output, refused.number, refused.fault),
+        Shape::Tree(_) => refuse_item(alloc, output, refused.number, refused.fault),
+        Shape::Why(octets) => explain_item(alloc, octets, accepted, context, output, refused),
     }
 }
 
@@ -364,9 +381,12 @@ fn unpack_one(
             Ok(false)
         }
         Err(fault) => {
-            stop_packet(
-                alloc, shape, accepted, context, output, number, packet, fault,
-            )?;
+            let refused = RefusedPacket {
+                number,
+                packet,
+                fault,
+            };
+            stop_packet(alloc, shape, accepted, context, output, refused)?;
             Ok(true)
         }
     }
@@ -379,19 +399,15 @@ fn stop_packet(
     accepted: &Accepted,
     context: &Context,
     output: &mut String,
-    number: usize,
-    packet: &Bits,
-    fault: UnpackFault,
+    refused: RefusedPacket<'_>,
 ) -> Result<(), AllocError>
-    requires { reading.Blames fault accepted.now context.now packet.now }
-    ensures { OnOk result (spec.HasLine (spec.FaultsPacket shape.entry accepted.now context.now number packet.now) (string_bytes output.old) (string_bytes output.new)) }
+    requires { reading.Blames refused.fault accepted.now context.now refused.packet.now }
+    ensures { OnOk result (spec.HasLine (spec.FaultsPacket shape.entry accepted.now context.now refused.entry.number refused.entry.packet.now) (string_bytes output.old) (string_bytes output.new)) }
 {
     match shape {
-        Shape::Line => refuse_packet(alloc, accepted, output, number, fault),
-        Shape::Tree(_) => refuse_packet(alloc, accepted, output, number, fault),
-        Shape::Why(octets) => explain_packet(
-            alloc, octets, accepted, context, output, number, packet, fault,
-        ),
+        Shape::Line => refuse_packet(alloc, accepted, output, refused.number, refused.fault),
+        Shape::Tree(_) => refuse_packet(alloc, accepted, output, refused.number, refused.fault),
+        Shape::Why(octets) => explain_packet(alloc, octets, accepted, context, output, refused),
     }
 }
 

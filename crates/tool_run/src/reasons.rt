@@ -8,37 +8,34 @@ ghost use Rattle.tool_run.specs.Asked as words;
 ghost use Rattle.tool_run.specs.Printed as spec;
 
 use crate::asked::asked_words;
-use crate::packets::{item_fault, packet_fault};
+use crate::packets::{RefusedItem, RefusedPacket, item_fault, packet_fault};
 use cert_accepted::Accepted;
 use sem_bits::Bits;
 use sem_context::Context;
 use sem_expr::Side;
 use sem_filling::Item;
 use sem_lint::Judged;
-use sem_reasons::{Line, Spot, reasons};
+use sem_reasons::{Line, Question, reasons};
 use sqlite_items::Items;
 use std::alloc::{AllocError, Global};
 use tool_input::texts::push_line;
 use tool_items::why::push_reasons;
-use walk_engine::{PackFault, UnpackFault};
+use walk_engine::PackFault;
 
-/// Adds the line of a refused item, whose number counts from 1, and then what is wrong with its asked values, or what stands against each format, by the octets of the
-/// profile.
+/// Adds the line of a refused item, and then what is wrong with its asked values, or what stands against each format, by the octets of the profile.
 pub(crate) fn explain_item(
     alloc: Global,
     octets: &[u8],
     accepted: &Accepted,
     context: &Context,
     output: &mut String,
-    number: usize,
-    item: &Item,
-    fault: PackFault,
+    refused: RefusedItem<'_>,
 ) -> Result<(), AllocError>
-    requires flow { fault ≢ PackFault.Flow }
-    requires blames { writing.Blames fault accepted.now context.now item.now }
-    ensures { OnOk result (spec.HasLine (spec.ExplainsItem octets.now accepted.now context.now number item.now) (string_bytes output.old) (string_bytes output.new)) }
+    requires flow { refused.fault ≢ PackFault.Flow }
+    requires blames { writing.Blames refused.fault accepted.now context.now refused.item.now }
+    ensures { OnOk result (spec.HasLine (spec.ExplainsItem octets.now accepted.now context.now refused.entry.number refused.entry.item.now) (string_bytes output.old) (string_bytes output.new)) }
 {
-    let text = item_text(alloc, octets, accepted, context, number, item, fault)?;
+    let text = item_text(alloc, octets, accepted, context, refused)?;
     push_line(output, text.as_str())
 }
 
@@ -47,14 +44,17 @@ fn item_text(
     octets: &[u8],
     accepted: &Accepted,
     context: &Context,
-    number: usize,
-    item: &Item,
-    fault: PackFault,
+    refused: RefusedItem<'_>,
 ) -> Result<String, AllocError>
-    requires flow { fault ≢ PackFault.Flow }
-    requires blames { writing.Blames fault accepted.now context.now item.now }
-    ensures { IfOk result (λ text. spec.ExplainsItem octets.now accepted.now context.now number item.now (string_bytes text)) }
+    requires flow { refused.fault ≢ PackFault.Flow }
+    requires blames { writing.Blames refused.fault accepted.now context.now refused.item.now }
+    ensures { IfOk result (λ text. spec.ExplainsItem octets.now accepted.now context.now refused.entry.number refused.entry.item.now (string_bytes text)) }
 {
+    let RefusedItem {
+        number,
+        item,
+        fault,
+    } = refused;
     let more = item_more(alloc, octets, accepted, context, item, &fault)?;
     let mut text = item_fault(alloc, number, fault)?;
     text.push_str(more.as_str())?;
@@ -136,7 +136,7 @@ fn item_reasons(
 {
     let profile = accepted.profile();
     let judged = Judged::of(alloc, profile)?;
-    let spot = Spot {
+    let question = Question {
         profile: &judged,
         context,
         method: profile.top(),
@@ -147,24 +147,22 @@ fn item_reasons(
         is_whole: true,
         asked: item.asked.as_slice(),
     };
-    reasons(alloc, &spot)
+    reasons(alloc, &question)
 }
 
-/// Adds the line of a refused packet, whose number counts from 1, and then what stands against each format, by the octets of the profile.
+/// Adds the line of a refused packet, and then what stands against each format, by the octets of the profile.
 pub(crate) fn explain_packet(
     alloc: Global,
     octets: &[u8],
     accepted: &Accepted,
     context: &Context,
     output: &mut String,
-    number: usize,
-    packet: &Bits,
-    fault: UnpackFault,
+    refused: RefusedPacket<'_>,
 ) -> Result<(), AllocError>
-    requires { reading.Blames fault accepted.now context.now packet.now }
-    ensures { OnOk result (spec.HasLine (spec.ExplainsPacket octets.now accepted.now context.now number packet.now) (string_bytes output.old) (string_bytes output.new)) }
+    requires { reading.Blames refused.fault accepted.now context.now refused.packet.now }
+    ensures { OnOk result (spec.HasLine (spec.ExplainsPacket octets.now accepted.now context.now refused.entry.number refused.entry.packet.now) (string_bytes output.old) (string_bytes output.new)) }
 {
-    let text = packet_text(alloc, octets, accepted, context, number, packet, fault)?;
+    let text = packet_text(alloc, octets, accepted, context, refused)?;
     push_line(output, text.as_str())
 }
 
@@ -173,17 +171,15 @@ fn packet_text(
     octets: &[u8],
     accepted: &Accepted,
     context: &Context,
-    number: usize,
-    packet: &Bits,
-    fault: UnpackFault,
+    refused: RefusedPacket<'_>,
 ) -> Result<String, AllocError>
-    requires { reading.Blames fault accepted.now context.now packet.now }
-    ensures { IfOk result (λ text. spec.ExplainsPacket octets.now accepted.now context.now number packet.now (string_bytes text)) }
+    requires { reading.Blames refused.fault accepted.now context.now refused.packet.now }
+    ensures { IfOk result (λ text. spec.ExplainsPacket octets.now accepted.now context.now refused.entry.number refused.entry.packet.now (string_bytes text)) }
 {
     let profile = accepted.profile();
     profile.keeps();
-    let lines = packet_reasons(alloc, accepted, context, packet)?;
-    let mut text = packet_fault(alloc, profile.methods(), number, fault)?;
+    let lines = packet_reasons(alloc, accepted, context, refused.packet)?;
+    let mut text = packet_fault(alloc, profile.methods(), refused.number, refused.fault)?;
     push_reasons(alloc, &mut text, octets, profile, &[], lines.as_slice())?;
     Ok(text)
 }
@@ -199,7 +195,7 @@ fn packet_reasons(
 {
     let profile = accepted.profile();
     let judged = Judged::of(alloc, profile)?;
-    let spot = Spot {
+    let question = Question {
         profile: &judged,
         context,
         method: profile.top(),
@@ -210,5 +206,5 @@ fn packet_reasons(
         is_whole: false,
         asked: &[],
     };
-    reasons(alloc, &spot)
+    reasons(alloc, &question)
 }

@@ -16,6 +16,14 @@ use tool_input::texts::push_line;
 use walk_engine::Packed;
 use walk_robust::RobustFault;
 
+/// An item that a sender refuses: its number, which counts from 1, the item, and why.
+#[derive(Drop)]
+pub(crate) struct UnsentItem<'a> {
+    pub number: usize,
+    pub item: &'a Item,
+    pub fault: RobustFault,
+}
+
 /// What is printed of each item in the shape, up to the first that is refused, and after the last the sender's own context, where it is wanted.
 pub(crate) fn send_all(
     alloc: Global,
@@ -67,7 +75,12 @@ fn send_one(
             Ok(false)
         }
         Err(fault) => {
-            stop_sent(alloc, shape, accepted, sender, output, number, item, fault)?;
+            let unsent = UnsentItem {
+                number,
+                item,
+                fault,
+            };
+            stop_sent(alloc, shape, accepted, sender, output, unsent)?;
             Ok(true)
         }
     }
@@ -80,19 +93,15 @@ fn stop_sent(
     accepted: &Accepted,
     sender: &Sender,
     output: &mut String,
-    number: usize,
-    item: &Item,
-    fault: RobustFault,
+    unsent: UnsentItem<'_>,
 ) -> Result<(), AllocError>
-    requires { senders.Blames fault accepted.now sender.now item.now }
-    ensures { OnOk result (spec.HasLine (spec.FaultsSent shape.entry accepted.now sender.now number item.now) (string_bytes output.old) (string_bytes output.new)) }
+    requires { senders.Blames unsent.fault accepted.now sender.now unsent.item.now }
+    ensures { OnOk result (spec.HasLine (spec.FaultsSent shape.entry accepted.now sender.now unsent.entry.number unsent.entry.item.now) (string_bytes output.old) (string_bytes output.new)) }
 {
     match shape {
-        Shape::Line => refuse_sent(alloc, accepted, sender, output, number, item, fault),
-        Shape::Tree(_) => refuse_sent(alloc, accepted, sender, output, number, item, fault),
-        Shape::Why(octets) => explain_sent(
-            alloc, octets, accepted, sender, output, number, item, fault,
-        ),
+        Shape::Line => refuse_sent(alloc, accepted, sender, output, unsent),
+        Shape::Tree(_) => refuse_sent(alloc, accepted, sender, output, unsent),
+        Shape::Why(octets) => explain_sent(alloc, octets, accepted, sender, output, unsent),
     }
 }
 
@@ -102,17 +111,14 @@ fn refuse_sent(
     accepted: &Accepted,
     sender: &Sender,
     output: &mut String,
-    number: usize,
-    item: &Item,
-    fault: RobustFault,
+    unsent: UnsentItem<'_>,
 ) -> Result<(), AllocError>
-    requires { senders.Blames fault accepted.now sender.now item.now }
-    ensures { OnOk result (spec.HasLine (senders.RefusesSent accepted.now sender.now number item.now) (string_bytes output.old) (string_bytes output.new)) }
+    requires { senders.Blames unsent.fault accepted.now sender.now unsent.item.now }
+    ensures { OnOk result (spec.HasLine (senders.RefusesSent accepted.now sender.now unsent.entry.number unsent.entry.item.now) (string_bytes output.old) (string_bytes output.new)) }
 {
     let _ = accepted;
     let _ = sender;
-    let _ = item;
-    let line = sender_fault(alloc, number, fault)?;
+    let line = sender_fault(alloc, unsent.number, unsent.fault)?;
     push_line(output, line.as_str())
 }
 

@@ -14,21 +14,21 @@ use crate::loss::lose_all;
 use crate::packets::Shape;
 use crate::sender::Sender;
 use crate::senders::{send_all, sender_fault};
+use crate::way::{InputTask, Task, answer_by};
 use cert_accepted::Accepted;
 use sem_context::Context;
 use sem_filling::Item;
 use sem_profile::Method;
 use std::alloc::{AllocError, Global};
 use tool_input::bundle::Parts;
-use tool_input::inputs::{BadLine, read_context, read_items};
-use tool_input::refusals::{context_line, refusal};
+use tool_input::inputs::{BadLine, read_items};
+use tool_input::refusals::refusal;
 use tool_input::status::{Answer, Status};
 use tool_input::texts::push_line;
 use tool_items::stats::stats_text;
 use tool_items::stats_objects::{push_item, stats_objects};
 use tool_items::{Sums, Tally};
 use tool_names::names::format_name;
-use tool_report::profile_and_certificate::{Judged, Origin, accept};
 use tool_words::words::{Counting, Direction, Form, Order};
 use walk_engine::Packed;
 use walk_robust::RobustFault;
@@ -64,50 +64,16 @@ pub(crate) fn answer_stats(
     ensures { IfOk result (spec.AnswersStats what.entry order.now profile.now parts.now) }
 {
     match parts.items {
-        Some(items) => stats_by(alloc, what, order, profile, parts, items),
+        Some(items) => {
+            let task = Task::Inputs(InputTask::Survey(what));
+            answer_by(alloc, task, order, profile, parts, items)
+        }
         None => refusal(alloc, "bundle: I4 bad part items"),
     }
 }
 
-/// The answer by the octets of a profile and of items.
-fn stats_by(
-    alloc: Global,
-    what: Survey<'_>,
-    order: &Order<'_>,
-    profile: &[u8],
-    parts: &Parts<'_>,
-    input: &[u8],
-) -> Result<Answer, AllocError>
-    ensures { IfOk result (spec.AnswersStatsBy what.entry order.now profile.now parts.now input.now) }
-{
-    match accept(alloc, order.top, profile, Origin::of(order.version, parts))? {
-        Judged::Accepted(accepted) => stats_for(alloc, what, &accepted, parts, input),
-        Judged::Refused(line) => refusal(alloc, line.as_str()),
-    }
-}
-
-/// The answer by an accepted profile and the octets of items.
-fn stats_for(
-    alloc: Global,
-    what: Survey<'_>,
-    accepted: &Accepted,
-    parts: &Parts<'_>,
-    input: &[u8],
-) -> Result<Answer, AllocError>
-    ensures { IfOk result (spec.AnswersStatsFor what.entry accepted.now parts.now.context input.now) }
-{
-    match read_context(alloc, parts) {
-        Ok(context) => stats_in(alloc, what, accepted, context, input),
-        Err(BadLine::Number(number)) => {
-            let line = context_line(alloc, number)?;
-            refusal(alloc, line.as_str())
-        }
-        Err(BadLine::OutOfMemory) => Err(AllocError),
-    }
-}
-
 /// The answer in a context, by the octets of items.
-fn stats_in(
+pub(crate) fn stats_in(
     alloc: Global,
     what: Survey<'_>,
     accepted: &Accepted,

@@ -139,7 +139,7 @@ pub record AreCountedLines (octets : List ℕ) (p : Resolved) (cert : Entries) (
   pub are_counted : AreCounted p.methods cert counts
   pub text_is : text ≡ candidates_text octets p.methods cert counts
 
--- a refusal since memory is out is none of the profile
+-- a refusal where memory is out is none of the profile
 abbrev pub is_of_profile : Unproved → Bool
 is_of_profile OutOfMemory = false
 is_of_profile _ = true

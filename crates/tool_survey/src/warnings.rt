@@ -20,6 +20,17 @@ use tool_names::candidates::{
 };
 use tool_names::names::{field_name, format_name, method_name, method_place};
 
+/// What there is to warn of: what the rules find, the lines on candidates, and the paths of the given context that no format has.
+#[derive(Clone, Copy)]
+struct Findings<'a> {
+    needing: &'a [Needing],
+    misspelled: &'a [Misspelled],
+    unnoticed: &'a [Unnoticed],
+    unlike: &'a [UnlikeCall],
+    candidates: &'a str,
+    unknown: &'a [&'a str],
+}
+
 /// A line for each format that needs what can't be in the context, for each name that may be misspelled, for formats by which a wrong reference is not noticed, for
 /// each method whose formats don't call alike, for each method with too many candidates and below it for each of its formats, and for each path of the given
 /// context that no format has.
@@ -39,39 +50,32 @@ pub(crate) fn warnings(
     let unlike = unlike_calls(alloc, methods)?;
     let candidates = candidate_lines(alloc, places, profile)?;
     let unknown = unknown_paths(alloc, profile, given.as_slice())?;
-    all_lines(
-        alloc,
-        places,
-        methods,
-        needing.as_slice(),
-        misspelled.as_slice(),
-        unnoticed.as_slice(),
-        unlike.as_slice(),
-        candidates.as_str(),
-        unknown.as_slice(),
-    )
+    let found = Findings {
+        needing: needing.as_slice(),
+        misspelled: misspelled.as_slice(),
+        unnoticed: unnoticed.as_slice(),
+        unlike: unlike.as_slice(),
+        candidates: candidates.as_str(),
+        unknown: unknown.as_slice(),
+    };
+    all_lines(alloc, places, methods, &found)
 }
 
 fn all_lines(
     alloc: Global,
     places: &Places<'_>,
     methods: &[Method],
-    needing: &[Needing],
-    misspelled: &[Misspelled],
-    unnoticed: &[Unnoticed],
-    unlike: &[UnlikeCall],
-    candidates: &str,
-    unknown: &[&str],
+    found: &Findings<'_>,
 ) -> Result<String, AllocError>
-    ensures { IfOk result (λ text. string_bytes text ≡ spec.warning_lines places.now methods.now needing.now misspelled.now unnoticed.now unlike.now candidates.now (map (λ p. p.now) unknown.now)) }
+    ensures { IfOk result (λ text. string_bytes text ≡ spec.warning_lines places.now methods.now found.now.needing.now found.now.misspelled.now found.now.unnoticed.now found.now.unlike.now found.now.candidates.now (map (λ p. p.now) found.now.unknown.now)) }
 {
     let mut text = String::new(alloc);
-    push_all_needing(alloc, &mut text, places, methods, needing)?;
-    push_all_misspelled(alloc, &mut text, places, methods, misspelled)?;
-    push_all_unnoticed(alloc, &mut text, places, methods, unnoticed)?;
-    push_all_unlike(alloc, &mut text, places, methods, unlike)?;
-    text.push_str(candidates)?;
-    push_all_unknown(alloc, &mut text, unknown)?;
+    push_all_needing(alloc, &mut text, places, methods, found.needing)?;
+    push_all_misspelled(alloc, &mut text, places, methods, found.misspelled)?;
+    push_all_unnoticed(alloc, &mut text, places, methods, found.unnoticed)?;
+    push_all_unlike(alloc, &mut text, places, methods, found.unlike)?;
+    text.push_str(found.candidates)?;
+    push_all_unknown(alloc, &mut text, found.unknown)?;
     Ok(text)
 }
 
@@ -323,6 +327,14 @@ fn unknown_words(alloc: Global, path: &str) -> Result<String, AllocError>
 
 // ---- candidates
 
+/// The methods of a profile, what a certificate says of each, and the numbers of candidates by that.
+#[derive(Clone, Copy)]
+struct CountedMethods<'a> {
+    methods: &'a [Method],
+    entries: &'a [Option<MethodPlans>],
+    counts: &'a Counts,
+}
+
 /// A line for each method that has more candidates than the limit by the certificate that the prover makes, and below it one for each of its formats. No lines, where the
 /// prover makes none.
 fn candidate_lines(
@@ -360,14 +372,12 @@ fn counted_lines(
 {
     let counts = count_all(alloc, profile, certificate)?;
     let mut text = String::new(alloc);
-    push_all_crowded(
-        alloc,
-        &mut text,
-        places,
-        profile.methods(),
-        certificate.methods(),
-        &counts,
-    )?;
+    let counted = CountedMethods {
+        methods: profile.methods(),
+        entries: certificate.methods(),
+        counts: &counts,
+    };
+    push_all_crowded(alloc, &mut text, places, &counted)?;
     Ok(text)
 }
 
@@ -375,14 +385,12 @@ fn push_all_crowded(
     alloc: Global,
     text: &mut String,
     places: &Places<'_>,
-    methods: &[Method],
-    entries: &[Option<MethodPlans>],
-    counts: &Counts,
+    counted: &CountedMethods<'_>,
 ) -> Result<(), AllocError>
-    ensures { OnOk result (string_bytes text.new ≡ string_bytes text.old ++ spec.candidates_text places.now methods.now entries.now counts.now) }
+    ensures { OnOk result (string_bytes text.new ≡ string_bytes text.old ++ spec.candidates_text places.now counted.now.methods.now counted.now.entries.now counted.now.counts.now) }
 {
-    for (index, method) in methods.iter().enumerate() {
-        push_crowded(alloc, text, places, methods, entries, counts, index, method)?;
+    for (index, method) in counted.methods.iter().enumerate() {
+        push_crowded(alloc, text, places, counted, index, method)?;
     }
     Ok(())
 }
@@ -392,19 +400,17 @@ fn push_crowded(
     alloc: Global,
     text: &mut String,
     places: &Places<'_>,
-    methods: &[Method],
-    entries: &[Option<MethodPlans>],
-    counts: &Counts,
+    counted: &CountedMethods<'_>,
     index: usize,
     method: &Method,
 ) -> Result<(), AllocError>
-    ensures { OnOk result (string_bytes text.new ≡ string_bytes text.old ++ spec.crowded_lines places.now methods.now entries.now counts.now index method.now) }
+    ensures { OnOk result (string_bytes text.new ≡ string_bytes text.old ++ spec.crowded_lines places.now counted.now.methods.now counted.now.entries.now counted.now.counts.now index method.now) }
 {
-    let count = method_count(counts, index);
+    let count = method_count(counted.counts, index);
     if count <= CANDIDATE_LIMIT {
         return Ok(());
     }
-    let head = method_head(alloc, places, methods, index)?;
+    let head = method_head(alloc, places, counted.methods, index)?;
     let shown = count_text(alloc, count)?;
     let line = crowded_words(alloc, head.as_str(), shown.as_str())?;
     text.push_str(line.as_str())?;
@@ -412,9 +418,7 @@ fn push_crowded(
         alloc,
         text,
         places,
-        methods,
-        entries,
-        counts,
+        counted,
         index,
         method.formats.as_slice(),
     )
@@ -446,18 +450,14 @@ fn push_all_ways(
     alloc: Global,
     text: &mut String,
     places: &Places<'_>,
-    methods: &[Method],
-    entries: &[Option<MethodPlans>],
-    counts: &Counts,
+    counted: &CountedMethods<'_>,
     method: usize,
     formats: &[Format],
 ) -> Result<(), AllocError>
-    ensures { OnOk result (string_bytes text.new ≡ string_bytes text.old ++ spec.ways_lines places.now methods.now entries.now counts.now method formats.now) }
+    ensures { OnOk result (string_bytes text.new ≡ string_bytes text.old ++ spec.ways_lines places.now counted.now.methods.now counted.now.entries.now counted.now.counts.now method formats.now) }
 {
     for (index, format) in formats.iter().enumerate() {
-        push_ways(
-            alloc, text, places, methods, entries, counts, method, index, format,
-        )?;
+        push_ways(alloc, text, places, counted, method, index, format)?;
     }
     Ok(())
 }
@@ -467,15 +467,18 @@ fn push_ways(
     alloc: Global,
     text: &mut String,
     places: &Places<'_>,
-    methods: &[Method],
-    entries: &[Option<MethodPlans>],
-    counts: &Counts,
+    counted: &CountedMethods<'_>,
     method: usize,
     index: usize,
     format: &Format,
 ) -> Result<(), AllocError>
-    ensures { OnOk result (string_bytes text.new ≡ string_bytes text.old ++ spec.ways_line places.now methods.now entries.now counts.now method index format.now) }
+    ensures { OnOk result (string_bytes text.new ≡ string_bytes text.old ++ spec.ways_line places.now counted.now.methods.now counted.now.entries.now counted.now.counts.now method index format.now) }
 {
+    let CountedMethods {
+        methods,
+        entries,
+        counts,
+    } = *counted;
     let steps = write_steps(entries, method, index);
     let found = factors(alloc, counts.methods.as_slice(), format, steps)?;
     let head = format_head(alloc, places, methods, method, index)?;

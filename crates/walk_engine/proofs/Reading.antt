@@ -9,13 +9,13 @@ use Rattle.sem_filling.specs.declared.filling.Filling.{Filling}
 use Rattle.sem_filling.specs.Fillings.{packed}
 use Rattle.cert_rules.specs.Reading.{IsAhead}
 use Rattle.walk_read.specs.Walk.{spot_of}
-use Rattle.cert_accepted.specs.declared.place.Place.{Place}
+use Rattle.cert_accepted.specs.declared.frame.AcceptedFrame.{AcceptedFrame}
 use Rattle.walk_engine.specs.Top.{IsTop}
 use Rattle.walk_engine.specs.Reading.{Fronts, IsAlone, IsTruncated, IsRefused}
 
 -- a filling at the front of the bits and further ones is ahead for the walk
-pub ahead_of : (a : Accepting) (ctx : Entries) (place : Place) → IsTop a ctx place → (bits more : List Bool) (f : Filling) → Fronts a ctx (bits ++ more) f →
-    IsAhead place.accepted.now.profile.methods (bits_at place.context.now) (spot_of place bits) f
+pub ahead_of : (a : Accepting) (ctx : Entries) (place : AcceptedFrame) → IsTop a ctx place → (bits more : List Bool) (f : Filling) → Fronts a ctx (bits ++ more) f →
+    IsAhead place.accepted.now.profile.methods (bits_at place.frame.context.now) (spot_of place bits) f
 ahead_of a ctx place t bits more f h = record { more = more; in_front = rw (t.accepted_is, t.context_is, t.method_is, t.arguments_are, t.path_is) h }
 
 module _ (a : Accepting) (ctx : Entries) (bits : List Bool) (g : Filling) (only : IsAlone a ctx bits g) (b : List Bool) (same : b ≡ packed g) where

@@ -22,7 +22,7 @@ use Rattle.sem_profile.specs.declared.profile.Method.{Method}
 use Rattle.sem_profile.specs.Resolved.{Resolved, IsSound}
 use Rattle.cert_rules.specs.Counts.{AreCounts}
 use Rattle.cert_trees.proofs.Counting.{each_is_counted}
-use Rattle.cert_accepted.specs.declared.place.Place.{Place}
+use Rattle.cert_accepted.specs.declared.frame.AcceptedFrame.{AcceptedFrame}
 use Rattle.cert_candidates.specs.Writing.{IsChecked, top_site}
 use Rattle.cert_candidates.proofs.WritingLawsGoing.{top_begins, top_passes}
 use Rattle.cert_candidates.proofs.WritingSingle.{one_numbered}
@@ -56,7 +56,7 @@ module _ (a : Accepting) (ctx : Entries) (it : Item) where
   -- ---- what a candidate tells
 
   -- what a walk of the top passes the search passes
-  pub passed : (place : Place) → IsTop a ctx place → (c skipped : ℕ) → Fails place it.header it.asked c skipped → IsPassed a ctx it c skipped
+  pub passed : (place : AcceptedFrame) → IsTop a ctx place → (c skipped : ℕ) → Fails place it.header it.asked c skipped → IsPassed a ctx it c skipped
   passed place t c skipped h = record {
     some = h.some;
     within = rw (t.accepted_is, t.method_is) at h.within;

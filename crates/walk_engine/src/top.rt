@@ -1,31 +1,45 @@
 //! The top of an accepted profile, and what fits it.
 
-ghost use Rattle.std.specs.Prelude.{◌≡◌, ◌+◌, ◌/◌, ◌≤◌, ◌^◌, IfOk, IfSome, IfNone, length, slice_get};
+ghost use Rattle.std.specs.Prelude.{◌≡◌, [], ◌+◌, ◌/◌, ◌≤◌, ◌^◌, IfOk, IfSome, IfNone, length, slice_get};
 ghost use Rattle.std.specs.Option.{option_copied};
 ghost use Rattle.sem_filling.specs.Fillings as sides;
 ghost use Rattle.cert_accepted.specs.Standing.{Stands, HasDepth};
 ghost use Rattle.walk_engine.specs.Reading.{Fitting};
 ghost use Rattle.walk_engine.specs.Top.{IsMostOctets, IsTop};
 
-use cert_accepted::place::{format_of, sizes_of};
-use cert_accepted::{Accepted, Place};
+use cert_accepted::frame::{format_of, sizes_of};
+use cert_accepted::{Accepted, AcceptedFrame};
 use sem_bits::Bits;
 use sem_context::Context;
-use sem_filling::{Filling, Item, WholeSides};
+use sem_filling::{Filling, Frame, Item, WholeSides};
 use sem_holds::sides_if_fits;
-use sem_profile::{MethodSizes, is_listed};
+use sem_profile::{MethodSizes, Profile, is_listed};
 use std::alloc::{AllocError, Global};
 
 /// Where a walk fills the top.
-pub(crate) fn top_place<'a>(accepted: &'a Accepted, context: &'a Context) -> Place<'a>
+pub(crate) fn top_place<'a>(accepted: &'a Accepted, context: &'a Context) -> AcceptedFrame<'a>
     ensures top { IsTop accepted.now context.now result }
     ensures stands { Stands result }
     ensures deep { HasDepth result 16 }
 {
     let profile = accepted.profile();
     profile.keeps();
-    Place {
+    AcceptedFrame {
         accepted,
+        frame: top_frame(profile, context),
+    }
+}
+
+/// The frame of the top, which has no arguments and stands at the empty path.
+fn top_frame<'a>(profile: &'a Profile, context: &'a Context) -> Frame<'a>
+    ensures profile { result.profile.now ≡ profile.now }
+    ensures context { result.context.now ≡ context.now }
+    ensures method { result.method ≡ profile.now.top }
+    ensures arguments { result.arguments.now ≡ [] }
+    ensures path { result.path.now ≡ [] }
+{
+    Frame {
+        profile,
         context,
         method: profile.top(),
         arguments: [].as_slice(),
@@ -92,15 +106,7 @@ pub(crate) fn fits(
 {
     let profile = accepted.profile();
     profile.keeps();
-    sides_if_fits(
-        alloc,
-        profile,
-        context,
-        profile.top(),
-        [].as_slice(),
-        "",
-        filling,
-    )
+    sides_if_fits(alloc, &top_frame(profile, context), filling)
 }
 
 /// A law of fitting fillings: their packed bits are few.

@@ -109,7 +109,7 @@ all_cut p s t octets rest n found left a begun = record {
   begun = subst IsBegun (sym left) begun;
 }
 
--- nothing was taken, since memory is out
+-- nothing was taken: memory is out
 pub runs_out : (p : Accepting) (s : Contexts) (octets : List ℕ) → Stops p s octets [] OutOfMemory
 runs_out p s octets = record { frames = []; are_frames = tt; after = octets; octets_are = refl; contexts = s; received = receives_ended; blames = tt }
 

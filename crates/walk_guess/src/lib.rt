@@ -4,9 +4,9 @@
 pub use trial::runs_out;
 pub use walk::{guess, guess_item, is_hopeful};
 
+mod guess_frame;
 mod level;
 mod no_guess;
-mod place;
 mod start;
 mod steps;
 mod trial;

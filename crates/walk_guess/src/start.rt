@@ -1,10 +1,10 @@
 //! What a level begins with.
 
+use crate::guess_frame::GuessFrame;
 use crate::level::Guess;
 use crate::no_guess::NoGuess;
-use crate::place::Desk;
 use crate::steps::{argument_of, reference};
-use cert_compiled::{Beginning, Count, Spelled};
+use cert_compiled::{Beginning, Count, ShortBits};
 use sem_bits::{Bits, Cursor};
 use sem_expr::Side;
 use sem_filling::FilledField;
@@ -15,7 +15,7 @@ use std::alloc::{AllocError, Global};
 /// A level whose fields have what they begin with, and whose source begins so many places after the cursor's. The error is Nowhere or out of memory.
 pub(crate) fn begin_level<'a>(
     alloc: Global,
-    desk: &Desk<'a>,
+    here: &GuessFrame<'a>,
     format: &'a Format,
     beginnings: &[Beginning],
     source: &Cursor<'_>,
@@ -34,7 +34,7 @@ pub(crate) fn begin_level<'a>(
                 side,
                 copies,
             } => {
-                let count = count_of(desk, *count)?;
+                let count = count_of(here, *count)?;
                 let bits = bits_of(alloc, taken(source, from, *place, count)?)?;
                 let other = if *copies {
                     bits.copy(alloc)?
@@ -47,7 +47,7 @@ pub(crate) fn begin_level<'a>(
                 }
             }
             Beginning::Raised { .. } | Beginning::Lowered { .. } => {
-                let begun = referred(alloc, desk, field, beginning, source, from)?;
+                let begun = referred(alloc, here, field, beginning, source, from)?;
                 (
                     bits_of(alloc, begun.uncompressed)?,
                     bits_of(alloc, begun.compressed)?,
@@ -58,8 +58,8 @@ pub(crate) fn begin_level<'a>(
     }
     Ok(Guess {
         format,
-        arguments: desk.arguments,
-        header: desk.header,
+        arguments: here.frame.arguments,
+        header: here.header,
         fields,
         ahead: from,
     })
@@ -68,23 +68,28 @@ pub(crate) fn begin_level<'a>(
 /// Both sides of a field.
 #[derive(Clone, Copy)]
 struct Begun {
-    uncompressed: Spelled,
-    compressed: Spelled,
+    uncompressed: ShortBits,
+    compressed: ShortBits,
 }
 
 /// How many bits that is, where a number or a parameter tells it. The error is Nowhere.
-fn count_of(desk: &Desk<'_>, count: Count) -> Result<usize, NoGuess> {
+fn count_of(here: &GuessFrame<'_>, count: Count) -> Result<usize, NoGuess> {
     match count {
         Count::Number(count) => Ok(count),
-        Count::Parameter(index) => argument_of(desk.arguments, index),
+        Count::Parameter(index) => argument_of(here.frame.arguments, index),
         Count::Referred | Count::Noted => Err(NoGuess::Nowhere),
     }
 }
 
 /// The bits of the source. The error is Nowhere.
-fn taken(source: &Cursor<'_>, from: usize, place: usize, count: usize) -> Result<Spelled, NoGuess> {
+fn taken(
+    source: &Cursor<'_>,
+    from: usize,
+    place: usize,
+    count: usize,
+) -> Result<ShortBits, NoGuess> {
     match source.peek(from.saturating_add(place), count) {
-        Some(number) => Ok(Spelled { count, number }),
+        Some(number) => Ok(ShortBits { count, number }),
         None => Err(NoGuess::Nowhere),
     }
 }
@@ -93,7 +98,7 @@ fn taken(source: &Cursor<'_>, from: usize, place: usize, count: usize) -> Result
 #[inline(never)]
 fn referred(
     alloc: Global,
-    desk: &Desk<'_>,
+    here: &GuessFrame<'_>,
     field: &Field,
     beginning: &Beginning,
     source: &Cursor<'_>,
@@ -107,7 +112,7 @@ fn referred(
             offset,
         } => {
             let compressed = taken(source, from, *place, *count)?;
-            let reference = reference(alloc, desk, field)?;
+            let reference = reference(alloc, here, field)?;
             let packed = bits_of(alloc, compressed)?;
             let found = lsb_up(alloc, *bits, *offset, Some(reference), &packed)?;
             Ok(Begun {
@@ -121,7 +126,7 @@ fn referred(
             bits,
             offset,
         } => {
-            let reference = reference(alloc, desk, field)?;
+            let reference = reference(alloc, here, field)?;
             let count = match count {
                 Count::Number(count) => *count,
                 _ => reference.len(),
@@ -139,12 +144,12 @@ fn referred(
 }
 
 /// What the bits spell. The error is Nowhere, where there are none or more than 64.
-fn spelling_of(bits: Option<Bits>) -> Result<Spelled, NoGuess> {
+fn spelling_of(bits: Option<Bits>) -> Result<ShortBits, NoGuess> {
     let Some(bits) = bits else {
         return Err(NoGuess::Nowhere);
     };
     match bits.value() {
-        Some(number) => Ok(Spelled {
+        Some(number) => Ok(ShortBits {
             count: bits.len(),
             number,
         }),
@@ -172,7 +177,7 @@ pub(crate) fn add(
     }
 }
 
-fn bits_of(alloc: Global, spelled: Spelled) -> Result<Bits, NoGuess> {
+fn bits_of(alloc: Global, spelled: ShortBits) -> Result<Bits, NoGuess> {
     self::spelled(alloc, spelled.count, spelled.number)
 }
 

@@ -1,8 +1,8 @@
 //! The steps of a plan, without a test on the way.
 
+use crate::guess_frame::{Digits, GuessFrame};
 use crate::level::Guess;
 use crate::no_guess::NoGuess;
-use crate::place::{Desk, Digits};
 use crate::start::spelled;
 use crate::values::{known_whole, number_of, whole_of};
 use cert_compiled::{Count, Operation};
@@ -20,7 +20,7 @@ use std::alloc::Global;
 /// Does what calls no method. The error is Nowhere or out of memory.
 pub(crate) fn operation(
     alloc: Global,
-    desk: &Desk<'_>,
+    here: &GuessFrame<'_>,
     guess: &mut Guess<'_>,
     operation: &Operation,
     digits: &mut Digits,
@@ -34,13 +34,13 @@ pub(crate) fn operation(
             count,
             copies,
         } => {
-            let count = count_of(alloc, desk, guess, *field, *side, *count)?;
+            let count = count_of(alloc, here, guess, *field, *side, *count)?;
             guess.pass(*passes);
             let number = next_number(guess, count, source)?;
             put(alloc, guess, *field, *side, count, number, *copies)
         }
         Operation::Pass { field, side, count } => {
-            let count = count_of(alloc, desk, guess, *field, *side, *count)?;
+            let count = count_of(alloc, here, guess, *field, *side, *count)?;
             guess.pass(count);
             Ok(())
         }
@@ -50,18 +50,18 @@ pub(crate) fn operation(
             count,
             number,
         } => {
-            let count = count_of(alloc, desk, guess, *field, *side, *count)?;
+            let count = count_of(alloc, here, guess, *field, *side, *count)?;
             put(alloc, guess, *field, *side, count, *number, false)
         }
-        Operation::Up(field) => go_up(alloc, desk, guess, *field),
-        Operation::Down(field) => go_down(alloc, desk, guess, *field),
+        Operation::Up(field) => go_up(alloc, here, guess, *field),
+        Operation::Down(field) => go_down(alloc, here, guess, *field),
         Operation::Choose {
             field,
             width,
             copies,
         } => choose(alloc, guess, *field, *width, *copies, digits),
-        Operation::Ask { field, place } => ask(alloc, desk, guess, *field, *place),
-        Operation::Follow(step) => follow(alloc, desk, guess, *step),
+        Operation::Ask { field, place } => ask(alloc, here, guess, *field, *place),
+        Operation::Follow(step) => follow(alloc, here, guess, *step),
         Operation::Call { .. } => Err(NoGuess::Nowhere),
     }
 }
@@ -104,7 +104,7 @@ fn other(side: Side) -> Side {
 /// How many bits that is. The error is Nowhere or out of memory.
 fn count_of(
     alloc: Global,
-    desk: &Desk<'_>,
+    here: &GuessFrame<'_>,
     guess: &Guess<'_>,
     field: usize,
     side: Side,
@@ -112,14 +112,14 @@ fn count_of(
 ) -> Result<usize, NoGuess> {
     match count {
         Count::Number(count) => Ok(count),
-        other => looked_up(alloc, desk, guess, field, side, other),
+        other => looked_up(alloc, here, guess, field, side, other),
     }
 }
 
 #[inline(never)]
 fn looked_up(
     alloc: Global,
-    desk: &Desk<'_>,
+    here: &GuessFrame<'_>,
     guess: &Guess<'_>,
     field: usize,
     side: Side,
@@ -129,7 +129,7 @@ fn looked_up(
         Count::Number(count) => Ok(count),
         Count::Parameter(index) => argument_of(guess.arguments, index),
         Count::Referred => match guess.format.fields.get(field) {
-            Some(coded) => Ok(reference(alloc, desk, coded)?.len()),
+            Some(coded) => Ok(reference(alloc, here, coded)?.len()),
             None => Err(NoGuess::Nowhere),
         },
         Count::Noted => Ok(guess.length(field, side)),
@@ -176,12 +176,12 @@ fn choose(
 #[inline(never)]
 fn ask(
     alloc: Global,
-    desk: &Desk<'_>,
+    here: &GuessFrame<'_>,
     guess: &mut Guess<'_>,
     field: usize,
     place: usize,
 ) -> Result<(), NoGuess> {
-    let Some(value) = at(desk.asked, place) else {
+    let Some(value) = at(here.asked, place) else {
         return Err(NoGuess::Nowhere);
     };
     guess.set(field, Side::Uncompressed, value.bits.copy(alloc)?);
@@ -192,14 +192,14 @@ fn ask(
 #[inline(never)]
 pub(crate) fn follow(
     alloc: Global,
-    desk: &Desk<'_>,
+    here: &GuessFrame<'_>,
     guess: &mut Guess<'_>,
     step: Step,
 ) -> Result<(), NoGuess> {
     match step {
-        Step::LibraryUp(field) => go_up(alloc, desk, guess, field),
-        Step::LibraryDown(field) => go_down(alloc, desk, guess, field),
-        Step::MethodLength(field, side) => measure(alloc, desk, guess, field, side),
+        Step::LibraryUp(field) => go_up(alloc, here, guess, field),
+        Step::LibraryDown(field) => go_down(alloc, here, guess, field),
+        Step::MethodLength(field, side) => measure(alloc, here, guess, field, side),
         Step::ConstraintLength(field, side, number) => bracket(alloc, guess, field, side, number),
         Step::Solve(field, number) => solve(alloc, guess, field, number),
         Step::Take(_) | Step::Call(_) | Step::Choose(_) | Step::Ask(_) => Err(NoGuess::Nowhere),
@@ -249,7 +249,7 @@ fn coded<'a>(guess: &Guess<'a>, field: usize) -> Result<(&'a Field, &'a Library)
 /// Gives the field the uncompressed side that its library method makes of the packed one.
 fn go_up(
     alloc: Global,
-    desk: &Desk<'_>,
+    here: &GuessFrame<'_>,
     guess: &mut Guess<'_>,
     field: usize,
 ) -> Result<(), NoGuess> {
@@ -259,7 +259,7 @@ fn go_up(
         Library::Irregular { .. } => guess.bits(field, Side::Compressed)?.copy(alloc)?,
         Library::UncompressedValue { length, value } => constant(alloc, guess, length, value)?,
         Library::Static | Library::Lsb { .. } => {
-            referred(alloc, desk, guess, field, coded, library)?
+            referred(alloc, here, guess, field, coded, library)?
         }
     };
     guess.set(field, Side::Uncompressed, bits);
@@ -270,13 +270,13 @@ fn go_up(
 #[inline(never)]
 fn referred(
     alloc: Global,
-    desk: &Desk<'_>,
+    here: &GuessFrame<'_>,
     guess: &Guess<'_>,
     field: usize,
     coded: &Field,
     library: &Library,
 ) -> Result<Bits, NoGuess> {
-    let reference = reference(alloc, desk, coded)?;
+    let reference = reference(alloc, here, coded)?;
     let Library::Lsb { bits, offset } = library else {
         return Ok(reference.copy(alloc)?);
     };
@@ -292,10 +292,10 @@ fn referred(
 /// The reference of the field. The error is Nowhere, where there is none, or out of memory.
 pub(crate) fn reference<'a>(
     alloc: Global,
-    desk: &Desk<'a>,
+    here: &GuessFrame<'a>,
     coded: &'a Field,
 ) -> Result<&'a Bits, NoGuess> {
-    match reference_below(alloc, desk.context, desk.path, coded)? {
+    match reference_below(alloc, here.frame.context, here.frame.path, coded)? {
         Some(reference) => Ok(reference),
         None => Err(NoGuess::Nowhere),
     }
@@ -304,7 +304,7 @@ pub(crate) fn reference<'a>(
 /// Gives the field the packed side that its library method makes of the uncompressed one.
 fn go_down(
     alloc: Global,
-    desk: &Desk<'_>,
+    here: &GuessFrame<'_>,
     guess: &mut Guess<'_>,
     field: usize,
 ) -> Result<(), NoGuess> {
@@ -313,7 +313,7 @@ fn go_down(
         Library::UncompressedValue { .. } | Library::Static => return Ok(()),
         Library::Irregular { .. } => guess.bits(field, Side::Uncompressed)?.copy(alloc)?,
         Library::CompressedValue { length, value } => constant(alloc, guess, length, value)?,
-        Library::Lsb { bits, offset } => lowered(alloc, desk, guess, field, coded, bits, offset)?,
+        Library::Lsb { bits, offset } => lowered(alloc, here, guess, field, coded, bits, offset)?,
         Library::Crc(crc) => summed(alloc, guess, crc.get())?,
     };
     guess.set(field, Side::Compressed, bits);
@@ -324,14 +324,14 @@ fn go_down(
 #[inline(never)]
 fn lowered(
     alloc: Global,
-    desk: &Desk<'_>,
+    here: &GuessFrame<'_>,
     guess: &Guess<'_>,
     field: usize,
     coded: &Field,
     bits: &Expr,
     offset: &Expr,
 ) -> Result<Bits, NoGuess> {
-    let reference = reference(alloc, desk, coded)?;
+    let reference = reference(alloc, here, coded)?;
     let bits = reckoned(alloc, guess, bits)?;
     let offset = reckoned(alloc, guess, offset)?;
     let whole = guess.bits(field, Side::Uncompressed)?;
@@ -377,7 +377,7 @@ fn sum_of(
 /// Notes the length that the field's library method gives a side.
 fn measure(
     alloc: Global,
-    desk: &Desk<'_>,
+    here: &GuessFrame<'_>,
     guess: &mut Guess<'_>,
     field: usize,
     side: Side,
@@ -388,7 +388,7 @@ fn measure(
     }
     match (library, side) {
         (Library::Static | Library::Lsb { .. }, Side::Uncompressed) => {
-            let count = reference(alloc, desk, coded)?.len();
+            let count = reference(alloc, here, coded)?.len();
             set_length(alloc, guess, field, side, count)
         }
         _ => Ok(()),

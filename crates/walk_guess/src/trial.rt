@@ -1,14 +1,14 @@
 //! How far the bits reach along the steps of read plans, where nothing fits.
 
+use crate::guess_frame::GuessFrame;
 use crate::level::Guess;
 use crate::no_guess::NoGuess;
-use crate::place::Desk;
 use crate::start::{add, spelled};
 use crate::steps::follow;
 use crate::values::add_values;
 use crate::walk::top;
 use cert_accepted::Accepted;
-use cert_accepted::place::{format_of, sizes_of};
+use cert_accepted::frame::{format_of, sizes_of};
 use cert_types::Step;
 use sem_bits::{Bits, Cursor};
 use sem_context::Context;
@@ -30,9 +30,9 @@ pub fn runs_out(
     method: usize,
     format: usize,
 ) -> bool {
-    let desk = top(accepted, context, &[]);
+    let here = top(accepted, context, &[]);
     let last = Last { method, format };
-    match try_method(DEPTH_LIMIT, alloc, &desk, last, cursor, 0) {
+    match try_method(DEPTH_LIMIT, alloc, &here, last, cursor, 0) {
         Err(NoGuess::Short) => true,
         Err(NoGuess::Nowhere) | Err(NoGuess::OutOfMemory) | Ok(_) => false,
     }
@@ -150,20 +150,20 @@ fn is_within(sizes: &FormatSizes, field: usize, side: Side, length: usize) -> bo
 fn try_method(
     depth: usize,
     alloc: Global,
-    desk: &Desk<'_>,
+    here: &GuessFrame<'_>,
     last: Last,
     cursor: &Cursor<'_>,
     from: usize,
 ) -> Result<Filling, NoGuess> {
-    let index = desk.read_index(alloc, cursor, from)?;
-    let mut trial = begin(alloc, desk, index, from)?;
-    for step in plan_of(desk, index)? {
+    let index = here.read_index(alloc, cursor, from)?;
+    let mut trial = begin(alloc, here, index, from)?;
+    for step in plan_of(here, index)? {
         match *step {
-            Step::Call(field) => try_call(depth, alloc, desk, last, &mut trial, field, cursor)?,
-            other => try_step(alloc, desk, &mut trial, other, cursor)?,
+            Step::Call(field) => try_call(depth, alloc, here, last, &mut trial, field, cursor)?,
+            other => try_step(alloc, here, &mut trial, other, cursor)?,
         }
     }
-    if last.method == desk.method && last.format == index {
+    if last.method == here.frame.method && last.format == index {
         return Err(NoGuess::Nowhere);
     }
     let Trial { guess, .. } = trial;
@@ -173,14 +173,14 @@ fn try_method(
 /// A level of which nothing is known, but that a field which isn't listed has no packed bits. The error is Nowhere or out of memory.
 fn begin<'a>(
     alloc: Global,
-    desk: &Desk<'a>,
+    here: &GuessFrame<'a>,
     index: usize,
     from: usize,
 ) -> Result<Trial<'a>, NoGuess> {
-    let Some(format) = format_of(desk.accepted, desk.method, index) else {
+    let Some(format) = format_of(here.accepted, here.frame.method, index) else {
         return Err(NoGuess::Nowhere);
     };
-    let Some(sizes) = sizes_of(desk.accepted, desk.method, index) else {
+    let Some(sizes) = sizes_of(here.accepted, here.frame.method, index) else {
         return Err(NoGuess::Nowhere);
     };
     let mut fields = Vec::with_capacity(alloc, format.fields.len())?;
@@ -205,7 +205,7 @@ fn begin<'a>(
     Ok(Trial {
         guess: Guess {
             format,
-            arguments: desk.arguments,
+            arguments: here.frame.arguments,
             header: None,
             fields,
             ahead: from,
@@ -217,8 +217,8 @@ fn begin<'a>(
 }
 
 /// The plan by which the format is read. The error is Nowhere.
-fn plan_of<'a>(desk: &Desk<'a>, index: usize) -> Result<&'a [Step], NoGuess> {
-    match plan_at(desk.accepted, desk.method, index) {
+fn plan_of<'a>(here: &GuessFrame<'a>, index: usize) -> Result<&'a [Step], NoGuess> {
+    match plan_at(here.accepted, here.frame.method, index) {
         Some(plan) => Ok(plan),
         None => Err(NoGuess::Nowhere),
     }
@@ -233,7 +233,7 @@ fn plan_at(accepted: &Accepted, method: usize, index: usize) -> Option<&[Step]> 
 /// Follows a step that calls no method.
 fn try_step(
     alloc: Global,
-    desk: &Desk<'_>,
+    here: &GuessFrame<'_>,
     trial: &mut Trial<'_>,
     step: Step,
     cursor: &Cursor<'_>,
@@ -248,7 +248,7 @@ fn try_step(
         Step::Call(_) | Step::Choose(_) | Step::Ask(_) => return Err(NoGuess::Nowhere),
     };
     let before = trial.guess.bits(field, side)?.copy(alloc)?;
-    follow(alloc, desk, &mut trial.guess, step)?;
+    follow(alloc, here, &mut trial.guess, step)?;
     trial.meet(field, side, before, found)
 }
 
@@ -274,7 +274,7 @@ fn take(
 fn try_call(
     depth: usize,
     alloc: Global,
-    desk: &Desk<'_>,
+    here: &GuessFrame<'_>,
     last: Last,
     trial: &mut Trial<'_>,
     field: usize,
@@ -288,33 +288,19 @@ fn try_call(
     };
     let mut values = SmallVec::<i128, 4>::new(alloc);
     add_values(alloc, &trial.guess, arguments.as_slice(), &mut values)?;
-    let path = below(alloc, desk.path, coded.declared.name.as_str())?;
-    let filling = try_inside(
-        depth,
-        alloc,
-        desk.accepted,
-        desk.context,
-        *method,
-        values.as_slice(),
-        path.as_str(),
-        last,
-        trial,
-        field,
-        cursor,
-    )?;
+    let path = below(alloc, here.frame.path, coded.declared.name.as_str())?;
+    let (accepted, context) = (here.accepted, here.frame.context);
+    let inner = GuessFrame::of(accepted, context, *method, values.as_slice(), path.as_str());
+    let filling = try_inside(depth, alloc, &inner, last, trial, field, cursor)?;
     fill(alloc, trial, field, filling)
 }
 
 /// Tries the filling inside a field: of one that isn't listed from no bits.
 #[cycle(trying)]
-fn try_inside<'x>(
+fn try_inside(
     depth: usize,
     alloc: Global,
-    accepted: &'x Accepted,
-    context: &'x Context,
-    method: usize,
-    arguments: &'x [i128],
-    path: &'x str,
+    inner: &GuessFrame<'_>,
     last: Last,
     trial: &Trial<'_>,
     field: usize,
@@ -323,20 +309,11 @@ fn try_inside<'x>(
     if depth == 0 {
         return Err(NoGuess::Nowhere);
     }
-    let desk = Desk {
-        accepted,
-        context,
-        method,
-        arguments,
-        path,
-        asked: &[],
-        header: None,
-    };
     if is_listed(trial.guess.format, field) {
-        try_method(depth - 1, alloc, &desk, last, cursor, trial.place(field))
+        try_method(depth - 1, alloc, inner, last, cursor, trial.place(field))
     } else {
         let none = Bits::new(alloc);
-        ended(try_method(depth - 1, alloc, &desk, last, &Cursor::new(&none), 0))
+        ended(try_method(depth - 1, alloc, inner, last, &Cursor::new(&none), 0))
     }
 }
 

@@ -1,8 +1,8 @@
 //! Fillings by the trees and the plans of an accepted profile.
 
+use crate::guess_frame::{Digits, GuessFrame, Mode};
 use crate::level::Guess;
 use crate::no_guess::NoGuess;
-use crate::place::{Desk, Digits, Mode};
 use crate::start::begin_level;
 use crate::steps::operation;
 use crate::values::add_values;
@@ -39,10 +39,10 @@ pub fn guess_item(
     item: &Item,
     number: u64,
 ) -> Option<Filling> {
-    let mut desk = top(accepted, context, item.asked.as_slice());
-    desk.header = Some(&item.header);
+    let mut here = top(accepted, context, item.asked.as_slice());
+    here.header = Some(&item.header);
     let source = Cursor::new(&item.header);
-    drawn(alloc, &desk, Mode::Write(number), &source)
+    drawn(alloc, &here, Mode::Write(number), &source)
 }
 
 /// Whether it is worth drawing the candidate with this number up before it is looked at in another way. Nothing is promised of this either.
@@ -57,20 +57,14 @@ pub(crate) fn top<'a>(
     accepted: &'a Accepted,
     context: &'a Context,
     asked: &'a [AskedValue],
-) -> Desk<'a> {
-    Desk {
-        accepted,
-        context,
-        method: accepted.profile().top(),
-        arguments: &[],
-        path: "",
-        asked,
-        header: None,
-    }
+) -> GuessFrame<'a> {
+    let mut top = GuessFrame::of(accepted, context, accepted.profile().top(), &[], "");
+    top.asked = asked;
+    top
 }
 
-fn drawn(alloc: Global, desk: &Desk<'_>, mode: Mode, source: &Cursor<'_>) -> Option<Filling> {
-    match draw(DEPTH_LIMIT, alloc, desk, mode, source, 0) {
+fn drawn(alloc: Global, here: &GuessFrame<'_>, mode: Mode, source: &Cursor<'_>) -> Option<Filling> {
+    match draw(DEPTH_LIMIT, alloc, here, mode, source, 0) {
         Ok(filling) => Some(filling),
         Err(_) => None,
     }
@@ -89,15 +83,15 @@ fn least_of(accepted: &Accepted, method: usize) -> usize {
 fn draw(
     depth: usize,
     alloc: Global,
-    desk: &Desk<'_>,
+    here: &GuessFrame<'_>,
     mode: Mode,
     source: &Cursor<'_>,
     from: usize,
 ) -> Result<Filling, NoGuess> {
-    let start = desk.start(alloc, mode, source, from)?;
+    let start = here.start(alloc, mode, source, from)?;
     let mut digits = start.digits;
     let beginnings = start.operations.beginnings.as_slice();
-    let mut guess = begin_level(alloc, desk, start.format, beginnings, source, from)?;
+    let mut guess = begin_level(alloc, here, start.format, beginnings, source, from)?;
     for next in start.operations.done.as_slice() {
         match next {
             Operation::Call {
@@ -106,10 +100,14 @@ fn draw(
                 takes,
             } => {
                 guess.pass(*passes);
-                let mode = inner_goal(desk, &guess, mode, *field, &mut digits)?;
-                call(depth, alloc, desk, &mut guess, mode, *field, *takes, source)?;
+                let mode = inner_goal(here, &guess, mode, *field, &mut digits)?;
+                let inside = Inside {
+                    field: *field,
+                    takes: *takes,
+                };
+                call(depth, alloc, here, &mut guess, mode, inside, source)?;
             }
-            _ => operation(alloc, desk, &mut guess, next, &mut digits, source)?,
+            _ => operation(alloc, here, &mut guess, next, &mut digits, source)?,
         }
     }
     Ok(guess.into_filling(start.index)?)
@@ -117,7 +115,7 @@ fn draw(
 
 /// The mode of the filling inside the field: in writing the next digit is its number. The error is Nowhere.
 fn inner_goal(
-    desk: &Desk<'_>,
+    here: &GuessFrame<'_>,
     guess: &Guess<'_>,
     mode: Mode,
     field: usize,
@@ -127,7 +125,7 @@ fn inner_goal(
         Mode::Read => Ok(Mode::Read),
         Mode::Write(_) => {
             let called = called_by(guess, field)?;
-            let radix = desk.radix(called)?;
+            let radix = here.radix(called)?;
             Ok(Mode::Write(digits.next(radix)?))
         }
     }
@@ -150,14 +148,13 @@ fn called_by(guess: &Guess<'_>, field: usize) -> Result<usize, NoGuess> {
 fn call(
     depth: usize,
     alloc: Global,
-    desk: &Desk<'_>,
+    here: &GuessFrame<'_>,
     guess: &mut Guess<'_>,
     mode: Mode,
-    field: usize,
-    takes: bool,
+    inside: Inside,
     source: &Cursor<'_>,
 ) -> Result<(), NoGuess> {
-    let Some(coded) = guess.format.fields.get(field) else {
+    let Some(coded) = guess.format.fields.get(inside.field) else {
         return Err(NoGuess::Nowhere);
     };
     let Encoding::Call { method, arguments } = coded.encoding.get() else {
@@ -165,56 +162,36 @@ fn call(
     };
     let mut values = SmallVec::<i128, 4>::new(alloc);
     add_values(alloc, guess, arguments.as_slice(), &mut values)?;
-    let inside = Inside {
-        method: *method,
-        field,
-        takes,
-    };
-    let (accepted, context) = (desk.accepted, desk.context);
+    let (accepted, context) = (here.accepted, here.frame.context);
     let (arguments, name) = (values.as_slice(), coded.declared.name.as_str());
-    let filling = if desk.path.is_empty() {
-        draw_inside(
-            depth, alloc, accepted, context, arguments, name, guess, mode, inside, source,
-        )?
+    let filling = if here.frame.path.is_empty() {
+        let inner = GuessFrame::of(accepted, context, *method, arguments, name);
+        draw_inside(depth, alloc, &inner, guess, mode, inside, source)?
     } else {
-        let path = below(alloc, desk.path, name)?;
-        draw_inside(
-            depth,
-            alloc,
-            accepted,
-            context,
-            arguments,
-            path.as_str(),
-            guess,
-            mode,
-            inside,
-            source,
-        )?
+        let path = below(alloc, here.frame.path, name)?;
+        let inner = GuessFrame::of(accepted, context, *method, arguments, path.as_str());
+        draw_inside(depth, alloc, &inner, guess, mode, inside, source)?
     };
-    guess.fill(alloc, field, filling)?;
-    if takes {
-        guess.pass(guess.length(field, mode.side()));
+    guess.fill(alloc, inside.field, filling)?;
+    if inside.takes {
+        guess.pass(guess.length(inside.field, mode.side()));
     }
     Ok(())
 }
 
-/// A call: the method, the field that calls it, and whether the filling takes from the source.
+/// A call: the field that calls, and whether the filling inside takes from the source.
 #[derive(Clone, Copy)]
 struct Inside {
-    method: usize,
     field: usize,
     takes: bool,
 }
 
-/// Draws the filling inside a field: where it doesn't take from the source, from the field's own bits of that side. The path is that of the field.
+/// Draws the filling inside a field: where it doesn't take from the source, from the field's own bits of that side.
 #[cycle(drawing)]
-fn draw_inside<'x>(
+fn draw_inside(
     depth: usize,
     alloc: Global,
-    accepted: &'x Accepted,
-    context: &'x Context,
-    arguments: &'x [i128],
-    path: &'x str,
+    inner: &GuessFrame<'_>,
     guess: &Guess<'_>,
     mode: Mode,
     inside: Inside,
@@ -223,19 +200,10 @@ fn draw_inside<'x>(
     if depth == 0 {
         return Err(NoGuess::Nowhere);
     }
-    let desk = Desk {
-        accepted,
-        context,
-        method: inside.method,
-        arguments,
-        path,
-        asked: &[],
-        header: None,
-    };
     if inside.takes {
-        draw(depth - 1, alloc, &desk, mode, source, guess.ahead)
+        draw(depth - 1, alloc, inner, mode, source, guess.ahead)
     } else {
         let own = guess.bits(inside.field, mode.side())?.copy(alloc)?;
-        draw(depth - 1, alloc, &desk, mode, &Cursor::new(&own), 0)
+        draw(depth - 1, alloc, inner, mode, &Cursor::new(&own), 0)
     }
 }

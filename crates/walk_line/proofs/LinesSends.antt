@@ -71,7 +71,7 @@ pub send_fault : (p : Accepting) (s : Contexts) (old : Sending) (flow place : �
 send_fault p s old flow place ctx it e there same is says =
     subst (λ o. IsNotPut o (record { flow = flow; act = Send it }) e) is (blamed ctx (ap (slice_get s) (sym same) ∙ there) says)
 
--- a reset of a flow that is there is refused since memory is out alone
+-- a reset of a flow that is there is refused only where memory is out
 pub reset_fault : (p : Accepting) (s : Contexts) (old : Sending) (flow : ℕ) → flow < length s → record { accepted = p; contexts = s } ≡ old → IsNotPut old (record { flow = flow; act = Reset }) OutOfMemory
 reset_fault p s old flow below is =
     subst (λ o. IsNotPut o (record { flow = flow; act = Reset }) OutOfMemory) is (blamed (get_or s flow []) (slice_get-get_or s flow [] below) refl)

@@ -29,14 +29,14 @@ pub data Refuses (a : Accepting) : Entries → List (List Bool) → UnpackFault 
   refuses_later : {ctx : Entries} {bits : List Bool} {more : List (List Bool)} {e : UnpackFault} (old new : Place) (u : Unpacked) → old.left ≡ bits → reading.IsUnpacked a ctx old new u
       → Refuses a (next ctx u.filling) more e → Refuses a ctx (bits ∷ more) e
 
--- each is read as what was sent, with its header, and none is refused but since memory is out
+-- each is read as what was sent, with its header, and refused only where memory is out
 pub record AreReadBack (a : Accepting) (other : Entries) (got : List Filling) (bits : List (List Bool)) : Type 0 where
   pub fillings_are : (us : List Unpacked) → Unpacks a other bits us → map (λ u. u.filling) us ≡ got
   pub headers_are : (us : List Unpacked) → Unpacks a other bits us → map (λ u. u.header) us ≡ map (λ f. header f) got
   pub never_refused : (e : UnpackFault) → Refuses a other bits e → e ≡ OutOfMemory
 
 -- Where each filling fits in the last n + 1 contexts of the sender, which agree where it has no entry: whatever packets are lost, never more than n in a row, `unpack` reads each that comes through
--- as what was sent, whatever bits follow it, and refuses none but since memory is out.
+-- as what was sent, whatever bits follow it, and refuses it only where memory is out.
 abbrev pub SurvivesLosses : Type 0
 SurvivesLosses = (a : Accepting) → IsDeterminate a → (n : ℕ) (ctx other : Entries) → AreSame ctx other → (fs got : List Filling) (bits : List (List Bool)) →
     Sends a.profile.methods a.profile.top n ctx [] fs → ComesThrough n 0 fs got → Arrives got bits → AreReadBack a other got bits

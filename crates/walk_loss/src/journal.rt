@@ -60,6 +60,16 @@ impl Journal {
     }
 }
 
+/// An item that was sent: its number from 1, the packet with its filling, whether the item is that of the filling, and the uses of references of the filling.
+#[derive(Clone, Copy)]
+struct Sending<'a> {
+    number: usize,
+    item: &'a Item,
+    sent: &'a Packed,
+    own: bool,
+    uses: &'a [Using],
+}
+
 /// Adds what receivers read of the packet of the item of that number: one in the newest of the held contexts, which was the sender's, one in the context before it,
 /// to whom one packet was lost, and so on. The contexts stand from the oldest to the newest. The error is out of memory.
 pub fn judge(
@@ -76,12 +86,16 @@ pub fn judge(
 {
     let uses = uses_of(alloc, accepted, &sent.filling)?;
     let own = has_own_item(alloc, item, &sent.filling)?;
+    let sending = Sending {
+        number,
+        item,
+        sent,
+        own,
+        uses: uses.as_slice(),
+    };
     for lost in 0..held.len() {
         let context = &held[held.len() - 1 - lost];
-        let uses = uses.as_slice();
-        judge_in(
-            alloc, accepted, context, lost, number, item, sent, own, uses, journal,
-        )?;
+        judge_in(alloc, accepted, context, lost, &sending, journal)?;
     }
     Ok(())
 }
@@ -102,29 +116,25 @@ fn judge_in(
     accepted: &Accepted,
     context: &Context,
     lost: usize,
-    number: usize,
-    item: &Item,
-    sent: &Packed,
-    own: bool,
-    uses: &[Using],
+    sending: &Sending<'_>,
     journal: &mut Journal,
 ) -> Result<(), AllocError>
-    requires sent { spec.IsSent accepted.now sent.now }
-    requires own { IsTrue own → sides.item sent.now.filling ≡ item.now }
-    requires uses { UsesAre accepted.now.profile.methods accepted.now.profile.top [] [] sent.now.filling uses.now }
-    ensures { OnOk result (spec.AddsOne accepted.now context.now lost number item.now sent.now journal.old journal.new) }
+    requires sent { spec.IsSent accepted.now sending.now.sent.now }
+    requires own { IsTrue sending.now.own → sides.item sending.now.sent.now.filling ≡ sending.now.item.now }
+    requires uses { UsesAre accepted.now.profile.methods accepted.now.profile.top [] [] sending.now.sent.now.filling sending.now.uses.now }
+    ensures { OnOk result (spec.AddsOne accepted.now context.now lost sending.now.number sending.now.item.now sending.now.sent.now journal.old journal.new) }
 {
-    let heard = hear_sent(alloc, accepted, context, item, sent, own, uses)?;
+    let heard = hear_sent(alloc, accepted, context, sending)?;
     let kind = heard.kind();
-    let format = sent.filling.format;
+    let format = sending.sent.filling.format;
     journal.readings.push(Reading { lost, format, kind })?;
     if is_known(journal.cases.as_slice(), lost, kind) {
         return Ok(());
     }
-    let unserved = unserved_among(alloc, context, uses)?;
+    let unserved = unserved_among(alloc, context, sending.uses)?;
     journal.cases.push(Case {
         lost,
-        number,
+        number: sending.number,
         format,
         heard,
         unserved,
@@ -136,23 +146,20 @@ fn hear_sent(
     alloc: Global,
     accepted: &Accepted,
     context: &Context,
-    item: &Item,
-    sent: &Packed,
-    own: bool,
-    uses: &[Using],
+    sending: &Sending<'_>,
 ) -> Result<Heard, AllocError>
-    requires sent { spec.IsSent accepted.now sent.now }
-    requires own { IsTrue own → sides.item sent.now.filling ≡ item.now }
-    requires uses { UsesAre accepted.now.profile.methods accepted.now.profile.top [] [] sent.now.filling uses.now }
-    ensures { IfOk result (IsHeard accepted.now context.now item.now sent.now.packed) }
+    requires sent { spec.IsSent accepted.now sending.now.sent.now }
+    requires own { IsTrue sending.now.own → sides.item sending.now.sent.now.filling ≡ sending.now.item.now }
+    requires uses { UsesAre accepted.now.profile.methods accepted.now.profile.top [] [] sending.now.sent.now.filling sending.now.uses.now }
+    ensures { IfOk result (IsHeard accepted.now context.now sending.now.item.now sending.now.sent.now.packed) }
 {
-    if own {
-        let is_read = all_serve(alloc, context, uses)?;
+    if sending.own {
+        let is_read = all_serve(alloc, context, sending.uses)?;
         if is_read {
             return Ok(Heard::Right);
         }
     }
-    hear(alloc, accepted, context, item, &sent.packed)
+    hear(alloc, accepted, context, sending.item, &sending.sent.packed)
 }
 
 /// Whether nothing is to be told of that kind after so many lost packets: it is right, or there is a case of it.

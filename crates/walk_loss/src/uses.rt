@@ -55,6 +55,14 @@ impl Model for Using {
     ghost view = { λ u. record { part = u.part; path = string_bytes u.path; initial = u.initial; method = spec.method u.method; uncompressed = u.uncompressed; compressed = u.compressed } };
 }
 
+/// A field that calls a method with these arguments.
+#[derive(Clone, Copy)]
+struct FieldCall<'a> {
+    field: &'a Field,
+    method: usize,
+    arguments: &'a [Expr],
+}
+
 /// The uses of a filling that fits the top in some context: in field order, and in the place of a field that calls a method those of the filling inside. The error
 /// is out of memory.
 pub fn uses_of(
@@ -144,16 +152,14 @@ fn field_uses(
         Encoding::Library(library) => {
             own_uses(alloc, path, &level.known, field, library, filled)
         }
-        Encoding::Call { method, arguments } => call_uses(
-            alloc,
-            profile,
-            path,
-            filled,
-            &level.known,
-            field,
-            *method,
-            arguments.as_slice(),
-        ),
+        Encoding::Call { method, arguments } => {
+            let call = FieldCall {
+                field,
+                method: *method,
+                arguments: arguments.as_slice(),
+            };
+            call_uses(alloc, profile, path, &level.known, &call, filled)
+        }
     }
 }
 
@@ -183,33 +189,31 @@ fn near_of(bits: &Expr, offset: &Expr, known: &FillingNumbers<'_>) -> Option<Ref
     Some(Referring::Lsb { bits, offset })
 }
 
-/// Those of the filling of a field that calls a method with these arguments.
+/// Those of the filling of a field that calls a method.
 #[cycle(descending)]
 fn call_uses(
     alloc: Global,
     profile: &Profile,
     path: &str,
-    filled: &FilledField,
     known: &FillingNumbers<'_>,
-    field: &Field,
-    method: usize,
-    arguments: &[Expr],
+    call: &FieldCall<'_>,
+    filled: &FilledField,
 ) -> Result<Items<Using>, AllocError>
-    requires within { method < length profile.now.methods }
-    requires ranged { AllRanged known.now arguments.now }
-    requires lie { ValuesLieAt profile.now known.now method arguments.now }
-    requires fits { spec.CallFitsAnywhere profile.now.methods path.now field.now (assignment_of known.now) method arguments.now filled.now }
-    ensures { IfOk result (spec.UsesInside profile.now.methods path.now field.now (assignment_of known.now) method arguments.now filled.now) }
+    requires within { call.now.method < length profile.now.methods }
+    requires ranged { AllRanged known.now call.now.arguments.now }
+    requires lie { ValuesLieAt profile.now known.now call.now.method call.now.arguments.now }
+    requires fits { spec.CallFitsAnywhere profile.now.methods path.now call.now.field.now (assignment_of known.now) call.now.method call.now.arguments.now filled.now }
+    ensures { IfOk result (spec.UsesInside profile.now.methods path.now call.now.field.now (assignment_of known.now) call.now.method call.now.arguments.now filled.now) }
 {
     let mut values = SmallVec::<i128, 4>::new(alloc);
-    if !add_values(arguments, known, &mut values)? {
+    if !add_values(call.arguments, known, &mut values)? {
         return Ok(Items::new(alloc));
     }
-    let here = FieldPath::of(alloc, path, field.declared.name.as_str())?;
+    let here = FieldPath::of(alloc, path, call.field.declared.name.as_str())?;
     inner_uses(
         alloc,
         profile,
-        method,
+        call.method,
         values.as_slice(),
         here.as_str(),
         filled,

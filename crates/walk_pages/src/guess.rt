@@ -2,11 +2,11 @@
 
 use crate::draft::Draft;
 use crate::no_guess::NoGuess;
-use crate::place::Desk;
+use crate::picks::{accepted_frame, picked};
 use crate::start::begin_level;
 use crate::steps::operation;
 use crate::values::number;
-use cert_accepted::Accepted;
+use cert_accepted::{Accepted, AcceptedFrame};
 use cert_compiled::Operation;
 use sem_bits::Cursor;
 use sem_context::Context;
@@ -30,14 +30,8 @@ pub(crate) fn drawn(
     if cursor.rest() < least_of(accepted, accepted.profile().top()) {
         return None;
     }
-    let desk = Desk {
-        accepted,
-        context,
-        method: accepted.profile().top(),
-        arguments: &[],
-        path: "",
-    };
-    match draw(DEPTH_LIMIT, alloc, &desk, cursor, 0) {
+    let here = accepted_frame(accepted, context, accepted.profile().top(), &[], "");
+    match draw(DEPTH_LIMIT, alloc, &here, cursor, 0) {
         Ok(page) => Some(page),
         Err(_) => None,
     }
@@ -56,13 +50,13 @@ fn least_of(accepted: &Accepted, method: usize) -> usize {
 fn draw(
     depth: usize,
     alloc: Global,
-    desk: &Desk<'_>,
+    here: &AcceptedFrame<'_>,
     source: &Cursor<'_>,
     from: usize,
 ) -> Result<Page, NoGuess> {
-    let start = desk.start(alloc, source, from)?;
+    let start = picked(alloc, here, source, from)?;
     let beginnings = start.operations.beginnings.as_slice();
-    let mut draft = begin_level(alloc, desk, start.format, beginnings, source, from)?;
+    let mut draft = begin_level(alloc, here, start.format, beginnings, source, from)?;
     for next in start.operations.done.as_slice() {
         match next {
             Operation::Call {
@@ -71,9 +65,13 @@ fn draw(
                 takes,
             } => {
                 draft.pass(*passes);
-                call(depth, alloc, desk, &mut draft, *field, *takes, source)?;
+                let inside = Inside {
+                    field: *field,
+                    takes: *takes,
+                };
+                call(depth, alloc, here, &mut draft, inside, source)?;
             }
-            _ => operation(alloc, desk, &mut draft, next, source)?,
+            _ => operation(alloc, here, &mut draft, next, source)?,
         }
     }
     Ok(Page {
@@ -88,13 +86,12 @@ fn draw(
 fn call(
     depth: usize,
     alloc: Global,
-    desk: &Desk<'_>,
+    here: &AcceptedFrame<'_>,
     draft: &mut Draft<'_>,
-    field: usize,
-    takes: bool,
+    inside: Inside,
     source: &Cursor<'_>,
 ) -> Result<(), NoGuess> {
-    let Some(coded) = draft.format.fields.get(field) else {
+    let Some(coded) = draft.format.fields.get(inside.field) else {
         return Err(NoGuess::Nowhere);
     };
     let Encoding::Call { method, arguments } = coded.encoding.get() else {
@@ -102,38 +99,22 @@ fn call(
     };
     let mut values = SmallVec::<i128, 4>::new(alloc);
     add_values(draft, arguments.as_slice(), &mut values)?;
-    let (accepted, context) = (desk.accepted, desk.context);
+    let (accepted, context) = (here.accepted, here.frame.context);
     let (arguments, name) = (values.as_slice(), coded.declared.name.as_str());
-    let inside = Inside {
-        method: *method,
-        field,
-        takes,
-    };
-    let page = if desk.path.is_empty() {
-        draw_inside(
-            depth, alloc, accepted, context, arguments, name, draft, inside, source,
-        )?
+    let page = if here.frame.path.is_empty() {
+        let inner = accepted_frame(accepted, context, *method, arguments, name);
+        draw_inside(depth, alloc, &inner, draft, inside, source)?
     } else {
-        let path = below(alloc, desk.path, name)?;
-        draw_inside(
-            depth,
-            alloc,
-            accepted,
-            context,
-            arguments,
-            path.as_str(),
-            draft,
-            inside,
-            source,
-        )?
+        let path = below(alloc, here.frame.path, name)?;
+        let inner = accepted_frame(accepted, context, *method, arguments, path.as_str());
+        draw_inside(depth, alloc, &inner, draft, inside, source)?
     };
-    fill(alloc, accepted, draft, inside, page)
+    fill(alloc, accepted, *method, draft, inside, page)
 }
 
-/// A call: the method, the field that calls it, and whether the page inside takes from the source.
+/// A call: the field that calls, and whether the page inside takes from the source.
 #[derive(Clone, Copy)]
 struct Inside {
-    method: usize,
     field: usize,
     takes: bool,
 }
@@ -153,15 +134,16 @@ fn add_values(
     Ok(())
 }
 
-/// Puts the page inside the field, with both sides, and passes its packed bits where they are of the source.
+/// Puts the page inside the field that calls the method, with both sides, and passes its packed bits where they are of the source.
 fn fill(
     alloc: Global,
     accepted: &Accepted,
+    method: usize,
     draft: &mut Draft<'_>,
     inside: Inside,
     page: Page,
 ) -> Result<(), NoGuess> {
-    let Some(called) = at(accepted.profile().methods(), inside.method) else {
+    let Some(called) = at(accepted.profile().methods(), method) else {
         return Err(NoGuess::Nowhere);
     };
     let Some(format) = called.formats.get(page.format) else {
@@ -182,15 +164,12 @@ fn fill(
     Ok(())
 }
 
-/// Draws the page inside a field: where it doesn't take from the source, from the field's own packed bits. The path is that of the field.
+/// Draws the page inside a field: where it doesn't take from the source, from the field's own packed bits.
 #[cycle(drawing)]
-fn draw_inside<'x>(
+fn draw_inside(
     depth: usize,
     alloc: Global,
-    accepted: &'x Accepted,
-    context: &'x Context,
-    arguments: &'x [i128],
-    path: &'x str,
+    inner: &AcceptedFrame<'_>,
     draft: &Draft<'_>,
     inside: Inside,
     source: &Cursor<'_>,
@@ -198,17 +177,10 @@ fn draw_inside<'x>(
     if depth == 0 {
         return Err(NoGuess::Nowhere);
     }
-    let desk = Desk {
-        accepted,
-        context,
-        method: inside.method,
-        arguments,
-        path,
-    };
     if inside.takes {
-        draw(depth - 1, alloc, &desk, source, draft.ahead)
+        draw(depth - 1, alloc, inner, source, draft.ahead)
     } else {
         let own = draft.bits(inside.field, Side::Compressed)?.copy(alloc)?;
-        draw(depth - 1, alloc, &desk, &Cursor::new(&own), 0)
+        draw(depth - 1, alloc, inner, &Cursor::new(&own), 0)
     }
 }

@@ -6,7 +6,7 @@ pub use reader::{ReadPage, asked_of, goes_on, read_page};
 mod draft;
 mod guess;
 mod no_guess;
-mod place;
+mod picks;
 mod reader;
 mod start;
 mod steps;

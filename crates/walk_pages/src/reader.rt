@@ -13,7 +13,7 @@ use cert_accepted::Accepted;
 use sem_bits::{Bits, Cursor};
 use sem_context::Context;
 use sem_filling::{AskedValue, WholeSides};
-use sem_pages::{Page, advance, asked_values, page_fits};
+use sem_pages::{Page, PageFrame, advance, asked_values, page_fits};
 use sqlite_items::Items;
 use std::alloc::{AllocError, Global};
 
@@ -65,15 +65,14 @@ fn top_fits(
     ensures { IfOk result (λ o. IfSome o (λ w. IsPageOf accepted.now.profile.methods (bits_at context.now) accepted.now.profile.top [] [] page.now w.header w.packed)) }
 {
     let profile = accepted.profile();
-    page_fits(
-        page,
-        alloc,
-        profile.methods(),
+    let frame = PageFrame {
+        methods: profile.methods(),
         context,
-        profile.top(),
-        [].as_slice(),
-        "",
-    )
+        method: profile.top(),
+        arguments: [].as_slice(),
+        path: "",
+    };
+    page_fits(page, alloc, &frame)
 }
 
 /// The asked values of what the page of the top shows, in field order. None where the top has no such format.

@@ -2,9 +2,9 @@
 
 use crate::draft::Draft;
 use crate::no_guess::NoGuess;
-use crate::place::Desk;
 use crate::steps::{argument_of, reference, spelled};
-use cert_compiled::{Beginning, Count, Spelled};
+use cert_accepted::AcceptedFrame;
+use cert_compiled::{Beginning, Count, ShortBits};
 use sem_bits::{Bits, Cursor};
 use sem_expr::Side;
 use sem_library::lsb_up;
@@ -15,7 +15,7 @@ use std::alloc::Global;
 /// A level whose fields have what they begin with, and whose source begins so many places after the cursor's. The error is Nowhere or out of memory.
 pub(crate) fn begin_level<'a>(
     alloc: Global,
-    desk: &Desk<'a>,
+    here: &AcceptedFrame<'a>,
     format: &'a Format,
     beginnings: &[Beginning],
     source: &Cursor<'_>,
@@ -34,7 +34,7 @@ pub(crate) fn begin_level<'a>(
                 side,
                 copies,
             } => {
-                let count = count_of(desk, *count)?;
+                let count = count_of(here, *count)?;
                 let number = taken(source, from, *place, count)?;
                 let bits = spelled(alloc, count, number)?;
                 let other = if *copies {
@@ -54,7 +54,7 @@ pub(crate) fn begin_level<'a>(
                 offset,
             } => {
                 let compressed = spelled(alloc, *count, taken(source, from, *place, *count)?)?;
-                let up = raised(alloc, desk, field, *bits, *offset, &compressed)?;
+                let up = raised(alloc, here, field, *bits, *offset, &compressed)?;
                 (up, compressed)
             }
             Beginning::Lowered { .. } => return Err(NoGuess::Nowhere),
@@ -63,7 +63,7 @@ pub(crate) fn begin_level<'a>(
     }
     Ok(Draft {
         format,
-        arguments: desk.arguments,
+        arguments: here.frame.arguments,
         fields,
         ahead: from,
     })
@@ -83,10 +83,10 @@ fn add(fields: &mut Vec<Shown>, uncompressed: Bits, compressed: Bits) -> Result<
 }
 
 /// How many bits that is, where a number or a parameter tells it. The error is Nowhere.
-fn count_of(desk: &Desk<'_>, count: Count) -> Result<usize, NoGuess> {
+fn count_of(here: &AcceptedFrame<'_>, count: Count) -> Result<usize, NoGuess> {
     match count {
         Count::Number(count) => Ok(count),
-        Count::Parameter(index) => argument_of(desk.arguments, index),
+        Count::Parameter(index) => argument_of(here.frame.arguments, index),
         Count::Referred | Count::Noted => Err(NoGuess::Nowhere),
     }
 }
@@ -101,7 +101,7 @@ fn taken(source: &Cursor<'_>, from: usize, place: usize, count: usize) -> Result
 }
 
 #[inline(always)]
-fn bits_of(alloc: Global, spelling: Spelled) -> Result<Bits, NoGuess> {
+fn bits_of(alloc: Global, spelling: ShortBits) -> Result<Bits, NoGuess> {
     spelled(alloc, spelling.count, spelling.number)
 }
 
@@ -109,13 +109,13 @@ fn bits_of(alloc: Global, spelling: Spelled) -> Result<Bits, NoGuess> {
 #[inline(never)]
 pub(crate) fn raised(
     alloc: Global,
-    desk: &Desk<'_>,
+    here: &AcceptedFrame<'_>,
     field: &Field,
     bits: i128,
     offset: i128,
     packed: &Bits,
 ) -> Result<Bits, NoGuess> {
-    let reference = reference(alloc, desk, field)?;
+    let reference = reference(alloc, here, field)?;
     match lsb_up(alloc, bits, offset, Some(reference), packed)? {
         Some(found) => Ok(found),
         None => Err(NoGuess::Nowhere),

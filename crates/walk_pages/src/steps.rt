@@ -2,9 +2,9 @@
 
 use crate::draft::Draft;
 use crate::no_guess::NoGuess;
-use crate::place::Desk;
 use crate::start::raised;
 use crate::values::number;
+use cert_accepted::AcceptedFrame;
 use cert_compiled::{Count, Operation};
 use cert_rules::equations::{length_given, remainder_form, value_given};
 use cert_rules::fields::size_of;
@@ -19,7 +19,7 @@ use std::alloc::Global;
 /// Does what calls no method. The error is Nowhere or out of memory.
 pub(crate) fn operation(
     alloc: Global,
-    desk: &Desk<'_>,
+    here: &AcceptedFrame<'_>,
     draft: &mut Draft<'_>,
     operation: &Operation,
     source: &Cursor<'_>,
@@ -32,13 +32,13 @@ pub(crate) fn operation(
             count,
             copies,
         } => {
-            let count = count_of(alloc, desk, draft, *field, *side, *count)?;
+            let count = count_of(alloc, here, draft, *field, *side, *count)?;
             draft.pass(*passes);
             let taken = next_number(draft, count, source)?;
             put(alloc, draft, *field, *side, count, taken, *copies)
         }
         Operation::Pass { field, side, count } => {
-            let count = count_of(alloc, desk, draft, *field, *side, *count)?;
+            let count = count_of(alloc, here, draft, *field, *side, *count)?;
             draft.pass(count);
             Ok(())
         }
@@ -48,12 +48,12 @@ pub(crate) fn operation(
             count,
             number,
         } => {
-            let count = count_of(alloc, desk, draft, *field, *side, *count)?;
+            let count = count_of(alloc, here, draft, *field, *side, *count)?;
             put(alloc, draft, *field, *side, count, *number, false)
         }
-        Operation::Up(field) => go_up(alloc, desk, draft, *field),
+        Operation::Up(field) => go_up(alloc, here, draft, *field),
         Operation::Down(field) => go_down(alloc, draft, *field),
-        Operation::Follow(step) => follow(alloc, desk, draft, *step),
+        Operation::Follow(step) => follow(alloc, here, draft, *step),
         Operation::Choose { .. } | Operation::Ask { .. } | Operation::Call { .. } => Err(
             NoGuess::Nowhere,
         ),
@@ -107,7 +107,7 @@ pub(crate) fn spelled(alloc: Global, count: usize, number: u64) -> Result<Bits, 
 /// How many bits that is. The error is Nowhere or out of memory.
 fn count_of(
     alloc: Global,
-    desk: &Desk<'_>,
+    here: &AcceptedFrame<'_>,
     draft: &Draft<'_>,
     field: usize,
     side: Side,
@@ -117,7 +117,7 @@ fn count_of(
         Count::Number(count) => Ok(count),
         Count::Parameter(index) => argument_of(draft.arguments, index),
         Count::Referred => match draft.format.fields.get(field) {
-            Some(coded) => Ok(reference(alloc, desk, coded)?.len()),
+            Some(coded) => Ok(reference(alloc, here, coded)?.len()),
             None => Err(NoGuess::Nowhere),
         },
         Count::Noted => Ok(draft.length(field, side)),
@@ -139,14 +139,14 @@ pub(crate) fn argument_of(arguments: &[i128], index: usize) -> Result<usize, NoG
 #[inline(never)]
 fn follow(
     alloc: Global,
-    desk: &Desk<'_>,
+    here: &AcceptedFrame<'_>,
     draft: &mut Draft<'_>,
     step: Step,
 ) -> Result<(), NoGuess> {
     match step {
-        Step::LibraryUp(field) => go_up(alloc, desk, draft, field),
+        Step::LibraryUp(field) => go_up(alloc, here, draft, field),
         Step::LibraryDown(field) => go_down(alloc, draft, field),
-        Step::MethodLength(field, side) => measure(alloc, desk, draft, field, side),
+        Step::MethodLength(field, side) => measure(alloc, here, draft, field, side),
         Step::ConstraintLength(field, side, number) => bracket(alloc, draft, field, side, number),
         Step::Solve(field, number) => solve(alloc, draft, field, number),
         Step::Take(_) | Step::Call(_) | Step::Choose(_) | Step::Ask(_) => Err(NoGuess::Nowhere),
@@ -183,7 +183,7 @@ fn coded<'a>(draft: &Draft<'a>, field: usize) -> Result<(&'a Field, &'a Library)
 /// Gives the field the uncompressed side that its library method makes of the packed one.
 fn go_up(
     alloc: Global,
-    desk: &Desk<'_>,
+    here: &AcceptedFrame<'_>,
     draft: &mut Draft<'_>,
     field: usize,
 ) -> Result<(), NoGuess> {
@@ -192,12 +192,12 @@ fn go_up(
         Library::CompressedValue { .. } | Library::Crc(_) => return Ok(()),
         Library::Irregular { .. } => draft.bits(field, Side::Compressed)?.copy(alloc)?,
         Library::UncompressedValue { length, value } => constant(alloc, draft, length, value)?,
-        Library::Static => reference(alloc, desk, coded)?.copy(alloc)?,
+        Library::Static => reference(alloc, here, coded)?.copy(alloc)?,
         Library::Lsb { bits, offset } => {
             let bits = number(draft, bits)?;
             let offset = number(draft, offset)?;
             let packed = draft.bits(field, Side::Compressed)?;
-            raised(alloc, desk, coded, bits as i128, offset as i128, packed)?
+            raised(alloc, here, coded, bits as i128, offset as i128, packed)?
         }
     };
     draft.set(field, Side::Uncompressed, bits);
@@ -220,10 +220,10 @@ fn go_down(alloc: Global, draft: &mut Draft<'_>, field: usize) -> Result<(), NoG
 /// The reference of the field. The error is Nowhere, where there is none, or out of memory.
 pub(crate) fn reference<'a>(
     alloc: Global,
-    desk: &Desk<'a>,
+    here: &AcceptedFrame<'a>,
     coded: &'a Field,
 ) -> Result<&'a Bits, NoGuess> {
-    match reference_below(alloc, desk.context, desk.path, coded)? {
+    match reference_below(alloc, here.frame.context, here.frame.path, coded)? {
         Some(reference) => Ok(reference),
         None => Err(NoGuess::Nowhere),
     }
@@ -232,7 +232,7 @@ pub(crate) fn reference<'a>(
 /// Notes the length that the field's library method gives a side.
 fn measure(
     alloc: Global,
-    desk: &Desk<'_>,
+    here: &AcceptedFrame<'_>,
     draft: &mut Draft<'_>,
     field: usize,
     side: Side,
@@ -243,7 +243,7 @@ fn measure(
     }
     match (library, side) {
         (Library::Static | Library::Lsb { .. }, Side::Uncompressed) => {
-            let count = reference(alloc, desk, coded)?.len();
+            let count = reference(alloc, here, coded)?.len();
             set_length(alloc, draft, field, side, count)
         }
         _ => Ok(()),

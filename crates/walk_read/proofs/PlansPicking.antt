@@ -33,8 +33,7 @@ use Rattle.sem_filling.proofs.Bounding as bounds
 use Rattle.sem_filling.specs.Bounded.{sizes_at}
 use Rattle.sem_profile.specs.declared.profile.FormatSizes.{FormatSizes}
 use Rattle.cert_tables.specs.declared.picks.Picked.TheVariants as picked
-use Rattle.cert_tables.specs.Picked.{picked_of, arrival, picks}
-use Rattle.cert_accepted.specs.Accepted.{formats_of}
+use Rattle.cert_tables.specs.Picked.{formats_of, picked_of, arrival, picks}
 use Rattle.walk_read.specs.Walking.{way_from}
 
 -- ---- the entry of a method that has a format

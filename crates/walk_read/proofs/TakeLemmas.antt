@@ -31,7 +31,7 @@ use Rattle.walk_steps.specs.Partial.{Reached, IsKept, bounds_at}
 use Rattle.walk_steps.specs.Partial as level
 use Rattle.walk_steps.specs.Sides.{length_of}
 use Rattle.walk_steps.proofs.SidesGained as gained
-use Rattle.walk_steps.specs.declared.scene.Scene.{Scene}
+use Rattle.walk_steps.specs.declared.level_frame.LevelFrame.{LevelFrame}
 use Rattle.walk_steps.specs.Finding.{IsAt, IsReady, Shows, spot_of}
 use Rattle.walk_steps.proofs.FindingGaining.{has_known}
 use Rattle.walk_steps.proofs.FindingShown.{lies}
@@ -126,30 +126,30 @@ module _ (l : Reached) (i : ℕ) (o : Option ℕ) (kept : IsKept l) (ready : IsR
 
 -- ---- what is taken
 
-module _ (scene : Scene) (l : Reached) (i offset count : ℕ) (p : Placed l i offset count) (bits : List Bool) (from : ℕ) (within : from ≤ length bits) where
-  taken_is : (f : Filling) → Shows scene l (drop from bits) f → TakenIs l.format l.slots (spot_of scene l (drop from bits)) i (length (bits_of (learnt_at l.slots i Compressed))) f
+module _ (level_frame : LevelFrame) (l : Reached) (i offset count : ℕ) (p : Placed l i offset count) (bits : List Bool) (from : ℕ) (within : from ≤ length bits) where
+  taken_is : (f : Filling) → Shows level_frame l (drop from bits) f → TakenIs l.format l.slots (spot_of level_frame l (drop from bits)) i (length (bits_of (learnt_at l.slots i Compressed))) f
   taken_is f shows =
-      rules.taken scene.profile.now.methods (bits_at scene.context.now) (spot_of scene l (drop from bits)) scene.format l.format l.slots f shows i p.ready.listed p.ready.known
+      rules.taken level_frame.frame.profile.now.methods (bits_at level_frame.frame.context.now) (spot_of level_frame l (drop from bits)) level_frame.format l.format l.slots f shows i p.ready.listed p.ready.known
 
-  pub too_short : length bits - from < offset + count → (f : Filling) → Shows scene l (drop from bits) f → length (drop from bits) < length (packed f)
+  pub too_short : length bits - from < offset + count → (f : Filling) → Shows level_frame l (drop from bits) f → length (drop from bits) < length (packed f)
   too_short less f shows = (taken_is f shows).few (omega (arith, length-drop from bits, less, p.offset_is, p.count_is))
 
   pub few_left : length bits - from < offset + count → length (drop from bits) < 2 ^ 18
   few_left less = omega (arith, length-drop from bits, less, p.few)
 
   module _ (found : List Bool) (enough : offset + count ≤ length bits - from) (is : found ≡ take count (drop (from + offset) bits)) where
-    found_in : (f : Filling) → Shows scene l (drop from bits) f → HasSide (side_at (view f) i Compressed) (Whole found)
+    found_in : (f : Filling) → Shows level_frame l (drop from bits) f → HasSide (side_at (view f) i Compressed) (Whole found)
     found_in f shows =
         (taken_is f shows).enough (omega (arith, length-drop from bits, enough, within, p.offset_is, p.count_is))
         ∙ ((λ j. take (sym p.count_is j) (drop (sym p.offset_is j) (drop from bits))) ∙ (ap (take count) (sym (drop_add from offset bits)) ∙ sym is))
 
-    pub refuses : IsSound scene.profile.now → IsKept l → IsAt scene l →
+    pub refuses : IsSound level_frame.frame.profile.now → IsKept l → IsAt level_frame l →
         ((bs : List Bool) → HasSide bs (learnt_at l.slots i Compressed) → HasSide bs (Whole found) → LiesBetween (bounds_at l.sizes i Compressed) (length bs) → ⊥) →
-        (f : Filling) → Shows scene l (drop from bits) f → ⊥
+        (f : Filling) → Shows level_frame l (drop from bits) f → ⊥
     refuses sound kept at never f shows =
-        never (side_at (view f) i Compressed) (has_known f l.slots shows.has i Compressed) (found_in f shows) (lies scene l sound kept at (drop from bits) f shows i p.within Compressed)
+        never (side_at (view f) i Compressed) (has_known f l.slots shows.has i Compressed) (found_in f shows) (lies level_frame l sound kept at (drop from bits) f shows i p.within Compressed)
 
-    pub learns : (new : Reached) → level.Learns l i Compressed (Whole found) new → LearnsAhead scene (drop from bits) (read_rule Two l.sizes l.format (Take i)) l new
+    pub learns : (new : Reached) → level.Learns l i Compressed (Whole found) new → LearnsAhead level_frame (drop from bits) (read_rule Two l.sizes l.format (Take i)) l new
     learns new h =
         let b = bounds_at l.sizes i Compressed in
         let known = gained.bits_known b i Compressed (Whole found) l.slots new.slots h.slots_are refl in

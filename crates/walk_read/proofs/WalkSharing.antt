@@ -12,7 +12,7 @@ use Rattle.cert_rules.specs.Slots.{knows_all}
 use Rattle.walk_steps.specs.Partial.{Reached}
 use Rattle.walk_steps.specs.declared.fault.StepFault.{StepFault}
 use Rattle.walk_steps.specs.declared.fault.StepFault.TheVariants as step
-use Rattle.walk_steps.specs.declared.scene.Scene.{Scene}
+use Rattle.walk_steps.specs.declared.level_frame.LevelFrame.{LevelFrame}
 use Rattle.walk_steps.specs.Finding.{Learns}
 use Rattle.walk_steps.specs.Finding as finding
 use Rattle.walk_read.specs.Walk.{LearnsAhead, BlamesStep, AreFewLeft}
@@ -33,8 +33,8 @@ shared_rule sizes format (Solve i n) own other = refl
 shared_rule sizes format (Choose i) own other = refl
 shared_rule sizes format (Ask i) own other = refl
 
-module _ (scene : Scene) (old new : Reached) (bits : List Bool) where
-  pub learns_ahead : (rule other : Option Rule) → rule ≡ other → Learns scene rule old new → LearnsAhead scene bits other old new
+module _ (level_frame : LevelFrame) (old new : Reached) (bits : List Bool) where
+  pub learns_ahead : (rule other : Option Rule) → rule ≡ other → Learns level_frame rule old new → LearnsAhead level_frame bits other old new
   learns_ahead rule other e h = record {
     format_is = h.format_is;
     sizes_are = h.sizes_are;
@@ -45,12 +45,12 @@ module _ (scene : Scene) (old new : Reached) (bits : List Bool) where
     agrees = λ f shows. h.agrees bits f shows;
   }
 
-  pub blames_ahead : (e : StepFault) → finding.Blames e scene old → BlamesStep e scene old bits
+  pub blames_ahead : (e : StepFault) → finding.Blames e level_frame old → BlamesStep e level_frame old bits
   blames_ahead step.Short h = absurd h
   blames_ahead step.Refused h = λ f shows. h bits f shows
   blames_ahead step.OutOfMemory h = tt
 
-  pub none_few : (e : StepFault) → finding.Blames e scene old → AreFewLeft e bits
+  pub none_few : (e : StepFault) → finding.Blames e level_frame old → AreFewLeft e bits
   none_few step.Short h = absurd h
   none_few step.Refused h = tt
   none_few step.OutOfMemory h = tt

@@ -37,11 +37,11 @@ use Rattle.walk_steps.specs.Calls.{MayCall, IsCall, IsFilledBy, Fills, BlamesFil
 use Rattle.walk_steps.specs.declared.calls.Call as calling
 use Rattle.walk_steps.specs.declared.fault.StepFault.{StepFault}
 use Rattle.walk_steps.specs.declared.fault.StepFault.TheVariants as step
-use Rattle.walk_steps.specs.declared.scene.Scene.{Scene}
+use Rattle.walk_steps.specs.declared.level_frame.LevelFrame.{LevelFrame}
 use Rattle.walk_steps.specs.Finding.{IsAt, IsReady, Shows}
 use Rattle.walk_steps.specs.Finding as finding
-use Rattle.cert_accepted.specs.declared.place.Place.{Place}
-use Rattle.cert_accepted.specs.Standing.{IsSceneOf, Stands, HasDepth}
+use Rattle.cert_accepted.specs.declared.frame.AcceptedFrame.{AcceptedFrame}
+use Rattle.cert_accepted.specs.Standing.{IsLevelFrameOf, Stands, HasDepth}
 use Rattle.walk_read.specs.declared.fault.ReadFault.{ReadFault}
 use Rattle.walk_read.specs.declared.fault.ReadFault.TheVariants.{Short, Refused, OutOfMemory}
 use Rattle.walk_read.specs.Walk.{spot_of, Blames, AreFew, AreFewLeft, BlamesStep, LearnsAhead}
@@ -91,29 +91,29 @@ module _ (l : Reached) (i : ℕ) (is_ready : IsReady l (read_rule Two l.sizes l.
 
 -- ---- what a filling has inside
 
-module _ (place : Place) (scene : Scene) (s : IsSceneOf place scene.format scene) (l : Reached) (i : ℕ) (bits : List Bool) (call : calling.Call) (c : IsCall scene l i call)
+module _ (place : AcceptedFrame) (level_frame : LevelFrame) (s : IsLevelFrameOf place level_frame.format level_frame) (l : Reached) (i : ℕ) (bits : List Bool) (call : calling.Call) (c : IsCall level_frame l i call)
     (is_ready : IsReady l (read_rule Two l.sizes l.format (steps.Call i))) where
-  module _ (f : Filling) (shows : Shows scene l bits f) where
-    pub inside : InnerIs scene.profile.now.methods (bits_at scene.context.now) (finding.spot_of scene l bits) l.format l.slots i c.field call.method c.exprs f
+  module _ (f : Filling) (shows : Shows level_frame l bits f) where
+    pub inside : InnerIs level_frame.frame.profile.now.methods (bits_at level_frame.frame.context.now) (finding.spot_of level_frame l bits) l.format l.slots i c.field call.method c.exprs f
     inside =
-        called scene.profile.now.methods (bits_at scene.context.now) (finding.spot_of scene l bits) scene.format l.format l.slots f shows i c.field call.method c.exprs c.field_is c.encoding_is
+        called level_frame.frame.profile.now.methods (bits_at level_frame.frame.context.now) (finding.spot_of level_frame l bits) level_frame.format l.format l.slots f shows i c.field call.method c.exprs c.field_is c.encoding_is
         (needs_of l i is_ready call.method c.field c.exprs c.field_is c.encoding_is)
 
-    pub inside_ahead : IsAhead place.accepted.now.profile.methods (bits_at place.context.now) (spot_in l i call bits) inside.inner
+    pub inside_ahead : IsAhead place.accepted.now.profile.methods (bits_at place.frame.context.now) (spot_in l i call bits) inside.inner
     inside_ahead =
         let same : inside.args ≡ call.arguments = same_Some inside.args call.arguments (sym inside.args_are ∙ c.args_are) in
-        ahead_there place scene s (spot_in l i call bits) inside.inner
-        (subst (λ z. IsAhead scene.profile.now.methods (bits_at scene.context.now) z inside.inner)
+        ahead_there place level_frame s (spot_in l i call bits) inside.inner
+        (subst (λ z. IsAhead level_frame.frame.profile.now.methods (bits_at level_frame.frame.context.now) z inside.inner)
         (λ q. record { method = call.method; args = same q; path = sym c.path_is q; bits = bits_from (lists l.format.listing i) (offset_of l.format l.slots i) bits }) inside.ahead)
 
-  pub inside_blames : (e : ReadFault) → BlamesInside e place l i call bits → BlamesShown e scene l bits
+  pub inside_blames : (e : ReadFault) → BlamesInside e place l i call bits → BlamesShown e level_frame l bits
   inside_blames (Short at) h = λ f shows.
       (inside f shows).longer h.0 (subst (λ b. length (bits_from b (offset_of l.format l.slots i) bits) < length (packed (inside f shows).inner)) h.0 (h.1 (inside f shows).inner (inside_ahead f shows)))
   inside_blames (Refused at) h = λ f shows. h (inside f shows).inner (inside_ahead f shows) (inside f shows).unsent
   inside_blames OutOfMemory h = tt
 
   module _ (g : Filling) (found : IsOnlyInside place l i call bits g) where
-    pub filled : (f : Filling) → Shows scene l bits f → IsFilledBy f i g
+    pub filled : (f : Filling) → Shows level_frame l bits f → IsFilledBy f i g
     filled f shows =
         let same : (inside f shows).inner ≡ g = found (inside f shows).inner (inside_ahead f shows) in
         record {
@@ -122,12 +122,12 @@ module _ (place : Place) (scene : Scene) (s : IsSceneOf place scene.format scene
           compressed = (inside f shows).compressed ∙ ap packed same;
         }
 
-    pub filling_blames : (e : StepFault) → BlamesFilling e scene l i g → BlamesShown (fault_of scene e) scene l bits
+    pub filling_blames : (e : StepFault) → BlamesFilling e level_frame l i g → BlamesShown (fault_of level_frame e) level_frame l bits
     filling_blames step.Short h = absurd h
     filling_blames step.Refused h = λ f shows. h bits f shows (filled f shows)
     filling_blames step.OutOfMemory h = tt
 
-    pub call_learns : (new : Reached) → Fills l i g new → LearnsAhead scene bits (read_rule Two l.sizes l.format (steps.Call i)) l new
+    pub call_learns : (new : Reached) → Fills l i g new → LearnsAhead level_frame bits (read_rule Two l.sizes l.format (steps.Call i)) l new
     call_learns new h = record {
       format_is = h.format_is;
       sizes_are = h.sizes_are;
@@ -163,40 +163,40 @@ module _ (place : Place) (scene : Scene) (s : IsSceneOf place scene.format scene
 
 -- ---- faults of the level's own steps
 
-pub step_blames : (scene : Scene) (l : Reached) (bits : List Bool) (e : StepFault) → BlamesStep e scene l bits → BlamesShown (fault_of scene e) scene l bits
-step_blames scene l bits step.Short h = h
-step_blames scene l bits step.Refused h = h
-step_blames scene l bits step.OutOfMemory h = tt
+pub step_blames : (level_frame : LevelFrame) (l : Reached) (bits : List Bool) (e : StepFault) → BlamesStep e level_frame l bits → BlamesShown (fault_of level_frame e) level_frame l bits
+step_blames level_frame l bits step.Short h = h
+step_blames level_frame l bits step.Refused h = h
+step_blames level_frame l bits step.OutOfMemory h = tt
 
-pub called_blames : (scene : Scene) (l : Reached) (bits : List Bool) (e : StepFault) → finding.Blames e scene l → BlamesShown (fault_of scene e) scene l bits
-called_blames scene l bits step.Short h = absurd h
-called_blames scene l bits step.Refused h = λ f shows. h bits f shows
-called_blames scene l bits step.OutOfMemory h = tt
+pub called_blames : (level_frame : LevelFrame) (l : Reached) (bits : List Bool) (e : StepFault) → finding.Blames e level_frame l → BlamesShown (fault_of level_frame e) level_frame l bits
+called_blames level_frame l bits step.Short h = absurd h
+called_blames level_frame l bits step.Refused h = λ f shows. h bits f shows
+called_blames level_frame l bits step.OutOfMemory h = tt
 
-pub one_deep : (place : Place) (depth : ℕ) → HasDepth place depth → 1 ≤ depth
-one_deep place depth deep = deep place.method 1 at_top
+pub one_deep : (place : AcceptedFrame) (depth : ℕ) → HasDepth place depth → 1 ≤ depth
+one_deep place depth deep = deep place.frame.method 1 at_top
 
-pub step_few : (scene : Scene) (depth : ℕ) (bits : List Bool) (e : StepFault) → 1 ≤ depth → AreFewLeft e bits → AreFew (fault_of scene e) depth bits
-step_few scene depth bits step.Short deep h = omega (arith, deep, h)
-step_few scene depth bits step.Refused deep h = tt
-step_few scene depth bits step.OutOfMemory deep h = tt
+pub step_few : (level_frame : LevelFrame) (depth : ℕ) (bits : List Bool) (e : StepFault) → 1 ≤ depth → AreFewLeft e bits → AreFew (fault_of level_frame e) depth bits
+step_few level_frame depth bits step.Short deep h = omega (arith, deep, h)
+step_few level_frame depth bits step.Refused deep h = tt
+step_few level_frame depth bits step.OutOfMemory deep h = tt
 
 -- ---- where the called method stands
 
-pub lie_here : (place : Place) (scene : Scene) → IsSceneOf place scene.format scene → (args : List ℤ) → args ≡ place.arguments.now → Stands place → ArgumentsLieAt scene.profile.now scene.method args
-lie_here place scene s args args_are stands =
-    subst (λ p. ArgumentsLieAt p scene.method args) (sym s.profile_is)
-    (subst (λ k. ArgumentsLieAt place.accepted.now.profile k args) (sym s.method_is) (subst (ArgumentsLieAt place.accepted.now.profile place.method) (sym args_are) stands.lie))
+pub lie_here : (place : AcceptedFrame) (level_frame : LevelFrame) → IsLevelFrameOf place level_frame.format level_frame → (args : List ℤ) → args ≡ place.frame.arguments.now → Stands place → ArgumentsLieAt level_frame.frame.profile.now level_frame.frame.method args
+lie_here place level_frame s args args_are stands =
+    subst (λ p. ArgumentsLieAt p level_frame.frame.method args) (sym s.profile_is)
+    (subst (λ k. ArgumentsLieAt place.accepted.now.profile k args) (sym s.method_is) (subst (ArgumentsLieAt place.accepted.now.profile place.frame.method) (sym args_are) stands.lie))
 
-module _ (place : Place) (scene : Scene) (s : IsSceneOf place scene.format scene) (l : Reached) (i : ℕ) (call : calling.Call) (c : IsCall scene l i call) (at : IsAt scene l) where
-  format_here : format_at place.accepted.now.profile.methods place.method scene.format ≡ Some l.format
+module _ (place : AcceptedFrame) (level_frame : LevelFrame) (s : IsLevelFrameOf place level_frame.format level_frame) (l : Reached) (i : ℕ) (call : calling.Call) (c : IsCall level_frame l i call) (at : IsAt level_frame l) where
+  format_here : format_at place.accepted.now.profile.methods place.frame.method level_frame.format ≡ Some l.format
   format_here =
-      subst (λ p. format_at p.methods place.method scene.format ≡ Some l.format) s.profile_is (subst (λ k. format_at scene.profile.now.methods k scene.format ≡ Some l.format) s.method_is at.format_is)
+      subst (λ p. format_at p.methods place.frame.method level_frame.format ≡ Some l.format) s.profile_is (subst (λ k. format_at level_frame.frame.profile.now.methods k level_frame.format ≡ Some l.format) s.method_is at.format_is)
 
   pub callee_there : IsSound place.accepted.now.profile → call.method < length place.accepted.now.profile.methods
   callee_there sound =
-      let p = placed place.accepted.now.profile.methods place.method scene.format l.format format_here in
-      let callee = (sound.well_formed.formats place.method scene.format p.method l.format p.method_at p.format_is).calls i call.method c.field c.exprs c.field_is c.encoding_is in
+      let p = placed place.accepted.now.profile.methods place.frame.method level_frame.format l.format format_here in
+      let callee = (sound.well_formed.formats place.frame.method level_frame.format p.method l.format p.method_at p.format_is).calls i call.method c.field c.exprs c.field_is c.encoding_is in
       slice_get_within place.accepted.now.profile.methods call.method callee.0 callee.1
 
   pub callee_lies : ArgumentsLieAt place.accepted.now.profile call.method call.arguments
@@ -204,20 +204,20 @@ module _ (place : Place) (scene : Scene) (s : IsSceneOf place scene.format scene
 
   pub callee_deep : (depth : ℕ) → HasDepth place depth → (j n : ℕ) → Chain (used_graph place.accepted.now.profile.methods) call.method n j → n ≤ depth - 1
   callee_deep depth deep j n chain =
-      let p = placed place.accepted.now.profile.methods place.method scene.format l.format format_here in
-      let calls = calls_of_field place.accepted.now.profile.methods place.method p.method scene.format i call.method l.format c.field c.exprs p.method_at p.format_is c.field_is c.encoding_is in
-      let longer = deep j (suc n) (chain_before (used_graph place.accepted.now.profile.methods) place.method call.method calls chain) in
+      let p = placed place.accepted.now.profile.methods place.frame.method level_frame.format l.format format_here in
+      let calls = calls_of_field place.accepted.now.profile.methods place.frame.method p.method level_frame.format i call.method l.format c.field c.exprs p.method_at p.format_is c.field_is c.encoding_is in
+      let longer = deep j (suc n) (chain_before (used_graph place.accepted.now.profile.methods) place.frame.method call.method calls chain) in
       omega (arith, longer)
 
 -- ---- what was read there
 
-module _ (place inner : Place) (l : Reached) (i : ℕ) (call : calling.Call) (bits there : List Bool) (same : spot_of inner there ≡ spot_in l i call bits)
-    (accepted_is : inner.accepted.now ≡ place.accepted.now) (context_is : inner.context.now ≡ place.context.now) where
-  ahead_inside : (g : Filling) → IsAhead place.accepted.now.profile.methods (bits_at place.context.now) (spot_in l i call bits) g →
-      IsAhead inner.accepted.now.profile.methods (bits_at inner.context.now) (spot_of inner there) g
+module _ (place inner : AcceptedFrame) (l : Reached) (i : ℕ) (call : calling.Call) (bits there : List Bool) (same : spot_of inner there ≡ spot_in l i call bits)
+    (accepted_is : inner.accepted.now ≡ place.accepted.now) (context_is : inner.frame.context.now ≡ place.frame.context.now) where
+  ahead_inside : (g : Filling) → IsAhead place.accepted.now.profile.methods (bits_at place.frame.context.now) (spot_in l i call bits) g →
+      IsAhead inner.accepted.now.profile.methods (bits_at inner.frame.context.now) (spot_of inner there) g
   ahead_inside g h =
-      subst (λ z. IsAhead inner.accepted.now.profile.methods (bits_at inner.context.now) z g) (sym same)
-      (subst (λ a. IsAhead a.profile.methods (bits_at inner.context.now) (spot_in l i call bits) g) (sym accepted_is)
+      subst (λ z. IsAhead inner.accepted.now.profile.methods (bits_at inner.frame.context.now) z g) (sym same)
+      (subst (λ a. IsAhead a.profile.methods (bits_at inner.frame.context.now) (spot_in l i call bits) g) (sym accepted_is)
       (subst (λ x. IsAhead place.accepted.now.profile.methods (bits_at x) (spot_in l i call bits) g) (sym context_is) h))
 
   pub listed_blames : lists l.format.listing i ≡ true → (e : ReadFault) → Blames e inner there → BlamesInside e place l i call bits

@@ -30,25 +30,25 @@ use Rattle.cert_rules.proofs.SlotsGrowing.{grown_know, knows_all_had, start_know
 use Rattle.cert_rules.proofs.ViewsLearning.{only_made, start_has}
 use Rattle.cert_rules.proofs.Plans.{all_learnt}
 use Rattle.walk_steps.specs.Partial.{Reached, Lacks}
-use Rattle.walk_steps.specs.declared.scene.Scene.{Scene}
+use Rattle.walk_steps.specs.declared.level_frame.LevelFrame.{LevelFrame}
 use Rattle.walk_steps.specs.Finding.{IsAt, IsReady, Shows}
 use Rattle.walk_steps.specs.Finding as finding
-use Rattle.cert_accepted.specs.declared.place.Place.{Place}
-use Rattle.cert_accepted.specs.Standing.{IsSceneOf, IsAtStart}
+use Rattle.cert_accepted.specs.declared.frame.AcceptedFrame.{AcceptedFrame}
+use Rattle.cert_accepted.specs.Standing.{IsLevelFrameOf, IsAtStart}
 use Rattle.walk_read.specs.declared.fault.ReadFault.{ReadFault}
 use Rattle.walk_read.specs.declared.fault.ReadFault.TheVariants.{Short, Refused, OutOfMemory}
 use Rattle.walk_read.specs.Walk.{spot_of, IsOnlyAhead, Blames, LearnsAhead}
 use Rattle.walk_read.specs.Walking.{way_from, IsPlanOf, IsUnderWay, BlamesFormat, IsUnfit, BlamesEnd, IsFresh, BlamesShown}
 
--- ---- a scene of a place
+-- ---- a level frame of a place
 
-module _ (place : Place) (scene : Scene) (s : IsSceneOf place scene.format scene) (spot : Spot) (f : Filling) where
-  pub ahead_here : IsAhead place.accepted.now.profile.methods (bits_at place.context.now) spot f → IsAhead scene.profile.now.methods (bits_at scene.context.now) spot f
+module _ (place : AcceptedFrame) (level_frame : LevelFrame) (s : IsLevelFrameOf place level_frame.format level_frame) (spot : Spot) (f : Filling) where
+  pub ahead_here : IsAhead place.accepted.now.profile.methods (bits_at place.frame.context.now) spot f → IsAhead level_frame.frame.profile.now.methods (bits_at level_frame.frame.context.now) spot f
   ahead_here h =
-      subst (λ p. IsAhead p.methods (bits_at scene.context.now) spot f) (sym s.profile_is) (subst (λ c. IsAhead place.accepted.now.profile.methods (bits_at c) spot f) (sym s.context_is) h)
+      subst (λ p. IsAhead p.methods (bits_at level_frame.frame.context.now) spot f) (sym s.profile_is) (subst (λ c. IsAhead place.accepted.now.profile.methods (bits_at c) spot f) (sym s.context_is) h)
 
-  pub ahead_there : IsAhead scene.profile.now.methods (bits_at scene.context.now) spot f → IsAhead place.accepted.now.profile.methods (bits_at place.context.now) spot f
-  ahead_there h = subst (λ p. IsAhead p.methods (bits_at place.context.now) spot f) s.profile_is (subst (λ c. IsAhead scene.profile.now.methods (bits_at c) spot f) s.context_is h)
+  pub ahead_there : IsAhead level_frame.frame.profile.now.methods (bits_at level_frame.frame.context.now) spot f → IsAhead place.accepted.now.profile.methods (bits_at place.frame.context.now) spot f
+  ahead_there h = subst (λ p. IsAhead p.methods (bits_at place.frame.context.now) spot f) s.profile_is (subst (λ c. IsAhead level_frame.frame.profile.now.methods (bits_at c) spot f) s.context_is h)
 
 -- ---- lists of facts
 
@@ -97,7 +97,7 @@ start_inner listing n [] i = refl
 start_inner listing n (d ∷ ds) zero = refl
 start_inner listing n (d ∷ ds) (suc i) = start_inner listing (suc n) ds i
 
-pub started : (place : Place) (n : ℕ) (bits : List Bool) (steps : List Step) (l : Reached) → IsAtStart place n l → IsPlanOf place n steps → IsUnderWay place n bits steps l
+pub started : (place : AcceptedFrame) (n : ℕ) (bits : List Bool) (steps : List Step) (l : Reached) → IsAtStart place n l → IsPlanOf place n steps → IsUnderWay place n bits steps l
 started place n bits steps l a plan = record {
   format_is = a.format_is;
   sizes_are = a.sizes_are;
@@ -106,7 +106,7 @@ started place n bits steps l a plan = record {
   knows = subst (λ xs. knows_all l.format xs (known_at_start l.format) ≡ true) (sym a.slots_are) (start_knows l.format);
   plan = plan l.format l.sizes a.format_is a.sizes_are;
   once = λ i. inl (subst (λ xs. slot_inner (slice_get xs i) ≡ None) (sym a.slots_are) (start_inner l.format.listing 0 l.format.fields i));
-  shown = λ f h is. subst (HasSlots f) (sym a.slots_are) (start_has place.accepted.now.profile.methods (bits_at place.context.now) (spot_of place bits) n l.format f h is a.format_is);
+  shown = λ f h is. subst (HasSlots f) (sym a.slots_are) (start_has place.accepted.now.profile.methods (bits_at place.frame.context.now) (spot_of place bits) n l.format f h is a.format_is);
 }
 
 -- ---- a step
@@ -120,27 +120,27 @@ absent_of format i (encoding.Call k es) r e = let same = same_Some _ r e in sym 
 absent_of format i encoding.Bare r e = absurd (cc)
 absent_of format i (encoding.Library l) r e = absurd (cc)
 
-module _ (place : Place) (scene : Scene) (s : IsSceneOf place scene.format scene) (bits : List Bool) (steps : List Step) (l : Reached) (way : IsUnderWay place scene.format bits steps l)
+module _ (place : AcceptedFrame) (level_frame : LevelFrame) (s : IsLevelFrameOf place level_frame.format level_frame) (bits : List Bool) (steps : List Step) (l : Reached) (way : IsUnderWay place level_frame.format bits steps l)
     (count : length l.slots ≡ length l.format.fields) where
-  pub at : IsAt scene l
+  pub at : IsAt level_frame l
   at = record {
-    format_is = subst (λ k. format_at scene.profile.now.methods k scene.format ≡ Some l.format) (sym s.method_is) (subst (λ p. format_at p.methods place.method scene.format ≡ Some l.format) (sym s.profile_is) way.format_is);
-    sizes_are = subst (λ k. sizes_at scene.profile.now.sizes k scene.format ≡ Some l.sizes) (sym s.method_is) (subst (λ p. sizes_at p.sizes place.method scene.format ≡ Some l.sizes) (sym s.profile_is) way.sizes_are);
+    format_is = subst (λ k. format_at level_frame.frame.profile.now.methods k level_frame.format ≡ Some l.format) (sym s.method_is) (subst (λ p. format_at p.methods place.frame.method level_frame.format ≡ Some l.format) (sym s.profile_is) way.format_is);
+    sizes_are = subst (λ k. sizes_at level_frame.frame.profile.now.sizes k level_frame.format ≡ Some l.sizes) (sym s.method_is) (subst (λ p. sizes_at p.sizes place.frame.method level_frame.format ≡ Some l.sizes) (sym s.profile_is) way.sizes_are);
   }
 
-  same_spot : finding.spot_of scene l bits ≡ spot_of place bits
+  same_spot : finding.spot_of level_frame l bits ≡ spot_of place bits
   same_spot = λ i. record { method = s.method_is i; args = way.args_are i; path = s.path_is i; bits = bits }
 
-  pub shows : (f : Filling) → IsAhead place.accepted.now.profile.methods (bits_at place.context.now) (spot_of place bits) f → (out-Filling f).format ≡ scene.format → Shows scene l bits f
+  pub shows : (f : Filling) → IsAhead place.accepted.now.profile.methods (bits_at place.frame.context.now) (spot_of place bits) f → (out-Filling f).format ≡ level_frame.format → Shows level_frame l bits f
   shows f h is = record {
-    ahead = subst (λ z. IsAhead scene.profile.now.methods (bits_at scene.context.now) z f) (sym same_spot) (ahead_here place scene s (spot_of place bits) f h);
+    ahead = subst (λ z. IsAhead level_frame.frame.profile.now.methods (bits_at level_frame.frame.context.now) z f) (sym same_spot) (ahead_here place level_frame s (spot_of place bits) f h);
     format_is = is;
     at = at.format_is;
     count = count;
     has = way.shown f h is;
   }
 
-  pub blames : (e : ReadFault) → BlamesShown e scene l bits → BlamesFormat e place scene.format bits
+  pub blames : (e : ReadFault) → BlamesShown e level_frame l bits → BlamesFormat e place level_frame.format bits
   blames (Short _) h = λ f a is. h f (shows f a is)
   blames (Refused _) h = λ f a is. h f (shows f a is)
   blames OutOfMemory h = tt
@@ -178,7 +178,7 @@ module _ (place : Place) (scene : Scene) (s : IsSceneOf place scene.format scene
         by (Choose i) h = tt
         by (Ask i) h = tt
 
-    pub gone_on : (new : Reached) → LearnsAhead scene bits (read_rule Two l.sizes l.format step) l new → IsUnderWay place scene.format bits rest new
+    pub gone_on : (new : Reached) → LearnsAhead level_frame bits (read_rule Two l.sizes l.format step) l new → IsUnderWay place level_frame.format bits rest new
     gone_on new h = record {
       format_is = way.format_is ∙ ap Some (sym h.format_is);
       sizes_are = way.sizes_are ∙ ap Some (sym h.sizes_are);
@@ -200,11 +200,11 @@ module _ (place : Place) (scene : Scene) (s : IsSceneOf place scene.format scene
 
 -- ---- the end
 
-module _ (place : Place) (n : ℕ) (bits : List Bool) (l : Reached) (way : IsUnderWay place n bits [] l) (count : length l.slots ≡ length l.format.fields)
-    (one : OneFormat place.accepted.now.profile.methods (bits_at place.context.now) (spot_of place bits) n) where
+module _ (place : AcceptedFrame) (n : ℕ) (bits : List Bool) (l : Reached) (way : IsUnderWay place n bits [] l) (count : length l.slots ≡ length l.format.fields)
+    (one : OneFormat place.accepted.now.profile.methods (bits_at place.frame.context.now) (spot_of place bits) n) where
   pub only : (g : Filling) → IsMade n l.format l.slots g → IsOnlyAhead place bits g
   only g made f h =
-      only_made place.accepted.now.profile.methods (bits_at place.context.now) (spot_of place bits) n l.format l.slots f
+      only_made place.accepted.now.profile.methods (bits_at place.frame.context.now) (spot_of place bits) n l.format l.slots f
       record { ahead = h; format_is = one f h; at = way.format_is; count = count; has = way.shown f h (one f h) } way.known way.plan.complete way.knows g made
 
   none_lacks : Lacks l.slots → ⊥
@@ -215,9 +215,9 @@ module _ (place : Place) (n : ℕ) (bits : List Bool) (l : Reached) (way : IsUnd
       let wrong : false ≡ true = sym lacks.unknown ∙ here in
       absurd cc
 
-  none_unfit : IsUnfit place n l → NoneAhead place.accepted.now.profile.methods (bits_at place.context.now) (spot_of place bits)
+  none_unfit : IsUnfit place n l → NoneAhead place.accepted.now.profile.methods (bits_at place.frame.context.now) (spot_of place bits)
   none_unfit u f h =
-      u.unfit (subst (Fits place.accepted.now.profile.methods (bits_at place.context.now) place.method place.arguments.now place.path.now) (only u.filling u.made f h) h.in_front.fits)
+      u.unfit (subst (Fits place.accepted.now.profile.methods (bits_at place.frame.context.now) place.frame.method place.frame.arguments.now place.frame.path.now) (only u.filling u.made f h) h.in_front.fits)
 
   pub ended_by : (e : ReadFault) → BlamesEnd e place n l → Blames e place bits
   ended_by (Short _) h = absurd h

@@ -11,24 +11,24 @@ use Rattle.cert_rules.specs.Reading.{Spot, AllLonger, NoneAhead, OnlyAhead}
 use Rattle.walk_steps.specs.Partial.{Reached}
 use Rattle.walk_steps.specs.declared.fault.StepFault.{StepFault}
 use Rattle.walk_steps.specs.declared.fault.StepFault.TheVariants as step
-use Rattle.walk_steps.specs.declared.scene.Scene.{Scene}
+use Rattle.walk_steps.specs.declared.level_frame.LevelFrame.{LevelFrame}
 use Rattle.walk_steps.specs.Finding.{Shows}
-use Rattle.cert_accepted.specs.declared.place.Place.{Place}
+use Rattle.cert_accepted.specs.declared.frame.AcceptedFrame.{AcceptedFrame}
 use Rattle.walk_read.specs.declared.fault.ReadFault.{ReadFault}
 use Rattle.walk_read.specs.declared.fault.ReadFault.TheVariants.{Short, Refused, OutOfMemory}
 
 -- where these bits are ahead
-abbrev pub spot_of : Place → List Bool → Spot
-spot_of place bits = record { method = place.method; args = place.arguments.now; path = place.path.now; bits = bits }
+abbrev pub spot_of : AcceptedFrame → List Bool → Spot
+spot_of place bits = record { method = place.frame.method; args = place.frame.arguments.now; path = place.frame.path.now; bits = bits }
 
 -- no other filling is ahead, whatever bits follow
-abbrev pub IsOnlyAhead : Place → List Bool → Filling → Type 0
-IsOnlyAhead place bits g = OnlyAhead place.accepted.now.profile.methods (bits_at place.context.now) (spot_of place bits) g
+abbrev pub IsOnlyAhead : AcceptedFrame → List Bool → Filling → Type 0
+IsOnlyAhead place bits g = OnlyAhead place.accepted.now.profile.methods (bits_at place.frame.context.now) (spot_of place bits) g
 
 -- what a fault says: each filling ahead is longer than the bits, or none is ahead, whatever bits follow
-abbrev pub Blames : ReadFault → Place → List Bool → Type 0
-Blames (Short at) place bits = AllLonger place.accepted.now.profile.methods (bits_at place.context.now) (spot_of place bits)
-Blames (Refused at) place bits = NoneAhead place.accepted.now.profile.methods (bits_at place.context.now) (spot_of place bits)
+abbrev pub Blames : ReadFault → AcceptedFrame → List Bool → Type 0
+Blames (Short at) place bits = AllLonger place.accepted.now.profile.methods (bits_at place.frame.context.now) (spot_of place bits)
+Blames (Refused at) place bits = NoneAhead place.accepted.now.profile.methods (bits_at place.frame.context.now) (spot_of place bits)
 Blames OutOfMemory place bits = Unit {0}
 
 -- how many bits are enough at a depth of calls: each method takes at most 2^18, and its tree tests bits below 8,192
@@ -44,7 +44,7 @@ AreFew OutOfMemory depth bits = Unit {0}
 -- ---- steps
 
 -- what the step gives is known, and what was known still is; each filling that showed what was known, with these bits in front, has what is known now
-pub record LearnsAhead (scene : Scene) (bits : List Bool) (rule : Option Rule) (old new : Reached) : Type 0 where
+pub record LearnsAhead (level_frame : LevelFrame) (bits : List Bool) (rule : Option Rule) (old new : Reached) : Type 0 where
   pub format_is : new.format ≡ old.format
   pub sizes_are : new.sizes ≡ old.sizes
   pub args_are : new.args ≡ old.args
@@ -52,13 +52,13 @@ pub record LearnsAhead (scene : Scene) (bits : List Bool) (rule : Option Rule) (
   -- a field whose filling inside is known is one whose filling was known, or the step says that it is done
   pub inners : (i : ℕ) → (slot_inner (slice_get new.slots i) ≡ slot_inner (slice_get old.slots i)) ⊎ IsSomeAnd rule (λ r. has_all r.gives (Done i ∷ []) ≡ true)
   pub gives : IsSomeAnd rule (λ r. knows_all old.format new.slots r.gives ≡ true)
-  pub agrees : (f : Filling) → Shows scene old bits f → HasSlots f new.slots
+  pub agrees : (f : Filling) → Shows level_frame old bits f → HasSlots f new.slots
 
 -- what a step's fault says: each filling that shows what the level knows, with these bits in front, is longer than they are; or there is none
-abbrev pub BlamesStep : StepFault → Scene → Reached → List Bool → Type 0
-BlamesStep step.Short scene l bits = (f : Filling) → Shows scene l bits f → length bits < length (packed f)
-BlamesStep step.Refused scene l bits = (f : Filling) → Shows scene l bits f → ⊥
-BlamesStep step.OutOfMemory scene l bits = Unit {0}
+abbrev pub BlamesStep : StepFault → LevelFrame → Reached → List Bool → Type 0
+BlamesStep step.Short level_frame l bits = (f : Filling) → Shows level_frame l bits f → length bits < length (packed f)
+BlamesStep step.Refused level_frame l bits = (f : Filling) → Shows level_frame l bits f → ⊥
+BlamesStep step.OutOfMemory level_frame l bits = Unit {0}
 
 -- where a take runs out of bits there are fewer than the packed bits of a method may be
 abbrev pub AreFewLeft : StepFault → List Bool → Type 0

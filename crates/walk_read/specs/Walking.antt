@@ -1,5 +1,5 @@
 -- How far a walk that reads is (docs/DEFINITIONS.md, The steps of a reading walk).
-use Rattle.std.specs.Prelude.{◌≡◌, ◌⊎◌, ℕ, ◌<◌, Bool, true, false, List, [], length, slice_get, Some, None, Result, Ok, Err, string_bytes}
+use Rattle.std.specs.Prelude.{◌≡◌, ◌⊎◌, ℕ, ◌<◌, Bool, true, false, List, [], length, slice_get, Some, None, Result, Ok, Err, drop, string_bytes}
 use Rattle.sem_profile.specs.Fields.{lists}
 use Rattle.cert_types.specs.declared.certificate.Direction.TheVariants.{Read}
 use Rattle.cert_types.specs.declared.certificate.Step.{Step}
@@ -23,12 +23,17 @@ use Rattle.walk_steps.specs.Partial.{Reached, Lacks}
 use Rattle.walk_steps.specs.declared.calls.Call as calling
 use Rattle.walk_steps.specs.declared.fault.StepFault.{StepFault}
 use Rattle.walk_steps.specs.declared.fault.StepFault.TheVariants as step
-use Rattle.walk_steps.specs.declared.scene.Scene.{Scene}
+use Rattle.walk_steps.specs.declared.level_frame.LevelFrame.{LevelFrame}
 use Rattle.walk_steps.specs.Finding.{Shows}
-use Rattle.cert_accepted.specs.declared.place.Place.{Place}
+use Rattle.cert_accepted.specs.declared.frame.AcceptedFrame.{AcceptedFrame}
 use Rattle.walk_read.specs.declared.fault.ReadFault.{ReadFault}
 use Rattle.walk_read.specs.declared.fault.ReadFault.TheVariants.{Short, Refused, OutOfMemory}
+use Rattle.walk_read.specs.declared.walk.Reading.{Reading}
 use Rattle.walk_read.specs.Walk.{spot_of}
+
+-- the bits that are read
+abbrev pub bits_of : Reading → List Bool
+bits_of reading = drop reading.from reading.cursor.now.left
 
 -- ---- the plan of a format
 
@@ -37,45 +42,45 @@ abbrev pub way_from : FormatSizes → Format → List Fact → Way
 way_from sizes format known = record { rule = read_rule Two sizes format; start = known; goals = goals_of Read format }
 
 -- the steps are a plan to read the format of the method, if it has that format
-abbrev pub IsPlanOf : Place → ℕ → List Step → Type 0
-IsPlanOf place n steps = (format : Format) (sizes : FormatSizes) → format_at place.accepted.now.profile.methods place.method n ≡ Some format → sizes_at place.accepted.now.profile.sizes place.method n ≡ Some sizes →
+abbrev pub IsPlanOf : AcceptedFrame → ℕ → List Step → Type 0
+IsPlanOf place n steps = (format : Format) (sizes : FormatSizes) → format_at place.accepted.now.profile.methods place.frame.method n ≡ Some format → sizes_at place.accepted.now.profile.sizes place.frame.method n ≡ Some sizes →
     IsPlan (way_from sizes format (known_at_start format)) steps
 
 -- the method has no such format
-abbrev pub LacksFormat : Place → ℕ → Type 0
-LacksFormat place n = (format : Format) → format_at place.accepted.now.profile.methods place.method n ≡ Some format → ⊥
+abbrev pub LacksFormat : AcceptedFrame → ℕ → Type 0
+LacksFormat place n = (format : Format) → format_at place.accepted.now.profile.methods place.frame.method n ≡ Some format → ⊥
 
 -- ---- a level with the steps that are still to come
 
 -- The level, of the format n of the method, knows some facts, and from there these steps are a plan; each filling ahead of that format has all that it knows.
-pub record IsUnderWay (place : Place) (n : ℕ) (bits : List Bool) (steps : List Step) (l : Reached) : Type 0 where
-  pub format_is : format_at place.accepted.now.profile.methods place.method n ≡ Some l.format
-  pub sizes_are : sizes_at place.accepted.now.profile.sizes place.method n ≡ Some l.sizes
-  pub args_are : l.args ≡ place.arguments.now
+pub record IsUnderWay (place : AcceptedFrame) (n : ℕ) (bits : List Bool) (steps : List Step) (l : Reached) : Type 0 where
+  pub format_is : format_at place.accepted.now.profile.methods place.frame.method n ≡ Some l.format
+  pub sizes_are : sizes_at place.accepted.now.profile.sizes place.frame.method n ≡ Some l.sizes
+  pub args_are : l.args ≡ place.frame.arguments.now
   pub known : List Fact
   pub knows : knows_all l.format l.slots known ≡ true
   pub plan : IsPlan (way_from l.sizes l.format known) steps
   -- a field whose filling inside is known was called
   pub once : (i : ℕ) → (slot_inner (slice_get l.slots i) ≡ None) ⊎ (has known (Done i) ≡ true)
-  pub shown : (f : Filling) → IsAhead place.accepted.now.profile.methods (bits_at place.context.now) (spot_of place bits) f → (out-Filling f).format ≡ n → HasSlots f l.slots
+  pub shown : (f : Filling) → IsAhead place.accepted.now.profile.methods (bits_at place.frame.context.now) (spot_of place bits) f → (out-Filling f).format ≡ n → HasSlots f l.slots
 
 -- what a fault says of the fillings ahead of the format n: each is longer than the bits, or there is none
-abbrev pub BlamesFormat : ReadFault → Place → ℕ → List Bool → Type 0
+abbrev pub BlamesFormat : ReadFault → AcceptedFrame → ℕ → List Bool → Type 0
 BlamesFormat (Short at) place n bits =
-    (f : Filling) → IsAhead place.accepted.now.profile.methods (bits_at place.context.now) (spot_of place bits) f → (out-Filling f).format ≡ n → length bits < length (packed f)
-BlamesFormat (Refused at) place n bits = (f : Filling) → IsAhead place.accepted.now.profile.methods (bits_at place.context.now) (spot_of place bits) f → (out-Filling f).format ≡ n → ⊥
+    (f : Filling) → IsAhead place.accepted.now.profile.methods (bits_at place.frame.context.now) (spot_of place bits) f → (out-Filling f).format ≡ n → length bits < length (packed f)
+BlamesFormat (Refused at) place n bits = (f : Filling) → IsAhead place.accepted.now.profile.methods (bits_at place.frame.context.now) (spot_of place bits) f → (out-Filling f).format ≡ n → ⊥
 BlamesFormat OutOfMemory place n bits = Unit {0}
 
 -- ---- the end of a level
 
 -- the filling that is made of what is known doesn't fit
-pub record IsUnfit (place : Place) (n : ℕ) (l : Reached) : Type 0 where
+pub record IsUnfit (place : AcceptedFrame) (n : ℕ) (l : Reached) : Type 0 where
   pub filling : Filling
   pub made : IsMade n l.format l.slots filling
-  pub unfit : Fits place.accepted.now.profile.methods (bits_at place.context.now) place.method place.arguments.now place.path.now filling → ⊥
+  pub unfit : Fits place.accepted.now.profile.methods (bits_at place.frame.context.now) place.frame.method place.frame.arguments.now place.frame.path.now filling → ⊥
 
 -- why nothing is made of a level: not all is known, or what is made doesn't fit
-abbrev pub BlamesEnd : ReadFault → Place → ℕ → Reached → Type 0
+abbrev pub BlamesEnd : ReadFault → AcceptedFrame → ℕ → Reached → Type 0
 BlamesEnd (Short at) place n l = ⊥
 BlamesEnd (Refused at) place n l = Lacks l.slots ⊎ IsUnfit place n l
 BlamesEnd OutOfMemory place n l = Unit {0}
@@ -93,16 +98,16 @@ IsOwn (Call i) = ⊥
 IsOwn _ = Unit {0}
 
 -- what a fault says of the fillings that show what the level knows, with these bits in front: each is longer than they are, or there is none
-abbrev pub BlamesShown : ReadFault → Scene → Reached → List Bool → Type 0
-BlamesShown (Short at) scene l bits = (f : Filling) → Shows scene l bits f → length bits < length (packed f)
-BlamesShown (Refused at) scene l bits = (f : Filling) → Shows scene l bits f → ⊥
-BlamesShown OutOfMemory scene l bits = Unit {0}
+abbrev pub BlamesShown : ReadFault → LevelFrame → Reached → List Bool → Type 0
+BlamesShown (Short at) level_frame l bits = (f : Filling) → Shows level_frame l bits f → length bits < length (packed f)
+BlamesShown (Refused at) level_frame l bits = (f : Filling) → Shows level_frame l bits f → ⊥
+BlamesShown OutOfMemory level_frame l bits = Unit {0}
 
 -- the fault of a step as that of the walk
-abbrev pub fault_of : Scene → StepFault → ReadFault
-fault_of scene step.Short = Short (record { method = scene.method; format = Some scene.format })
-fault_of scene step.Refused = Refused (record { method = scene.method; format = Some scene.format })
-fault_of scene step.OutOfMemory = OutOfMemory
+abbrev pub fault_of : LevelFrame → StepFault → ReadFault
+fault_of level_frame step.Short = Short (record { method = level_frame.frame.method; format = Some level_frame.format })
+fault_of level_frame step.Refused = Refused (record { method = level_frame.frame.method; format = Some level_frame.format })
+fault_of level_frame step.OutOfMemory = OutOfMemory
 
 -- ---- calls
 
@@ -111,15 +116,15 @@ abbrev pub spot_in : Reached → ℕ → calling.Call → List Bool → Spot
 spot_in l i call bits = record { method = call.method; args = call.arguments; path = string_bytes call.path; bits = bits_from (lists l.format.listing i) (offset_of l.format l.slots i) bits }
 
 -- the only filling ahead of a called method
-abbrev pub IsOnlyInside : Place → Reached → ℕ → calling.Call → List Bool → Filling → Type 0
-IsOnlyInside place l i call bits g = OnlyAhead place.accepted.now.profile.methods (bits_at place.context.now) (spot_in l i call bits) g
+abbrev pub IsOnlyInside : AcceptedFrame → Reached → ℕ → calling.Call → List Bool → Filling → Type 0
+IsOnlyInside place l i call bits g = OnlyAhead place.accepted.now.profile.methods (bits_at place.frame.context.now) (spot_in l i call bits) g
 
 -- what a fault says of the fillings ahead of a called method: the field is listed, and each is longer than the bits that are left for it; or there is none, but for those with packed bits
 -- where the field is not listed
-abbrev pub BlamesInside : ReadFault → Place → Reached → ℕ → calling.Call → List Bool → Type 0
-BlamesInside (Short at) place l i call bits = (lists l.format.listing i ≡ true) × AllLonger place.accepted.now.profile.methods (bits_at place.context.now) (spot_in l i call bits)
+abbrev pub BlamesInside : ReadFault → AcceptedFrame → Reached → ℕ → calling.Call → List Bool → Type 0
+BlamesInside (Short at) place l i call bits = (lists l.format.listing i ≡ true) × AllLonger place.accepted.now.profile.methods (bits_at place.frame.context.now) (spot_in l i call bits)
 BlamesInside (Refused at) place l i call bits =
-    (g : Filling) → IsAhead place.accepted.now.profile.methods (bits_at place.context.now) (spot_in l i call bits) g → (lists l.format.listing i ≡ false → packed g ≡ []) → ⊥
+    (g : Filling) → IsAhead place.accepted.now.profile.methods (bits_at place.frame.context.now) (spot_in l i call bits) g → (lists l.format.listing i ≡ false → packed g ≡ []) → ⊥
 BlamesInside OutOfMemory place l i call bits = Unit {0}
 
 -- where no bits will come a shortage is a refusal

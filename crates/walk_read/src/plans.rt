@@ -11,7 +11,7 @@ ghost use Rattle.walk_read.specs.Walk as spec;
 ghost use Rattle.walk_read.specs.Walking as walking;
 
 use crate::fault::{Blamed, ReadFault};
-use cert_accepted::{Picked, Place};
+use cert_accepted::{AcceptedFrame, Picked};
 use cert_types::{MethodPlans, Plans, Step};
 use sem_bits::Cursor;
 use sem_filling::Filling;
@@ -22,12 +22,12 @@ use walk_steps::Partial;
 /// The format to which the method's tree leads for the bits so many places after the cursor's, by its index. The error is Short, Refused, or out of memory.
 pub(crate) fn picked(
     alloc: Global,
-    place: &Place<'_>,
+    place: &AcceptedFrame<'_>,
     cursor: &Cursor<'_>,
     from: usize,
 ) -> Result<usize, ReadFault>
     requires stands { Stands place.now }
-    ensures found { IfOk result (OneFormat place.now.accepted.now.profile.methods (contexts.bits_at place.now.context.now) (spec.spot_of place.now (drop from cursor.now.left))) }
+    ensures found { IfOk result (OneFormat place.now.accepted.now.profile.methods (contexts.bits_at place.now.frame.context.now) (spec.spot_of place.now (drop from cursor.now.left))) }
     ensures fault { IfErr result (λ e. spec.Blames e place.now (drop from cursor.now.left)) }
     ensures few { IfErr result (λ e. spec.AreFew e 0 (drop from cursor.now.left)) }
 {
@@ -35,18 +35,13 @@ pub(crate) fn picked(
     place.accepted.profile().keeps();
     place.accepted.certificate().keeps();
     let at_work = Blamed {
-        method: place.method,
+        method: place.frame.method,
         format: None,
     };
-    match place.accepted.pick_ahead(
-        alloc,
-        place.method,
-        place.context,
-        place.path,
-        place.arguments,
-        cursor,
-        from,
-    )? {
+    match place
+        .accepted
+        .pick_ahead(alloc, &place.frame, cursor, from)?
+    {
         Picked::Format(format) => Ok(format),
         Picked::Nothing => Err(ReadFault::Refused(at_work)),
         Picked::Short => Err(ReadFault::Short(at_work)),
@@ -61,14 +56,14 @@ fn entry_at(entries: &[Option<MethodPlans>], method: usize) -> Option<&MethodPla
 }
 
 /// The plan by which the format, by its index, is read; none where the method has no such format.
-pub(crate) fn plan_of<'a>(place: &Place<'a>, format: usize) -> Option<&'a [Step]>
+pub(crate) fn plan_of<'a>(place: &AcceptedFrame<'a>, format: usize) -> Option<&'a [Step]>
     requires stands { Stands place.now }
     ensures found { IfSome result (λ steps. walking.IsPlanOf place.now format steps.now) }
     ensures none { IfNone result (walking.LacksFormat place.now format) }
 {
     place.accepted.keeps();
     place.accepted.profile().keeps();
-    let Some(entry) = entry_at(place.accepted.certificate().methods(), place.method) else {
+    let Some(entry) = entry_at(place.accepted.certificate().methods(), place.frame.method) else {
         return None;
     };
     let Some(plans) = plans_at(entry, format) else {
@@ -88,7 +83,7 @@ fn plans_at(entry: &MethodPlans, format: usize) -> Option<&Plans>
 /// not judged here: who asks for it judges it as a whole.
 pub(crate) fn finished(
     alloc: Global,
-    place: &Place<'_>,
+    place: &AcceptedFrame<'_>,
     format: usize,
     level: Partial<'_>,
 ) -> Result<Filling, ReadFault>
@@ -97,23 +92,18 @@ pub(crate) fn finished(
     ensures fault { IfErr result (λ e. walking.BlamesEnd e place.now format level.entry) }
 {
     let refused = ReadFault::Refused(Blamed {
-        method: place.method,
+        method: place.frame.method,
         format: Some(format),
     });
     let Some(filling) = level.into_filling(alloc, format)? else {
         return Err(refused);
     };
-    if place.path.is_empty() {
+    if place.frame.path.is_empty() {
         return Ok(filling);
     }
-    let fits = level_fits(
-        alloc,
-        place.accepted.profile(),
-        place.context,
-        place.method,
-        place.arguments,
-        place.path,
-        &filling,
-    )?;
-    if fits { Ok(filling) } else { Err(refused) }
+    if level_fits(alloc, &place.frame, &filling)? {
+        Ok(filling)
+    } else {
+        Err(refused)
+    }
 }

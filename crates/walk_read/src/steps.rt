@@ -13,38 +13,38 @@ use crate::take::take;
 use cert_types::Step;
 use sem_bits::Cursor;
 use std::alloc::Global;
-use walk_steps::{Partial, Scene, StepFault, common_step};
+use walk_steps::{LevelFrame, Partial, StepFault, common_step};
 
 /// Follows a step other than a call.
 pub(crate) fn read_own(
     alloc: Global,
-    scene: &Scene<'_>,
+    level_frame: &LevelFrame<'_>,
     level: &mut Partial<'_>,
     step: Step,
     cursor: &Cursor<'_>,
     from: usize,
 ) -> Result<(), StepFault>
     requires within { from ≤ length cursor.now.left }
-    requires at { IsAt scene.now level.old }
+    requires at { IsAt level_frame.now level.old }
     requires own { walking.IsOwn step }
     requires ready { IsReady level.old (read_rule Two level.old.sizes level.old.format step) }
-    ensures learns { OnOk result (spec.LearnsAhead scene.now (drop from cursor.now.left) (read_rule Two level.old.sizes level.old.format step) level.old level.new) }
-    ensures fault { IfErr result (λ e. spec.BlamesStep e scene.now level.old (drop from cursor.now.left)) }
+    ensures learns { OnOk result (spec.LearnsAhead level_frame.now (drop from cursor.now.left) (read_rule Two level.old.sizes level.old.format step) level.old level.new) }
+    ensures fault { IfErr result (λ e. spec.BlamesStep e level_frame.now level.old (drop from cursor.now.left)) }
     ensures few { IfErr result (λ e. spec.AreFewLeft e (drop from cursor.now.left)) }
 {
     match step {
-        Step::Take(field) => take(alloc, scene, level, field, cursor, from),
-        _ => common_step(alloc, scene, level, step),
+        Step::Take(field) => take(alloc, level_frame, level, field, cursor, from),
+        _ => common_step(alloc, level_frame, level, step),
     }
 }
 
 /// The fault of a step as that of the walk.
-pub(crate) fn fault_of(scene: &Scene<'_>, fault: StepFault) -> ReadFault
-    ensures { result ≡ walking.fault_of scene.now fault }
+pub(crate) fn fault_of(level_frame: &LevelFrame<'_>, fault: StepFault) -> ReadFault
+    ensures { result ≡ walking.fault_of level_frame.now fault }
 {
     let at_work = Blamed {
-        method: scene.method,
-        format: Some(scene.format),
+        method: level_frame.frame.method,
+        format: Some(level_frame.format),
     };
     match fault {
         StepFault::Short => ReadFault::Short(at_work),

@@ -11,26 +11,26 @@ use cert_rules::Learnt;
 use sem_bits::{Bits, Cursor};
 use sem_expr::Side;
 use std::alloc::{AllocError, Global};
-use walk_steps::{Partial, Scene, StepFault};
+use walk_steps::{LevelFrame, Partial, StepFault};
 
 /// Takes the compressed side of a listed field, of the known length, from the bits so many places after the cursor's, where the method's first packed bit stands. The error
 /// is Short, Refused or out of memory.
 pub(crate) fn take(
     alloc: Global,
-    scene: &Scene<'_>,
+    level_frame: &LevelFrame<'_>,
     level: &mut Partial<'_>,
     field: usize,
     cursor: &Cursor<'_>,
     from: usize,
 ) -> Result<(), StepFault>
-    requires at { IsAt scene.now level.old }
+    requires at { IsAt level_frame.now level.old }
     requires within { from ≤ length cursor.now.left }
     requires ready { IsReady level.old (read_rule Two level.old.sizes level.old.format (Take field)) }
-    ensures learns { OnOk result (spec.LearnsAhead scene.now (drop from cursor.now.left) (read_rule Two level.old.sizes level.old.format (Take field)) level.old level.new) }
-    ensures fault { IfErr result (λ e. spec.BlamesStep e scene.now level.old (drop from cursor.now.left)) }
+    ensures learns { OnOk result (spec.LearnsAhead level_frame.now (drop from cursor.now.left) (read_rule Two level.old.sizes level.old.format (Take field)) level.old level.new) }
+    ensures fault { IfErr result (λ e. spec.BlamesStep e level_frame.now level.old (drop from cursor.now.left)) }
     ensures few { IfErr result (λ e. spec.AreFewLeft e (drop from cursor.now.left)) }
 {
-    scene.profile.keeps();
+    level_frame.frame.profile.keeps();
     level.keeps();
     let offset = level.offset(field, Side::Compressed).unwrap();
     let count = level.length(field, Side::Compressed).unwrap();

@@ -7,7 +7,7 @@ ghost use Rattle.cert_rules.specs.Rules.{read_rule};
 ghost use Rattle.cert_rules.specs.Slots.{slot_inner};
 ghost use Rattle.walk_steps.specs.Calls.{IsCall};
 ghost use Rattle.walk_steps.specs.Finding.{IsAt, IsReady};
-ghost use Rattle.cert_accepted.specs.Standing.{Stands, HasDepth, IsSceneOf};
+ghost use Rattle.cert_accepted.specs.Standing.{Stands, HasDepth, IsLevelFrameOf};
 ghost use Rattle.walk_read.specs.Walk as spec;
 ghost use Rattle.walk_read.specs.Walking as walking;
 
@@ -15,24 +15,33 @@ use crate::calls::{ended, start_of};
 use crate::fault::{Blamed, ReadFault};
 use crate::plans::{finished, picked, plan_of};
 use crate::steps::{fault_of, read_own};
-use cert_accepted::Place;
+use cert_accepted::AcceptedFrame;
 use cert_types::Step;
 use sem_bits::{Bits, Cursor};
-use sem_filling::Filling;
+use sem_filling::{Filling, Frame};
 use sem_profile::is_listed;
 use std::alloc::Global;
-use walk_steps::{Call, Partial, Scene, called, fill};
+use walk_steps::{Call, LevelFrame, Partial, called, fill};
+
+/// What the steps of a plan are followed by: where the method is filled, and as which format, and the bits that are read, so many places after the cursor's.
+#[derive(Clone, Copy)]
+pub(crate) struct Reading<'a, 'b> {
+    place: AcceptedFrame<'a>,
+    level_frame: LevelFrame<'a>,
+    cursor: &'b Cursor<'b>,
+    from: usize,
+}
 
 /// Reads the filling of the method whose packed bits are so many places after the cursor's.
 ///
 /// `depth` is how many methods a chain of calls from this one may have. Each called filling is judged at the end of its own level. The error is Short, where
 /// the bits run out, Refused, with the innermost method at work, or out of memory.
 #[cycle(reading)]
-pub fn read_method(
+pub fn read_method<'x>(
     depth: usize,
     alloc: Global,
-    place: &Place<'_>,
-    cursor: &Cursor<'_>,
+    place: &AcceptedFrame<'_>,
+    cursor: &'x Cursor<'x>,
     from: usize,
 ) -> Result<Filling, ReadFault>
     requires stands { Stands place.now }
@@ -47,7 +56,7 @@ pub fn read_method(
         Err(fault) => return Err(fault),
     };
     let refused = ReadFault::Refused(Blamed {
-        method: place.method,
+        method: place.frame.method,
         format: Some(format),
     });
     let mut level = match place.level(alloc, format) {
@@ -60,8 +69,13 @@ pub fn read_method(
     let Some(plan) = plan_of(place, format) else {
         return Err(refused);
     };
-    let scene = place.scene(format);
-    match read_plan(depth, alloc, place, &scene, &mut level, plan, cursor, from) {
+    let reading = Reading {
+        place: *place,
+        level_frame: place.level_frame(format),
+        cursor,
+        from,
+    };
+    match read_plan(depth, alloc, &reading, &mut level, plan) {
         Ok(()) => {
             level.keeps();
             finished(alloc, place, format, level)
@@ -75,25 +89,22 @@ pub fn read_method(
 fn read_plan(
     depth: usize,
     alloc: Global,
-    place: &Place<'_>,
-    scene: &Scene<'_>,
+    reading: &Reading<'_, '_>,
     level: &mut Partial<'_>,
     plan: &[Step],
-    cursor: &Cursor<'_>,
-    from: usize,
 ) -> Result<(), ReadFault>
-    requires scene { IsSceneOf place.now scene.now.format scene.now }
-    requires stands { Stands place.now }
-    requires deep { HasDepth place.now depth }
-    requires within { from ≤ length cursor.now.left }
-    requires way { walking.IsUnderWay place.now scene.now.format (drop from cursor.now.left) plan.now level.old }
-    ensures done { OnOk result (walking.IsUnderWay place.now scene.now.format (drop from cursor.now.left) [] level.new) }
-    ensures fault { IfErr result (λ e. walking.BlamesFormat e place.now scene.now.format (drop from cursor.now.left)) }
-    ensures few { IfErr result (λ e. spec.AreFew e depth (drop from cursor.now.left)) }
+    requires level_frame { IsLevelFrameOf reading.now.place reading.now.level_frame.format reading.now.level_frame }
+    requires stands { Stands reading.now.place }
+    requires deep { HasDepth reading.now.place depth }
+    requires within { reading.now.from ≤ length reading.now.cursor.now.left }
+    requires way { walking.IsUnderWay reading.now.place reading.now.level_frame.format (walking.bits_of reading.now) plan.now level.old }
+    ensures done { OnOk result (walking.IsUnderWay reading.now.place reading.now.level_frame.format (walking.bits_of reading.now) [] level.new) }
+    ensures fault { IfErr result (λ e. walking.BlamesFormat e reading.now.place reading.now.level_frame.format (walking.bits_of reading.now)) }
+    ensures few { IfErr result (λ e. spec.AreFew e depth (walking.bits_of reading.now)) }
 {
     for step in plan {
         level.keeps();
-        if let Err(fault) = read_step(depth, alloc, place, scene, level, *step, cursor, from) {
+        if let Err(fault) = read_step(depth, alloc, reading, level, *step) {
             return Err(fault);
         }
     }
@@ -105,30 +116,34 @@ fn read_plan(
 fn read_step(
     depth: usize,
     alloc: Global,
-    place: &Place<'_>,
-    scene: &Scene<'_>,
+    reading: &Reading<'_, '_>,
     level: &mut Partial<'_>,
     step: Step,
-    cursor: &Cursor<'_>,
-    from: usize,
 ) -> Result<(), ReadFault>
-    requires scene { IsSceneOf place.now scene.now.format scene.now }
-    requires stands { Stands place.now }
-    requires deep { HasDepth place.now depth }
-    requires within { from ≤ length cursor.now.left }
-    requires at { IsAt scene.now level.old }
-    requires args { level.old.args ≡ place.now.arguments.now }
+    requires level_frame { IsLevelFrameOf reading.now.place reading.now.level_frame.format reading.now.level_frame }
+    requires stands { Stands reading.now.place }
+    requires deep { HasDepth reading.now.place depth }
+    requires within { reading.now.from ≤ length reading.now.cursor.now.left }
+    requires at { IsAt reading.now.level_frame level.old }
+    requires args { level.old.args ≡ reading.now.place.frame.arguments.now }
     requires ready { IsReady level.old (read_rule Two level.old.sizes level.old.format step) }
     requires fresh { walking.IsFresh step level.old }
-    ensures learns { OnOk result (spec.LearnsAhead scene.now (drop from cursor.now.left) (read_rule Two level.old.sizes level.old.format step) level.old level.new) }
-    ensures fault { IfErr result (λ e. walking.BlamesShown e scene.now level.old (drop from cursor.now.left)) }
-    ensures few { IfErr result (λ e. spec.AreFew e depth (drop from cursor.now.left)) }
+    ensures learns { OnOk result (spec.LearnsAhead reading.now.level_frame (walking.bits_of reading.now) (read_rule Two level.old.sizes level.old.format step) level.old level.new) }
+    ensures fault { IfErr result (λ e. walking.BlamesShown e reading.now.level_frame level.old (walking.bits_of reading.now)) }
+    ensures few { IfErr result (λ e. spec.AreFew e depth (walking.bits_of reading.now)) }
 {
     match step {
-        Step::Call(field) => read_call(depth, alloc, place, scene, level, field, cursor, from),
-        _ => match read_own(alloc, scene, level, step, cursor, from) {
+        Step::Call(field) => read_call(depth, alloc, reading, level, field),
+        _ => match read_own(
+            alloc,
+            &reading.level_frame,
+            level,
+            step,
+            reading.cursor,
+            reading.from,
+        ) {
             Ok(()) => Ok(()),
-            Err(fault) => Err(fault_of(scene, fault)),
+            Err(fault) => Err(fault_of(&reading.level_frame, fault)),
         },
     }
 }
@@ -138,36 +153,31 @@ fn read_step(
 fn read_call(
     depth: usize,
     alloc: Global,
-    place: &Place<'_>,
-    scene: &Scene<'_>,
+    reading: &Reading<'_, '_>,
     level: &mut Partial<'_>,
     field: usize,
-    cursor: &Cursor<'_>,
-    from: usize,
 ) -> Result<(), ReadFault>
-    requires scene { IsSceneOf place.now scene.now.format scene.now }
-    requires stands { Stands place.now }
-    requires deep { HasDepth place.now depth }
-    requires within { from ≤ length cursor.now.left }
-    requires at { IsAt scene.now level.old }
-    requires args { level.old.args ≡ place.now.arguments.now }
+    requires level_frame { IsLevelFrameOf reading.now.place reading.now.level_frame.format reading.now.level_frame }
+    requires stands { Stands reading.now.place }
+    requires deep { HasDepth reading.now.place depth }
+    requires within { reading.now.from ≤ length reading.now.cursor.now.left }
+    requires at { IsAt reading.now.level_frame level.old }
+    requires args { level.old.args ≡ reading.now.place.frame.arguments.now }
     requires ready { IsReady level.old (read_rule Two level.old.sizes level.old.format (steps.Call field)) }
     requires fresh { slot_inner (slice_get level.old.slots field) ≡ None }
-    ensures learns { OnOk result (spec.LearnsAhead scene.now (drop from cursor.now.left) (read_rule Two level.old.sizes level.old.format (steps.Call field)) level.old level.new) }
-    ensures fault { IfErr result (λ e. walking.BlamesShown e scene.now level.old (drop from cursor.now.left)) }
-    ensures few { IfErr result (λ e. spec.AreFew e depth (drop from cursor.now.left)) }
+    ensures learns { OnOk result (spec.LearnsAhead reading.now.level_frame (walking.bits_of reading.now) (read_rule Two level.old.sizes level.old.format (steps.Call field)) level.old level.new) }
+    ensures fault { IfErr result (λ e. walking.BlamesShown e reading.now.level_frame level.old (walking.bits_of reading.now)) }
+    ensures few { IfErr result (λ e. spec.AreFew e depth (walking.bits_of reading.now)) }
 {
     level.keeps();
-    let call = match called(alloc, scene, level, field) {
+    let call = match called(alloc, &reading.level_frame, level, field) {
         Ok(call) => call,
-        Err(fault) => return Err(fault_of(scene, fault)),
+        Err(fault) => return Err(fault_of(&reading.level_frame, fault)),
     };
-    match read_inner(
-        depth, alloc, place, scene, level, field, &call, cursor, from,
-    ) {
-        Ok(inner) => match fill(alloc, scene, level, field, inner) {
+    match read_inner(depth, alloc, reading, level, field, &call) {
+        Ok(inner) => match fill(alloc, &reading.level_frame, level, field, inner) {
             Ok(()) => Ok(()),
-            Err(fault) => Err(fault_of(scene, fault)),
+            Err(fault) => Err(fault_of(&reading.level_frame, fault)),
         },
         Err(fault) => Err(fault),
     }
@@ -178,36 +188,38 @@ fn read_call(
 fn read_inner(
     depth: usize,
     alloc: Global,
-    place: &Place<'_>,
-    scene: &Scene<'_>,
+    reading: &Reading<'_, '_>,
     level: &Partial<'_>,
     field: usize,
     call: &Call,
-    cursor: &Cursor<'_>,
-    from: usize,
 ) -> Result<Filling, ReadFault>
-    requires scene { IsSceneOf place.now scene.now.format scene.now }
-    requires deep { HasDepth place.now depth }
-    requires within { from ≤ length cursor.now.left }
-    requires at { IsAt scene.now level.now }
+    requires level_frame { IsLevelFrameOf reading.now.place reading.now.level_frame.format reading.now.level_frame }
+    requires stands { Stands reading.now.place }
+    requires deep { HasDepth reading.now.place depth }
+    requires within { reading.now.from ≤ length reading.now.cursor.now.left }
+    requires at { IsAt reading.now.level_frame level.now }
     requires ready { IsReady level.now (read_rule Two level.now.sizes level.now.format (steps.Call field)) }
-    requires call { IsCall scene.now level.now field call.now }
-    ensures found { IfOk result (walking.IsOnlyInside place.now level.now field call.now (drop from cursor.now.left)) }
-    ensures fault { IfErr result (λ e. walking.BlamesInside e place.now level.now field call.now (drop from cursor.now.left)) }
-    ensures few { IfErr result (λ e. spec.AreFew e depth (drop from cursor.now.left)) }
+    requires call { IsCall reading.now.level_frame level.now field call.now }
+    ensures found { IfOk result (walking.IsOnlyInside reading.now.place level.now field call.now (walking.bits_of reading.now)) }
+    ensures fault { IfErr result (λ e. walking.BlamesInside e reading.now.place level.now field call.now (walking.bits_of reading.now)) }
+    ensures few { IfErr result (λ e. spec.AreFew e depth (walking.bits_of reading.now)) }
 {
+    let place = &reading.place;
     place.accepted.profile().keeps();
     level.keeps();
-    let inner = Place {
+    let inner = AcceptedFrame {
         accepted: place.accepted,
-        context: place.context,
-        method: call.method,
-        arguments: call.arguments.as_slice(),
-        path: call.path.as_str(),
+        frame: Frame {
+            profile: place.frame.profile,
+            context: place.frame.context,
+            method: call.method,
+            arguments: call.arguments.as_slice(),
+            path: call.path.as_str(),
+        },
     };
     if is_listed(level.format(), field) {
-        let start = start_of(level, field, cursor, from);
-        return read_method(depth - 1, alloc, &inner, cursor, start);
+        let start = start_of(level, field, reading.cursor, reading.from);
+        return read_method(depth - 1, alloc, &inner, reading.cursor, start);
     }
     let nothing = Bits::new(alloc);
     ended(read_method(depth - 1, alloc, &inner, &Cursor::new(&nothing), 0))

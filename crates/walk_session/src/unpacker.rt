@@ -1,6 +1,6 @@
 //! From the octets of a packet to those of its item.
 
-ghost use Rattle.std.specs.Prelude.{◌≡◌, IfOk, IfErr, IfSome, IfNone, OnErr, length};
+ghost use Rattle.std.specs.Prelude.{◌≡◌, ℕ, List, IfOk, IfErr, IfSome, IfNone, OnErr, length};
 ghost use Rattle.walk_session.specs.Octets.{IsOf};
 ghost use Rattle.walk_session.specs.Unpacker as spec;
 
@@ -41,48 +41,26 @@ pub(crate) fn receive(
     let Some(bits) = Bits::from_octets(alloc, packed, packed_bits)? else {
         return Err(UnpackRefusal::BadBits);
     };
-    match received_at_once(
-        alloc,
-        accepted,
-        context,
-        packed,
-        packed_bits,
-        &bits,
-        header,
-        asked,
-    )? {
+    match received_at_once(alloc, accepted, context, &bits, header, asked)? {
         Some(taken) => Ok(taken),
-        None => received_walked(
-            alloc,
-            accepted,
-            context,
-            packed,
-            packed_bits,
-            &bits,
-            header,
-            asked,
-        ),
+        None => received_walked(alloc, accepted, context, &bits, header, asked),
     }
 }
 
-/// The same of a packet whose page is told at once, where the context has the paths of its entries and the rooms are long enough. Else nothing changes.
+/// The same of the bits of a packet whose page is told at once, where the context has the paths of its entries and the rooms are long enough. Else nothing
+/// changes.
 fn received_at_once(
     alloc: Global,
     accepted: &Accepted,
     context: &mut Context,
-    packed: &[u8],
-    packed_bits: usize,
     bits: &Bits,
     header: &mut [u8],
     asked: &mut [u8],
 ) -> Result<Option<Taken>, AllocError>
-    requires { IsOf packed.now packed_bits bits.now }
-    ensures some { IfOk result (λ o. IfSome o (spec.IsReceived accepted.now context.old context.new packed.now packed_bits header.old header.new asked.old asked.new)) }
+    ensures some { IfOk result (λ o. IfSome o (λ taken. (packed : List ℕ) (count : ℕ) → IsOf packed count bits.now → spec.IsReceived accepted.now context.old context.new packed count header.old header.new asked.old asked.new taken)) }
     ensures none { IfOk result (λ o. IfNone o ((context.new ≡ context.old) × (header.new ≡ header.old) × (asked.new ≡ asked.old))) }
     ensures stays { OnErr result ((context.new ≡ context.old) × (header.new ≡ header.old) × (asked.new ≡ asked.old)) }
 {
-    let _ = packed;
-    let _ = packed_bits;
     let mut cursor = Cursor::new(bits);
     let Some(read) = read_page(alloc, accepted, context, &mut cursor)? else {
         return Ok(None);
@@ -117,19 +95,14 @@ fn received_walked(
     alloc: Global,
     accepted: &Accepted,
     context: &mut Context,
-    packed: &[u8],
-    packed_bits: usize,
     bits: &Bits,
     header: &mut [u8],
     asked: &mut [u8],
 ) -> Result<Taken, UnpackRefusal>
-    requires { IsOf packed.now packed_bits bits.now }
-    ensures ok { IfOk result (spec.IsReceived accepted.now context.old context.new packed.now packed_bits header.old header.new asked.old asked.new) }
+    ensures ok { IfOk result (λ taken. (packed : List ℕ) (count : ℕ) → IsOf packed count bits.now → spec.IsReceived accepted.now context.old context.new packed count header.old header.new asked.old asked.new taken) }
     ensures stays { OnErr result ((context.new ≡ context.old) × (header.new ≡ header.old) × (asked.new ≡ asked.old)) }
-    ensures fault { IfErr result (λ e. spec.BlamesReceive e accepted.now context.old packed.now packed_bits (length header.old) (length asked.old)) }
+    ensures fault { IfErr result (λ e. (packed : List ℕ) (count : ℕ) → IsOf packed count bits.now → spec.BlamesReceive e accepted.now context.old packed count (length header.old) (length asked.old)) }
 {
-    let _ = packed;
-    let _ = packed_bits;
     let mut cursor = Cursor::new(bits);
     match unpack(alloc, accepted, context, &mut cursor) {
         Ok(

@@ -17,7 +17,7 @@ use Rattle.walk_steps.specs.Partial.{Reached, IsKept, Learns, Keeps, bounds_at}
 use Rattle.walk_steps.proofs.FrontsChanged.{set_length, set_here, set_cases, set_still}
 use Rattle.walk_steps.proofs.SidesGained as gained
 use Rattle.walk_steps.proofs.LevelHeld.{with_inner}
-use Rattle.walk_steps.specs.declared.scene.Scene.{Scene}
+use Rattle.walk_steps.specs.declared.level_frame.LevelFrame.{LevelFrame}
 use Rattle.walk_steps.specs.Finding.{IsAt, Shows}
 use Rattle.walk_steps.specs.declared.fault.StepFault.{StepFault}
 use Rattle.walk_steps.specs.declared.fault.StepFault.TheVariants.{Short, Refused, OutOfMemory}
@@ -31,19 +31,19 @@ given_is f i g filled Compressed = filled.compressed
 
 -- ---- why a side can't be learnt
 
-module _ (scene : Scene) (old : Reached) (i : ℕ) (side : Side) (g : Filling) (sound : IsSound scene.profile.now) (kept : IsKept old) (at : IsAt scene old) (within : i < length old.slots) where
+module _ (level_frame : LevelFrame) (old : Reached) (i : ℕ) (side : Side) (g : Filling) (sound : IsSound level_frame.frame.profile.now) (kept : IsKept old) (at : IsAt level_frame old) (within : i < length old.slots) where
   -- it is too long
-  pub long_fails : 2 ^ 31 ≤ length (side_given side g) → (bits : List Bool) (f : Filling) → Shows scene old bits f → IsFilledBy f i g → ⊥
+  pub long_fails : 2 ^ 31 ≤ length (side_given side g) → (bits : List Bool) (f : Filling) → Shows level_frame old bits f → IsFilledBy f i g → ⊥
   long_fails long bits f shows filled =
-      let short = side_short scene old sound kept at bits f shows i within side in
+      let short = side_short level_frame old sound kept at bits f shows i within side in
       let same = ap length (given_is f i g filled side) in
       omega (arith, long, short, same)
 
   -- it is not what is known
   pub other_fails : ((bits : List Bool) → HasSide bits (learnt_at old.slots i side) → HasSide bits (Whole (side_given side g)) → LiesBetween (bounds_at old.sizes i side) (length bits) → ⊥) →
-      (bits : List Bool) (f : Filling) → Shows scene old bits f → IsFilledBy f i g → ⊥
+      (bits : List Bool) (f : Filling) → Shows level_frame old bits f → IsFilledBy f i g → ⊥
   other_fails never bits f shows filled =
-      never (side_at (view f) i side) (has_known f old.slots shows.has i side) (given_is f i g filled side) (lies scene old sound kept at bits f shows i within side)
+      never (side_at (view f) i side) (has_known f old.slots shows.has i side) (given_is f i g filled side) (lies level_frame old sound kept at bits f shows i within side)
 
 -- ---- once a side is learnt
 
@@ -54,11 +54,11 @@ module _ (old new : Reached) (i : ℕ) (side : Side) (g : Filling) (l : Learns o
   pub as_many : length new.slots ≡ length old.slots
   as_many = ap length l.slots_are.slots_are ∙ set_length old.slots i _
 
-  pub still_at : (scene : Scene) → IsAt scene old → IsAt scene new
-  still_at scene at = record { format_is = at.format_is ∙ ap Some (sym l.format_is); sizes_are = at.sizes_are ∙ ap Some (sym l.sizes_are) }
+  pub still_at : (level_frame : LevelFrame) → IsAt level_frame old → IsAt level_frame new
+  still_at level_frame at = record { format_is = at.format_is ∙ ap Some (sym l.format_is); sizes_are = at.sizes_are ∙ ap Some (sym l.sizes_are) }
 
-  pub still_shows : (scene : Scene) (bits : List Bool) (f : Filling) → Shows scene old bits f → IsFilledBy f i g → Shows scene new bits f
-  still_shows scene bits f shows filled = subst (λ a. Shows scene (record { format = new.format; sizes = new.sizes; args = a; slots = new.slots }) bits f) (sym l.args_are) record {
+  pub still_shows : (level_frame : LevelFrame) (bits : List Bool) (f : Filling) → Shows level_frame old bits f → IsFilledBy f i g → Shows level_frame new bits f
+  still_shows level_frame bits f shows filled = subst (λ a. Shows level_frame (record { format = new.format; sizes = new.sizes; args = a; slots = new.slots }) bits f) (sym l.args_are) record {
     ahead = shows.ahead;
     format_is = shows.format_is;
     at = shows.at ∙ ap Some (sym l.format_is);
@@ -182,7 +182,7 @@ fills old first second new i g up down k empty =
     }
 
 -- why the second side can't be learnt
-pub blamed_on : (scene : Scene) (old new : Reached) (i : ℕ) (side : Side) (g : Filling) → Learns old i side (Whole (side_given side g)) new → (e : StepFault) → BlamesFilling e scene new i g → BlamesFilling e scene old i g
-blamed_on scene old new i side g l Short h = h
-blamed_on scene old new i side g l Refused h = λ bits f shows filled. h bits f (still_shows old new i side g l scene bits f shows filled) filled
-blamed_on scene old new i side g l OutOfMemory h = tt
+pub blamed_on : (level_frame : LevelFrame) (old new : Reached) (i : ℕ) (side : Side) (g : Filling) → Learns old i side (Whole (side_given side g)) new → (e : StepFault) → BlamesFilling e level_frame new i g → BlamesFilling e level_frame old i g
+blamed_on level_frame old new i side g l Short h = h
+blamed_on level_frame old new i side g l Refused h = λ bits f shows filled. h bits f (still_shows old new i side g l level_frame bits f shows filled) filled
+blamed_on level_frame old new i side g l OutOfMemory h = tt

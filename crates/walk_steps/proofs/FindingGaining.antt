@@ -15,7 +15,7 @@ use Rattle.cert_rules.specs.Views.{view, side_at}
 use Rattle.walk_steps.specs.Partial.{Reached, IsKept, bounds_at}
 use Rattle.walk_steps.specs.Partial as level
 use Rattle.walk_steps.proofs.SidesGained as gained
-use Rattle.walk_steps.specs.declared.scene.Scene.{Scene}
+use Rattle.walk_steps.specs.declared.level_frame.LevelFrame.{LevelFrame}
 use Rattle.walk_steps.specs.Finding.{IsAt, Shows, AreFound, Finds, Counts, counted, Gains, NoneShows}
 use Rattle.walk_steps.proofs.FindingShown.{lies, side_short}
 
@@ -27,15 +27,15 @@ has_known f slots has i side = by (slice_get slots i) refl side
     by (Some s) e Uncompressed = (has i s e).uncompressed
     by (Some s) e Compressed = (has i s e).compressed
 
-module _ (scene : Scene) (old : Reached) (i : ℕ) (side : Side) (found : Option Learnt) (finds : Finds scene old i side found) where
-  pub nothing_shows : found ≡ None → NoneShows scene old
+module _ (level_frame : LevelFrame) (old : Reached) (i : ℕ) (side : Side) (found : Option Learnt) (finds : Finds level_frame old i side found) where
+  pub nothing_shows : found ≡ None → NoneShows level_frame old
   nothing_shows e bits f shows = subst (λ o. AreFound o (side_at (view f) i side)) e (finds bits f shows)
 
   module _ (l : Learnt) (is : found ≡ Some l) where
-    found_in : (bits : List Bool) (f : Filling) → Shows scene old bits f → HasSide (side_at (view f) i side) l
+    found_in : (bits : List Bool) (f : Filling) → Shows level_frame old bits f → HasSide (side_at (view f) i side) l
     found_in bits f shows = subst (λ o. AreFound o (side_at (view f) i side)) is (finds bits f shows)
 
-    pub gains : (new : Reached) → level.Learns old i side l new → Gains scene old i side found new
+    pub gains : (new : Reached) → level.Learns old i side l new → Gains level_frame old i side found new
     gains new h =
         let b = bounds_at old.sizes i side in
         record {
@@ -49,25 +49,25 @@ module _ (scene : Scene) (old : Reached) (i : ℕ) (side : Side) (found : Option
           agrees = λ bits f shows. gained.still_had b i side l old.slots new.slots h.slots_are f shows.has (found_in bits f shows);
         }
 
-    pub refuses : IsSound scene.profile.now → IsKept old → IsAt scene old → i < length old.slots →
-        ((bits : List Bool) → HasSide bits (learnt_at old.slots i side) → HasSide bits l → LiesBetween (bounds_at old.sizes i side) (length bits) → ⊥) → NoneShows scene old
+    pub refuses : IsSound level_frame.frame.profile.now → IsKept old → IsAt level_frame old → i < length old.slots →
+        ((bits : List Bool) → HasSide bits (learnt_at old.slots i side) → HasSide bits l → LiesBetween (bounds_at old.sizes i side) (length bits) → ⊥) → NoneShows level_frame old
     refuses sound kept at within never bits f shows =
-        never (side_at (view f) i side) (has_known f old.slots shows.has i side) (found_in bits f shows) (lies scene old sound kept at bits f shows i within side)
+        never (side_at (view f) i side) (has_known f old.slots shows.has i side) (found_in bits f shows) (lies level_frame old sound kept at bits f shows i within side)
 
 -- ---- lengths
 
-pub counts_find : (scene : Scene) (l : Reached) (i : ℕ) (side : Side) (count : Option ℤ) (o : Option Learnt) → IsSound scene.profile.now → IsKept l → IsAt scene l → i < length l.slots → Counts scene l i side count →
-    IfSome o (λ x. counted count ≡ Some x) → IfNone o ((n : ℕ) → n < 2 ^ 64 → count ≡ Some (pos n) → ⊥) → Finds scene l i side o
-counts_find scene l i side count None sound kept at within counts some none bits f shows =
-    let short = side_short scene l sound kept at bits f shows i within side in
+pub counts_find : (level_frame : LevelFrame) (l : Reached) (i : ℕ) (side : Side) (count : Option ℤ) (o : Option Learnt) → IsSound level_frame.frame.profile.now → IsKept l → IsAt level_frame l → i < length l.slots → Counts level_frame l i side count →
+    IfSome o (λ x. counted count ≡ Some x) → IfNone o ((n : ℕ) → n < 2 ^ 64 → count ≡ Some (pos n) → ⊥) → Finds level_frame l i side o
+counts_find level_frame l i side count None sound kept at within counts some none bits f shows =
+    let short = side_short level_frame l sound kept at bits f shows i within side in
     none (length (side_at (view f) i side)) (omega (arith, short)) (counts bits f shows)
-counts_find scene l i side count (Some x) sound kept at within counts some none bits f shows =
+counts_find level_frame l i side count (Some x) sound kept at within counts some none bits f shows =
     let is : Some (Length (length (side_at (view f) i side))) ≡ Some x = sym (ap counted (counts bits f shows)) ∙ some in
     subst (HasSide (side_at (view f) i side)) (same_Some (Length (length (side_at (view f) i side))) x is) refl
 
-pub count_gains : (scene : Scene) (old new : Reached) (i : ℕ) (side : Side) (count : Option ℤ) (o : Option Learnt) → IfSome o (λ x. counted count ≡ Some x) → Gains scene old i side o new → Gains scene old i side (counted count) new
-count_gains scene old new i side count None some g = absurd (g.length_known)
-count_gains scene old new i side count (Some x) some g = subst (λ z. Gains scene old i side z new) (sym some) g
+pub count_gains : (level_frame : LevelFrame) (old new : Reached) (i : ℕ) (side : Side) (count : Option ℤ) (o : Option Learnt) → IfSome o (λ x. counted count ≡ Some x) → Gains level_frame old i side o new → Gains level_frame old i side (counted count) new
+count_gains level_frame old new i side count None some g = absurd (g.length_known)
+count_gains level_frame old new i side count (Some x) some g = subst (λ z. Gains level_frame old i side z new) (sym some) g
 
 pub on_ok : {A E : Type 0} (r : Result A E) (P Q : Type 0) → (P → Q) → OnOk r P → OnOk r Q
 on_ok (Ok x) P Q f p = f p

@@ -22,7 +22,7 @@ use Rattle.cert_rules.specs.Slots.{knows_all}
 use Rattle.cert_rules.specs.Steps.{LengthIs, IsLengthOf}
 use Rattle.cert_rules.proofs.ViewsLearning.{by_constraint, length_of}
 use Rattle.walk_steps.specs.Partial.{Reached, stands}
-use Rattle.walk_steps.specs.declared.scene.Scene.{Scene}
+use Rattle.walk_steps.specs.declared.level_frame.LevelFrame.{LevelFrame}
 use Rattle.walk_steps.specs.Finding.{IsReady, Counts, shown_numbers, reference_at, spot_of, AllAsked}
 use Rattle.walk_steps.proofs.FindingRuled.{constrained}
 
@@ -91,21 +91,21 @@ referred_value a ref Compressed (library.Crc crc) n none full h = absurd (cc)
 pub all_asked : (l : Reached) (i : ℕ) (d : Field) (m : Library) → slice_get l.format.fields i ≡ Some d → d.encoding ≡ encoding.Library m → AllAsked l (library_exprs m)
 all_asked l i d m at is n e here = stands (in_encoding i n at (ap (λ x. slice_get (encoding_exprs x) n) is ∙ here))
 
-pub method_counts : (scene : Scene) (l : Reached) (i : ℕ) (side : Side) (d : Field) (m : Library) (count : Option ℤ) → slice_get l.format.fields i ≡ Some d → d.encoding ≡ encoding.Library m →
-    IsReady l (common_rule Two l.sizes l.format (step.MethodLength i side)) → ((n : ℕ) → LengthIs (shown_numbers l) (reference_at scene d) side m n → count ≡ Some (pos n)) → Counts scene l i side count
-method_counts scene l i side d m count at is ready counts bits f shows =
-    let p = scene.profile.now in
+pub method_counts : (level_frame : LevelFrame) (l : Reached) (i : ℕ) (side : Side) (d : Field) (m : Library) (count : Option ℤ) → slice_get l.format.fields i ≡ Some d → d.encoding ≡ encoding.Library m →
+    IsReady l (common_rule Two l.sizes l.format (step.MethodLength i side)) → ((n : ℕ) → LengthIs (shown_numbers l) (reference_at level_frame d) side m n → count ≡ Some (pos n)) → Counts level_frame l i side count
+method_counts level_frame l i side d m count at is ready counts bits f shows =
+    let p = level_frame.frame.profile.now in
     let needs = length_needs l.format side in
     let known : knows_all l.format l.slots (needs m) ≡ true =
     subst (IsReady l) (ap (option_and_then (λ d. by_library needs (LengthOf side i ∷ []) d.encoding)) at ∙ ap (by_library needs (LengthOf side i ∷ [])) is) ready in
-    counts _ (length_of p.methods (bits_at scene.context.now) (spot_of scene l bits) scene.format l.format l.slots f shows i d m side at is known)
+    counts _ (length_of p.methods (bits_at level_frame.frame.context.now) (spot_of level_frame l bits) level_frame.format l.format l.slots f shows i d m side at is known)
 
 -- ---- by a constraint
 
-pub constraint_counts : (scene : Scene) (l : Reached) (i : ℕ) (side : Side) (j : ℕ) (count : Option ℤ) → IsReady l (common_rule Two l.sizes l.format (step.ConstraintLength i side j)) →
-    IfSome (option_and_then (length_given i side) (slice_get l.format.constraints j)) (λ e. knows_all l.format l.slots (inputs l.format e) ≡ true → count ≡ val (shown_numbers l) e) → Counts scene l i side count
-constraint_counts scene l i side j count ready some bits f shows =
+pub constraint_counts : (level_frame : LevelFrame) (l : Reached) (i : ℕ) (side : Side) (j : ℕ) (count : Option ℤ) → IsReady l (common_rule Two l.sizes l.format (step.ConstraintLength i side j)) →
+    IfSome (option_and_then (length_given i side) (slice_get l.format.constraints j)) (λ e. knows_all l.format l.slots (inputs l.format e) ≡ true → count ≡ val (shown_numbers l) e) → Counts level_frame l i side count
+constraint_counts level_frame l i side j count ready some bits f shows =
     let c = constrained l i (length_given i side) j (inputs l.format) (LengthOf side i ∷ []) ready in
     let same = ap (option_and_then (length_given i side)) c.constraint_at ∙ c.given_is in
     let is = (subst (λ o. IfSome o (λ e. knows_all l.format l.slots (inputs l.format e) ≡ true → count ≡ val (shown_numbers l) e)) same some) c.known in
-    is ∙ by_constraint scene.profile.now.methods (bits_at scene.context.now) (spot_of scene l bits) scene.format l.format l.slots f shows i j side c.constraint c.expr c.constraint_at c.given_is c.known
+    is ∙ by_constraint level_frame.frame.profile.now.methods (bits_at level_frame.frame.context.now) (spot_of level_frame l bits) level_frame.format l.format l.slots f shows i j side c.constraint c.expr c.constraint_at c.given_is c.known

@@ -1,12 +1,7 @@
 -- The attribute that an equation solves is narrow.
-use Rattle.std.proofs.Common.{◌≡◌, refl, sym, ◌∙◌, ap, subst, ℕ, Bool, true, false, List, [], ◌∷◌, length, arith}
-use Rattle.std.specs.Prelude.{Option, Some, IfSome, slice_get, option_and_then, option_map, nat_lt, nat_eq, ◌&&◌, ℤ, pos}
-use Rattle.std.proofs.lemmas.Bool.{eqb-true, ltb-false}
-use Rattle.sem_bits.specs.Number.{num}
-use Rattle.sem_context.specs.Entries.{bits_at}
-use Rattle.cert_types.specs.declared.certificate.Step.TheVariants as step
-use Rattle.cert_types.specs.declared.certificate.Version.TheVariants.{Two}
-use Rattle.cert_types.specs.declared.rule.Fact.TheVariants.{LengthOf, BitsOf}
+use Rattle.std.proofs.Common.{◌≡◌, refl, sym, ◌∙◌, ap, ℕ, true, false}
+use Rattle.std.specs.Prelude.{Some, slice_get, nat_eq, ◌&&◌}
+use Rattle.std.proofs.lemmas.Bool.{eqb-true}
 use Rattle.sem_expr.specs.declared.expr.Attribute.{Attribute}
 use Rattle.sem_expr.specs.declared.expr.Subject.{Subject}
 use Rattle.sem_expr.specs.declared.expr.Subject.TheVariants as subject
@@ -14,39 +9,17 @@ use Rattle.sem_expr.specs.declared.expr.Side.{Side}
 use Rattle.sem_expr.specs.declared.expr.Side.TheVariants.{Uncompressed, Compressed}
 use Rattle.sem_expr.specs.declared.expr.Measure.{Measure}
 use Rattle.sem_expr.specs.declared.expr.Measure.TheVariants as measure
-use Rattle.sem_expr.specs.declared.expr.Comparison.TheVariants.{Equal}
-use Rattle.sem_expr.specs.declared.expr.Cond.TheVariants.{Compare}
 use Rattle.sem_expr.specs.declared.expr.Expr.{Expr}
 use Rattle.sem_expr.specs.declared.expr.Expr.TheVariants as expr
 use Rattle.sem_expr.specs.declared.expr.Expr.TheVariants.{Number, Parameter, Binary'}
 use Rattle.sem_expr.specs.declared.inputs.Input.TheVariants as input
 use Rattle.sem_expr.specs.Inputs.{inputs_of}
-use Rattle.sem_expr.specs.Values.{val}
-use Rattle.sem_library.specs.Methods.{IsOnly}
-use Rattle.sem_profile.specs.declared.profile.Constraint.{Constraint}
-use Rattle.sem_profile.specs.declared.profile.Constraint.TheVariants.{Enforce}
 use Rattle.sem_profile.specs.declared.profile.FormatSizes.{FormatSizes}
-use Rattle.sem_profile.specs.declared.profile.Format.{Format}
 use Rattle.sem_profile.specs.BoundsFaults.{is_wide, is_wide_by}
-use Rattle.sem_profile.specs.BoundsLaws.{AllSound}
-use Rattle.sem_profile.specs.Ranging.{format_ranges}
-use Rattle.sem_profile.proofs.FaultsFaultless.{faultless}
-use Rattle.sem_expr.specs.declared.ranges.Ranges.{Ranges}
-use Rattle.sem_profile.specs.Resolved.{IsSound}
-use Rattle.cert_rules.specs.declared.slots.Learnt.{Learnt}
-use Rattle.cert_rules.specs.declared.slots.Learnt.TheVariants.{Nothing, Length, Whole}
-use Rattle.cert_rules.specs.Facts.{inputs}
-use Rattle.cert_rules.specs.Rules.{same_subject, same_measure, is_attribute, attribute_of, value_given, common_rule}
+use Rattle.cert_rules.specs.Rules.{same_subject, same_measure, is_attribute, attribute_of}
 use Rattle.cert_rules.specs.Facts.{same_side}
-use Rattle.cert_rules.specs.Slots.{has_length, knows_all, bits_of, learnt_at}
-use Rattle.cert_rules.specs.Views.{view, side_at}
 use Rattle.cert_rules.proofs.ViewsAgree.{and_true}
-use Rattle.cert_rules.proofs.RulesConstraints.{first_cases}
-use Rattle.cert_rules.proofs.ViewsLearning.{solve}
-use Rattle.cert_rules.proofs.Numbers.{in_left, in_right}
-use Rattle.std.proofs.lemmas.List.{length-replicate}
-use Rattle.walk_steps.specs.Partial.{Reached, IsKept, bounds_at}
-use Rattle.walk_steps.specs.Sides as sides
+use Rattle.walk_steps.specs.Partial.{bounds_at}
 
 -- an attribute is that value of the field
 wide_same : (i : ℕ) (sizes : FormatSizes) (u : Attribute) → (same_subject u.subject (subject.Field i) && (same_side u.side Uncompressed && same_measure u.measure measure.Value)) ≡ true →

@@ -1,5 +1,5 @@
 -- Values by equations of remainders.
-use Rattle.std.proofs.Common.{◌≡◌, refl, sym, ◌∙◌, ap, subst, ℕ, true, false, ◌⊎◌, inl, inr, List, [], ◌∷◌, ◌++◌}
+use Rattle.std.proofs.Common.{◌≡◌, refl, sym, ◌∙◌, ap, subst, ℕ, true, false, ◌⊎◌, inl, inr, [], ◌∷◌, ◌++◌}
 use Rattle.std.specs.Prelude.{Option, Some, None, slice_get, option_and_then, option_map}
 use Rattle.cert_types.specs.declared.certificate.Version.TheVariants.{Two}
 use Rattle.cert_types.specs.declared.certificate.Step.TheVariants as step

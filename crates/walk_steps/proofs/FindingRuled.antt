@@ -18,7 +18,7 @@ use Rattle.cert_rules.specs.declared.slots.Learnt.{Learnt}
 use Rattle.cert_rules.specs.Rules.{rule, by_library}
 use Rattle.cert_rules.specs.Slots.{has_length, has_bits, learnt_at, knows, knows_all}
 use Rattle.walk_steps.specs.Partial.{Reached, IsKept}
-use Rattle.walk_steps.specs.declared.scene.Scene.{Scene}
+use Rattle.walk_steps.specs.declared.level_frame.LevelFrame.{LevelFrame}
 use Rattle.walk_steps.specs.Finding.{IsReady, Gains, Learns, counted}
 
 -- ---- what the rule gives is known
@@ -34,8 +34,8 @@ bits_now (Some l) P h is = h (is l refl)
 one_known : (format : Format) (new : Reached) (x : Fact) → knows format new.slots x ≡ true → knows_all format new.slots (x ∷ []) ≡ true
 one_known format new x e = λ i. (e ∙ refl) i && true
 
-module _ (scene : Scene) (o : Option Rule) (old new : Reached) (i : ℕ) (side : Side) (found : Option Learnt) (r : Rule) (is : o ≡ Some r) (g : Gains scene old i side found new) where
-  learns_by : knows_all old.format new.slots r.gives ≡ true → Learns scene o old new
+module _ (level_frame : LevelFrame) (o : Option Rule) (old new : Reached) (i : ℕ) (side : Side) (found : Option Learnt) (r : Rule) (is : o ≡ Some r) (g : Gains level_frame old i side found new) where
+  learns_by : knows_all old.format new.slots r.gives ≡ true → Learns level_frame o old new
   learns_by known = record {
     format_is = g.format_is;
     sizes_are = g.sizes_are;
@@ -46,17 +46,17 @@ module _ (scene : Scene) (o : Option Rule) (old new : Reached) (i : ℕ) (side :
     agrees = g.agrees;
   }
 
-  pub learns_length : LengthOf side i ∷ [] ≡ r.gives → ((l : Learnt) → found ≡ Some l → has_length l ≡ true) → Learns scene o old new
+  pub learns_length : LengthOf side i ∷ [] ≡ r.gives → ((l : Learnt) → found ≡ Some l → has_length l ≡ true) → Learns level_frame o old new
   learns_length gives known =
       let here : has_length (learnt_at new.slots i side) ≡ true = length_now found _ g.length_known known in
       learns_by (subst (λ xs. knows_all old.format new.slots xs ≡ true) gives (one_known old.format new (LengthOf side i) here))
 
-  pub learns_value : BitsOf side i ∷ [] ≡ r.gives → ((l : Learnt) → found ≡ Some l → has_bits l ≡ true) → Learns scene o old new
+  pub learns_value : BitsOf side i ∷ [] ≡ r.gives → ((l : Learnt) → found ≡ Some l → has_bits l ≡ true) → Learns level_frame o old new
   learns_value gives whole =
       let all : has_bits (learnt_at new.slots i side) ≡ true = bits_now found _ g.bits_known whole in
       learns_by (subst (λ xs. knows_all old.format new.slots xs ≡ true) gives (one_known old.format new (BitsOf side i) all))
 
-  pub learns_bits : LengthOf side i ∷ BitsOf side i ∷ [] ≡ r.gives → ((l : Learnt) → found ≡ Some l → has_length l ≡ true) → ((l : Learnt) → found ≡ Some l → has_bits l ≡ true) → Learns scene o old new
+  pub learns_bits : LengthOf side i ∷ BitsOf side i ∷ [] ≡ r.gives → ((l : Learnt) → found ≡ Some l → has_length l ≡ true) → ((l : Learnt) → found ≡ Some l → has_bits l ≡ true) → Learns level_frame o old new
   learns_bits gives sized whole =
       let here : has_length (learnt_at new.slots i side) ≡ true = length_now found _ g.length_known sized in
       let all : has_bits (learnt_at new.slots i side) ≡ true = bits_now found _ g.bits_known whole in

@@ -36,7 +36,7 @@ use Rattle.cert_rules.specs.Views.{view, side_at}
 use Rattle.cert_rules.proofs.ViewsAgree.{side_is}
 use Rattle.cert_rules.proofs.SlotsWithin.{bound_count}
 use Rattle.walk_steps.specs.Partial.{Reached, IsKept, bounds_at}
-use Rattle.walk_steps.specs.declared.scene.Scene.{Scene}
+use Rattle.walk_steps.specs.declared.level_frame.LevelFrame.{LevelFrame}
 use Rattle.walk_steps.specs.Finding.{IsAt, Shows}
 
 -- ---- sides are short
@@ -77,18 +77,18 @@ side_lies : (side : Side) (b : Sizes) (s : fillings.Sides) → SidesLie b (lengt
 side_lies Uncompressed b s h = h.uncompressed_lies
 side_lies Compressed b s h = h.compressed_lies
 
-module _ (scene : Scene) (l : Reached) (sound : IsSound scene.profile.now) (kept : IsKept l) (at : IsAt scene l) (bits : List Bool) (f : Filling) (shows : Shows scene l bits f) (i : ℕ) (within : i < length l.slots) where
-  shown : Fitting scene.profile.now.methods (bits_at scene.context.now) l.args scene.path.now l.format f
-  shown = fitting l.format (ap (fit.format_at scene.profile.now.methods scene.method) shows.format_is ∙ at.format_is) shows.ahead.in_front.fits
+module _ (level_frame : LevelFrame) (l : Reached) (sound : IsSound level_frame.frame.profile.now) (kept : IsKept l) (at : IsAt level_frame l) (bits : List Bool) (f : Filling) (shows : Shows level_frame l bits f) (i : ℕ) (within : i < length l.slots) where
+  shown : Fitting level_frame.frame.profile.now.methods (bits_at level_frame.frame.context.now) l.args level_frame.frame.path.now l.format f
+  shown = fitting l.format (ap (fit.format_at level_frame.frame.profile.now.methods level_frame.frame.method) shows.format_is ∙ at.format_is) shows.ahead.in_front.fits
 
   -- the lengths of its sides lie in the bounds of their fields
   pub lies : (side : Side) → LiesBetween (bounds_at l.sizes i side) (length (side_at (view f) i side))
   lies side =
-      let p = scene.profile.now in
-      let z = sized p.sizes scene.method scene.format l.sizes at.sizes_are in
+      let p = level_frame.frame.profile.now in
+      let z = sized p.sizes level_frame.frame.method level_frame.format l.sizes at.sizes_are in
       let placed = kept.placed in
       let count = bound_count placed.methods placed.table placed.are_sizes placed.method l.format placed.whole l.sizes placed.at l.slots kept.count kept.within in
-      let all = (lie-in-bounds p.methods p.sizes sound.sized (bits_at scene.context.now) scene.method l.args scene.path.now f shows.ahead.in_front.fits z.whole l.sizes z.whole_at
+      let all = (lie-in-bounds p.methods p.sizes sound.sized (bits_at level_frame.frame.context.now) level_frame.frame.method l.args level_frame.frame.path.now f shows.ahead.in_front.fits z.whole l.sizes z.whole_at
       (ap (slice_get z.whole.formats) shows.format_is ∙ z.sizes_is)).0 in
       let s = there (level f) i (omega (arith, within, kept.count, length-level l.format f shown.level_fits.shaped)) in
       let b = there l.sizes.fields i (omega (arith, within, count)) in
@@ -99,15 +99,15 @@ module _ (scene : Scene) (l : Reached) (sound : IsSound scene.profile.now) (kept
   -- and they are short
   pub side_short : (side : Side) → length (side_at (view f) i side) ≤ 2 ^ 18
   side_short side =
-      let p = scene.profile.now in
+      let p = level_frame.frame.profile.now in
       let d = there l.format.fields i (omega (arith, within, kept.count)) in
       let g = there (fields_of f) i (omega (arith, within, kept.count, length-fields l.format f shown.level_fits.shaped)) in
-      let short = field_short p.methods p.sizes sound.sized (bits_at scene.context.now) _ _ scene.path.now d.0 d.0.encoding g.0 (shown.each i d.0 g.0 d.1 g.1) side in
+      let short = field_short p.methods p.sizes sound.sized (bits_at level_frame.frame.context.now) _ _ level_frame.frame.path.now d.0 d.0.encoding g.0 (shown.each i d.0 g.0 d.1 g.1) side in
       subst (λ z. length z ≤ 2 ^ 18) (sym (side_is f i g.0 side g.1)) short
 
   -- of a library method, at most 64 bits
   pub coded_short : (d : Field) (m : Library) → slice_get l.format.fields i ≡ Some d → d.encoding ≡ encoding.Library m → (side : Side) → length (side_at (view f) i side) ≤ 64
   coded_short d m at_d is side =
       let g = there (fields_of f) i (omega (arith, within, kept.count, length-fields l.format f shown.level_fits.shaped)) in
-      let c = coded_parts scene.profile.now.methods (bits_at scene.context.now) (shown.each i d g.0 at_d g.1) m is in
+      let c = coded_parts level_frame.frame.profile.now.methods (bits_at level_frame.frame.context.now) (shown.each i d g.0 at_d g.1) m is in
       subst (λ z. length z ≤ 64) (sym (side_is f i g.0 side g.1)) (either side (sides_of g.0) (lib_short c.method _ _ _ c.holds))

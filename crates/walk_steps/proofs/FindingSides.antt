@@ -25,7 +25,7 @@ use Rattle.sem_profile.specs.Resolved.{IsSound}
 use Rattle.std.proofs.lemmas.List.{length-replicate}
 use Rattle.walk_steps.specs.Partial.{Reached, IsKept, IsAsked}
 use Rattle.walk_steps.specs.Sides.{whole_of}
-use Rattle.walk_steps.specs.declared.scene.Scene.{Scene}
+use Rattle.walk_steps.specs.declared.level_frame.LevelFrame.{LevelFrame}
 use Rattle.walk_steps.proofs.FindingGaining.{has_known}
 use Rattle.walk_steps.proofs.FindingRuled.{within_slots}
 use Rattle.walk_steps.proofs.FindingShown.{coded_short}
@@ -46,15 +46,15 @@ pub only_found : (P : List Bool → Type 0) (o : Option (List Bool)) (x : List B
 only_found P None x none p = none x p
 only_found P (Some y) x only p = only.1 x p
 
-pub up_finds : (scene : Scene) (l : Reached) (i : ℕ) (d : Field) (m : Library) (o : Option (List Bool)) → slice_get l.format.fields i ≡ Some d → d.encoding ≡ encoding.Library m →
-    IsReady l (common_rule Two l.sizes l.format (step.LibraryUp i)) → IsOnly (UpIs (shown_numbers l) (reference_at scene d) (bits_of (learnt_at l.slots i Compressed)) m) o → Finds scene l i Uncompressed (option_map Whole o)
-up_finds scene l i d m o at is ready only bits f shows =
+pub up_finds : (level_frame : LevelFrame) (l : Reached) (i : ℕ) (d : Field) (m : Library) (o : Option (List Bool)) → slice_get l.format.fields i ≡ Some d → d.encoding ≡ encoding.Library m →
+    IsReady l (common_rule Two l.sizes l.format (step.LibraryUp i)) → IsOnly (UpIs (shown_numbers l) (reference_at level_frame d) (bits_of (learnt_at l.slots i Compressed)) m) o → Finds level_frame l i Uncompressed (option_map Whole o)
+up_finds level_frame l i d m o at is ready only bits f shows =
     let gives = LengthOf Uncompressed i ∷ BitsOf Uncompressed i ∷ [] in
     let needs = up_needs l.format i in
     let known : knows_all l.format l.slots (needs m) ≡ true =
     subst (IsReady l) (ap (option_and_then (λ d. by_library needs gives d.encoding)) at ∙ ap (by_library needs gives) is) ready in
-    only_found (UpIs (shown_numbers l) (reference_at scene d) (bits_of (learnt_at l.slots i Compressed)) m) o (side_at (view f) i Uncompressed) only
-    (up scene.profile.now.methods (bits_at scene.context.now) (spot_of scene l bits) scene.format l.format l.slots f shows i d m at is known)
+    only_found (UpIs (shown_numbers l) (reference_at level_frame d) (bits_of (learnt_at l.slots i Compressed)) m) o (side_at (view f) i Uncompressed) only
+    (up level_frame.frame.profile.now.methods (bits_at level_frame.frame.context.now) (spot_of level_frame l bits) level_frame.format l.format l.slots f shows i d m at is known)
 
 -- ---- down
 
@@ -63,16 +63,16 @@ own_short Nothing u h short = omega arith
 own_short (Length n) u h short = let e = length-replicate n false in let is : length u ≡ n = h in omega (arith, e, is, short)
 own_short (Whole bits) u h short = subst (λ z. length z ≤ 64) h short
 
-pub down_finds : (scene : Scene) (l : Reached) (i : ℕ) (d : Field) (m : Library) (o : Option (List Bool)) → IsSound scene.profile.now → IsKept l → IsAt scene l → slice_get l.format.fields i ≡ Some d →
+pub down_finds : (level_frame : LevelFrame) (l : Reached) (i : ℕ) (d : Field) (m : Library) (o : Option (List Bool)) → IsSound level_frame.frame.profile.now → IsKept l → IsAt level_frame l → slice_get l.format.fields i ≡ Some d →
     d.encoding ≡ encoding.Library m → IsReady l (common_rule Two l.sizes l.format (step.LibraryDown i)) →
     (length (bits_of (learnt_at l.slots i Uncompressed)) ≤ 64 → IsOnly (DownIs (known_sides l.format l.slots) (shown_numbers l) (bits_of (learnt_at l.slots i Uncompressed)) m) o) →
-    Finds scene l i Compressed (option_map Whole o)
-down_finds scene l i d m o sound kept at at_d is ready only bits f shows =
+    Finds level_frame l i Compressed (option_map Whole o)
+down_finds level_frame l i d m o sound kept at at_d is ready only bits f shows =
     let gives = LengthOf Compressed i ∷ BitsOf Compressed i ∷ [] in
     let needs = down_needs l.format i in
     let known : knows_all l.format l.slots (needs m) ≡ true =
     subst (IsReady l) (ap (option_and_then (λ d. by_library needs gives d.encoding)) at_d ∙ ap (by_library needs gives) is) ready in
-    let short = coded_short scene l sound kept at bits f shows i (within_slots l kept i d at_d) d m at_d is Uncompressed in
+    let short = coded_short level_frame l sound kept at bits f shows i (within_slots l kept i d at_d) d m at_d is Uncompressed in
     let own = own_short (learnt_at l.slots i Uncompressed) (side_at (view f) i Uncompressed) (has_known f l.slots shows.has i Uncompressed) short in
     only_found (DownIs (known_sides l.format l.slots) (shown_numbers l) (bits_of (learnt_at l.slots i Uncompressed)) m) o (side_at (view f) i Compressed) (only own)
-    (down scene.profile.now.methods (bits_at scene.context.now) (spot_of scene l bits) scene.format l.format l.slots f shows i d m at_d is known)
+    (down level_frame.frame.profile.now.methods (bits_at level_frame.frame.context.now) (spot_of level_frame l bits) level_frame.format l.format l.slots f shows i d m at_d is known)

@@ -33,7 +33,7 @@ use Rattle.cert_rules.proofs.SlotsLying.{all_lie}
 use Rattle.cert_rules.proofs.Steps.{unfilled}
 use Rattle.walk_steps.specs.Partial.{Reached, IsKept, stands}
 use Rattle.walk_steps.proofs.LevelAsked.{all_shown}
-use Rattle.walk_steps.specs.declared.scene.Scene.{Scene}
+use Rattle.walk_steps.specs.declared.level_frame.LevelFrame.{LevelFrame}
 use Rattle.walk_steps.specs.Calls.{MayCall}
 use Rattle.walk_steps.specs.Finding.{IsAt, Shows, AllAsked, shown_numbers}
 
@@ -59,25 +59,25 @@ module _ (l : Reached) (i k : ℕ) (d : Field) (es : List Expr) (at_d : slice_ge
   pub arguments_asked : AllAsked l es
   arguments_asked n e here = stands (in_encoding i n at_d (ap (λ x. slice_get (encoding_exprs x) n) is ∙ here))
 
-  module _ (scene : Scene) (at : IsAt scene l) (known : knows_all l.format l.slots (inputs_of_all l.format es) ≡ true) where
-    pub valued : (bits : List Bool) (f : Filling) → Shows scene l bits f → (args : List ℤ) × (vals (shown_numbers l) es ≡ Some args)
+  module _ (level_frame : LevelFrame) (at : IsAt level_frame l) (known : knows_all l.format l.slots (inputs_of_all l.format es) ≡ true) where
+    pub valued : (bits : List Bool) (f : Filling) → Shows level_frame l bits f → (args : List ℤ) × (vals (shown_numbers l) es ≡ Some args)
     valued bits f shows =
-        let fit : Fitting scene.profile.now.methods (bits_at scene.context.now) l.args scene.path.now l.format f =
-        fitting l.format (ap (format_at scene.profile.now.methods scene.method) shows.format_is ∙ at.format_is) shows.ahead.in_front.fits in
+        let fit : Fitting level_frame.frame.profile.now.methods (bits_at level_frame.frame.context.now) l.args level_frame.frame.path.now l.format f =
+        fitting l.format (ap (format_at level_frame.frame.profile.now.methods level_frame.frame.method) shows.format_is ∙ at.format_is) shows.ahead.in_front.fits in
         let shaped = fit.level_fits.shaped in
         let x = also_at l.format.fields (fields_of f) i d (sym (length-fields l.format f shaped)) at_d in
-        let c = called_parts scene.profile.now.methods (bits_at scene.context.now) (fit.each i d x.0 at_d x.1) k es is in
+        let c = called_parts level_frame.frame.profile.now.methods (bits_at level_frame.frame.context.now) (fit.each i d x.0 at_d x.1) k es is in
         let agree = agree_known l.format l.slots f shows.count shows.has (plain l.format f fit) (inputs_of_all l.format es) known in
         (c.args, vals_same (slots_view l.format l.slots) (view f) l.format (slots_declared l.format.fields l.slots shows.count) shaped.declared_is l.args es agree ∙ c.is_args)
 
-    pub arguments_lie : IsSound scene.profile.now → IsKept l → ArgumentsLieAt scene.profile.now scene.method l.args → (args : List ℤ) → vals (shown_numbers l) es ≡ Some args → ArgumentsLieAt scene.profile.now k args
+    pub arguments_lie : IsSound level_frame.frame.profile.now → IsKept l → ArgumentsLieAt level_frame.frame.profile.now level_frame.frame.method l.args → (args : List ℤ) → vals (shown_numbers l) es ≡ Some args → ArgumentsLieAt level_frame.frame.profile.now k args
     arguments_lie sound kept lie args are t whole =
-        let p = scene.profile.now in
-        let m = placed p.methods scene.method scene.format l.format at.format_is in
-        let s = sized p.sizes scene.method scene.format l.sizes at.sizes_are in
-        let here = at_level p.methods p.sizes scene.method scene.format l.format l.sizes m s in
+        let p = level_frame.frame.profile.now in
+        let m = placed p.methods level_frame.frame.method level_frame.format l.format at.format_is in
+        let s = sized p.sizes level_frame.frame.method level_frame.format l.sizes at.sizes_are in
+        let here = at_level p.methods p.sizes level_frame.frame.method level_frame.format l.format l.sizes m s in
         let ranges = all_lie p.methods p.sizes sound.sized m.method l.format s.whole l.sizes here l.slots l.args kept.count kept.within (lie s.whole s.whole_at) in
-        let formed = sound.well_formed.formats scene.method scene.format m.method l.format m.method_at m.format_is in
+        let formed = sound.well_formed.formats level_frame.frame.method level_frame.format m.method l.format m.method_at m.format_is in
         let callee = formed.calls i k d es at_d is in
         let take = lie-in-parameters p.methods p.sizes sound.sized in
         let values = all_shown l.format l.sizes l.args l.slots kept es arguments_asked known ∙ are in

@@ -18,7 +18,7 @@ use Rattle.walk_steps.specs.Partial.{Reached}
 use Rattle.walk_steps.specs.declared.calls.Call.{Call}
 use Rattle.walk_steps.specs.declared.fault.StepFault.{StepFault}
 use Rattle.walk_steps.specs.declared.fault.StepFault.TheVariants.{Short, Refused, OutOfMemory}
-use Rattle.walk_steps.specs.declared.scene.Scene.{Scene}
+use Rattle.walk_steps.specs.declared.level_frame.LevelFrame.{LevelFrame}
 use Rattle.walk_steps.specs.Finding.{Shows, shown_numbers}
 
 -- the field calls a method, and all that the arguments ask for is known
@@ -31,14 +31,14 @@ pub record MayCall (l : Reached) (i : ℕ) : Type 0 where
   pub known : knows_all l.format l.slots (inputs_of_all l.format exprs) ≡ true
 
 -- the call of the field: its method, the values of its arguments, which lie in the ranges of the parameters, and the field's path
-pub record IsCall (scene : Scene) (l : Reached) (i : ℕ) (call : Call) : Type 0 where
+pub record IsCall (level_frame : LevelFrame) (l : Reached) (i : ℕ) (call : Call) : Type 0 where
   pub field : Field
   pub exprs : List Expr
   pub field_is : slice_get l.format.fields i ≡ Some field
   pub encoding_is : field.encoding ≡ encoding.Call call.method exprs
   pub args_are : vals (shown_numbers l) exprs ≡ Some call.arguments
-  pub path_is : string_bytes call.path ≡ below scene.path.now field.declared.name
-  pub lie : ArgumentsLieAt scene.profile.now call.method call.arguments
+  pub path_is : string_bytes call.path ≡ below level_frame.frame.path.now field.declared.name
+  pub lie : ArgumentsLieAt level_frame.frame.profile.now call.method call.arguments
 
 -- what the filling inside a field gives for a side of it: its header, or its packed bits
 abbrev pub side_given : Side → Filling → List Bool
@@ -64,7 +64,7 @@ pub record Fills (old : Reached) (i : ℕ) (g : Filling) (new : Reached) : Type 
   pub agrees : (f : Filling) → HasSlots f old.slots → IsFilledBy f i g → HasSlots f new.slots
 
 -- why a field isn't filled: no filling that shows what the level knows, whatever bits are in front, has this one inside
-abbrev pub BlamesFilling : StepFault → Scene → Reached → ℕ → Filling → Type 0
-BlamesFilling Short scene l i g = ⊥
-BlamesFilling Refused scene l i g = (bits : List Bool) (f : Filling) → Shows scene l bits f → IsFilledBy f i g → ⊥
-BlamesFilling OutOfMemory scene l i g = Unit {0}
+abbrev pub BlamesFilling : StepFault → LevelFrame → Reached → ℕ → Filling → Type 0
+BlamesFilling Short level_frame l i g = ⊥
+BlamesFilling Refused level_frame l i g = (bits : List Bool) (f : Filling) → Shows level_frame l bits f → IsFilledBy f i g → ⊥
+BlamesFilling OutOfMemory level_frame l i g = Unit {0}

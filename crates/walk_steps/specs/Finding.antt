@@ -20,24 +20,24 @@ use Rattle.cert_rules.specs.Facts.{inputs}
 use Rattle.cert_rules.specs.Rules.{Congruence, value_given, remainder_given}
 use Rattle.cert_rules.specs.Views.{view, side_at}
 use Rattle.walk_steps.specs.Partial.{Reached, IsAsked}
-use Rattle.walk_steps.specs.declared.scene.Scene.{Scene}
+use Rattle.walk_steps.specs.declared.level_frame.LevelFrame.{LevelFrame}
 use Rattle.walk_steps.specs.declared.fault.StepFault.{StepFault}
 use Rattle.walk_steps.specs.declared.fault.StepFault.TheVariants.{Short, Refused, OutOfMemory}
 
 -- ---- where a level stands
 
--- the level is of the format that the scene names, with its bounds
-pub record IsAt (scene : Scene) (l : Reached) : Type 0 where
-  pub format_is : format_at scene.profile.now.methods scene.method scene.format ≡ Some l.format
-  pub sizes_are : sizes_at scene.profile.now.sizes scene.method scene.format ≡ Some l.sizes
+-- the level is of the format that the level frame names, with its bounds
+pub record IsAt (level_frame : LevelFrame) (l : Reached) : Type 0 where
+  pub format_is : format_at level_frame.frame.profile.now.methods level_frame.frame.method level_frame.format ≡ Some l.format
+  pub sizes_are : sizes_at level_frame.frame.profile.now.sizes level_frame.frame.method level_frame.format ≡ Some l.sizes
 
 -- where these bits are ahead
-abbrev pub spot_of : Scene → Reached → List Bool → Spot
-spot_of scene l bits = record { method = scene.method; args = l.args; path = scene.path.now; bits = bits }
+abbrev pub spot_of : LevelFrame → Reached → List Bool → Spot
+spot_of level_frame l bits = record { method = level_frame.frame.method; args = l.args; path = level_frame.frame.path.now; bits = bits }
 
 -- a filling that fits here, has the bits in front, and has what the level knows
-abbrev pub Shows : Scene → Reached → List Bool → Filling → Type 0
-Shows scene l bits f = IsLevel scene.profile.now.methods (bits_at scene.context.now) (spot_of scene l bits) scene.format l.format l.slots f
+abbrev pub Shows : LevelFrame → Reached → List Bool → Filling → Type 0
+Shows level_frame l bits f = IsLevel level_frame.frame.profile.now.methods (bits_at level_frame.frame.context.now) (spot_of level_frame l bits) level_frame.format l.format l.slots f
 
 -- ---- what is found
 
@@ -47,12 +47,12 @@ AreFound None bits = ⊥
 AreFound (Some l) bits = HasSide bits l
 
 -- What was found of a side of the field is so of each filling that shows what the level knows, whatever bits are in front; where nothing was found there is none.
-abbrev pub Finds : Scene → Reached → ℕ → Side → Option Learnt → Type 0
-Finds scene l i side found = (bits : List Bool) (f : Filling) → Shows scene l bits f → AreFound found (side_at (view f) i side)
+abbrev pub Finds : LevelFrame → Reached → ℕ → Side → Option Learnt → Type 0
+Finds level_frame l i side found = (bits : List Bool) (f : Filling) → Shows level_frame l bits f → AreFound found (side_at (view f) i side)
 
 -- the count, if it is one, is the length of that side of each filling that shows what the level knows; where there is none there is no such filling
-abbrev pub Counts : Scene → Reached → ℕ → Side → Option ℤ → Type 0
-Counts scene l i side count = (bits : List Bool) (f : Filling) → Shows scene l bits f → count ≡ Some (pos (length (side_at (view f) i side)))
+abbrev pub Counts : LevelFrame → Reached → ℕ → Side → Option ℤ → Type 0
+Counts level_frame l i side count = (bits : List Bool) (f : Filling) → Shows level_frame l bits f → count ≡ Some (pos (length (side_at (view f) i side)))
 
 -- the length that was found
 abbrev pub counted : Option ℤ → Option Learnt
@@ -64,8 +64,8 @@ abbrev pub shown_numbers : Reached → Assignment
 shown_numbers l = known_numbers l.format l.slots l.args
 
 -- the reference of a field
-abbrev pub reference_at : Scene → Field → Option (List Bool)
-reference_at scene d = reference_of d.declared.part (bits_at scene.context.now) (below scene.path.now d.declared.name) d.initial
+abbrev pub reference_at : LevelFrame → Field → Option (List Bool)
+reference_at level_frame d = reference_of d.declared.part (bits_at level_frame.frame.context.now) (below level_frame.frame.path.now d.declared.name) d.initial
 
 -- each may be asked for
 abbrev pub AllAsked : Reached → List Expr → Type 0
@@ -94,7 +94,7 @@ abbrev pub HaveSameInners : List Slot → List Slot → Type 0
 HaveSameInners old new = (i : ℕ) → slot_inner (slice_get new i) ≡ slot_inner (slice_get old i)
 
 -- what was found of a side of the field is known, and what was known still is; each filling that showed what was known, whatever bits are in front, has what is known now
-pub record Gains (scene : Scene) (old : Reached) (i : ℕ) (side : Side) (found : Option Learnt) (new : Reached) : Type 0 where
+pub record Gains (level_frame : LevelFrame) (old : Reached) (i : ℕ) (side : Side) (found : Option Learnt) (new : Reached) : Type 0 where
   pub format_is : new.format ≡ old.format
   pub sizes_are : new.sizes ≡ old.sizes
   pub args_are : new.args ≡ old.args
@@ -102,24 +102,24 @@ pub record Gains (scene : Scene) (old : Reached) (i : ℕ) (side : Side) (found 
   pub inners : HaveSameInners old.slots new.slots
   pub length_known : IsSomeAnd found (λ l. has_length l ≡ true → has_length (learnt_at new.slots i side) ≡ true)
   pub bits_known : IsSomeAnd found (λ l. has_bits l ≡ true → has_bits (learnt_at new.slots i side) ≡ true)
-  pub agrees : (bits : List Bool) (f : Filling) → Shows scene old bits f → HasSlots f new.slots
+  pub agrees : (bits : List Bool) (f : Filling) → Shows level_frame old bits f → HasSlots f new.slots
 
 -- what the step gives is known, and what was known still is; each filling that showed what was known, whatever bits are in front, has what is known now
-pub record Learns (scene : Scene) (rule : Option Rule) (old new : Reached) : Type 0 where
+pub record Learns (level_frame : LevelFrame) (rule : Option Rule) (old new : Reached) : Type 0 where
   pub format_is : new.format ≡ old.format
   pub sizes_are : new.sizes ≡ old.sizes
   pub args_are : new.args ≡ old.args
   pub grown : Grows old.slots new.slots
   pub inners : HaveSameInners old.slots new.slots
   pub gives : IsSomeAnd rule (λ r. knows_all old.format new.slots r.gives ≡ true)
-  pub agrees : (bits : List Bool) (f : Filling) → Shows scene old bits f → HasSlots f new.slots
+  pub agrees : (bits : List Bool) (f : Filling) → Shows level_frame old bits f → HasSlots f new.slots
 
 -- no filling shows what the level knows, whatever bits are in front
-abbrev pub NoneShows : Scene → Reached → Type 0
-NoneShows scene l = (bits : List Bool) (f : Filling) → Shows scene l bits f → ⊥
+abbrev pub NoneShows : LevelFrame → Reached → Type 0
+NoneShows level_frame l = (bits : List Bool) (f : Filling) → Shows level_frame l bits f → ⊥
 
 -- why a step that takes no bits has no outcome
-abbrev pub Blames : StepFault → Scene → Reached → Type 0
-Blames Short scene l = ⊥
-Blames Refused scene l = NoneShows scene l
-Blames OutOfMemory scene l = Unit {0}
+abbrev pub Blames : StepFault → LevelFrame → Reached → Type 0
+Blames Short level_frame l = ⊥
+Blames Refused level_frame l = NoneShows level_frame l
+Blames OutOfMemory level_frame l = Unit {0}

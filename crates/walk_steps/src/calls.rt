@@ -11,7 +11,7 @@ ghost use Rattle.walk_steps.specs.Partial as levels;
 
 use crate::Partial;
 use crate::fault::StepFault;
-use crate::scene::Scene;
+use crate::level_frame::LevelFrame;
 use cert_rules::Learnt;
 use sem_bits::{Bits, BitsError};
 use sem_expr::Side;
@@ -31,17 +31,17 @@ pub struct Call {
 /// The call of the field. The error is Refused, where no filling has values for the arguments, or out of memory.
 pub fn called(
     alloc: Global,
-    scene: &Scene<'_>,
+    level_frame: &LevelFrame<'_>,
     level: &Partial<'_>,
     field: usize,
 ) -> Result<Call, StepFault>
-    requires at { IsAt scene.now level.now }
-    requires lie { ArgumentsLieAt scene.now.profile.now scene.now.method level.now.args }
+    requires at { IsAt level_frame.now level.now }
+    requires lie { ArgumentsLieAt level_frame.now.frame.profile.now level_frame.now.frame.method level.now.args }
     requires ready { spec.MayCall level.now field }
-    ensures found { IfOk result (spec.IsCall scene.now level.now field) }
-    ensures fault { IfErr result (λ e. Blames e scene.now level.now) }
+    ensures found { IfOk result (spec.IsCall level_frame.now level.now field) }
+    ensures fault { IfErr result (λ e. Blames e level_frame.now level.now) }
 {
-    scene.profile.keeps();
+    level_frame.frame.profile.keeps();
     level.keeps();
     let Some(coded) = level.format().fields.get(field) else {
         return Err(StepFault::Refused);
@@ -55,26 +55,26 @@ pub fn called(
     Ok(Call {
         method: *method,
         arguments: values,
-        path: below(alloc, scene.path, coded.declared.name.as_str())?,
+        path: below(alloc, level_frame.frame.path, coded.declared.name.as_str())?,
     })
 }
 
 /// Learns both sides of a called field from the filling inside it, and keeps that. The error is Refused or out of memory.
 pub fn fill(
     alloc: Global,
-    scene: &Scene<'_>,
+    level_frame: &LevelFrame<'_>,
     level: &mut Partial<'_>,
     field: usize,
     inner: Filling,
 ) -> Result<(), StepFault>
-    requires at { IsAt scene.now level.old }
+    requires at { IsAt level_frame.now level.old }
     requires within { field < length level.old.slots }
     requires empty { slot_inner (slice_get level.old.slots field) ≡ None }
     ensures fills { OnOk result (spec.Fills level.old field inner level.new) }
-    ensures fault { IfErr result (λ e. spec.BlamesFilling e scene.now level.old field inner) }
+    ensures fault { IfErr result (λ e. spec.BlamesFilling e level_frame.now level.old field inner) }
 {
-    fill_side(alloc, scene, level, field, Side::Uncompressed, &inner)?;
-    fill_side(alloc, scene, level, field, Side::Compressed, &inner)?;
+    fill_side(alloc, level_frame, level, field, Side::Uncompressed, &inner)?;
+    fill_side(alloc, level_frame, level, field, Side::Compressed, &inner)?;
     level.hold(field, inner);
     Ok(())
 }
@@ -82,18 +82,18 @@ pub fn fill(
 /// Learns a side of a called field from the filling inside it. The error is Refused or out of memory.
 fn fill_side(
     alloc: Global,
-    scene: &Scene<'_>,
+    level_frame: &LevelFrame<'_>,
     level: &mut Partial<'_>,
     field: usize,
     side: Side,
     inner: &Filling,
 ) -> Result<(), StepFault>
-    requires at { IsAt scene.now level.old }
+    requires at { IsAt level_frame.now level.old }
     requires within { field < length level.old.slots }
     ensures learns { OnOk result (levels.Learns level.old field side (Whole (spec.side_given side inner.now)) level.new) }
-    ensures fault { IfErr result (λ e. spec.BlamesFilling e scene.now level.old field inner.now) }
+    ensures fault { IfErr result (λ e. spec.BlamesFilling e level_frame.now level.old field inner.now) }
 {
-    scene.profile.keeps();
+    level_frame.frame.profile.keeps();
     level.keeps();
     let bits = match side_given(alloc, side, inner) {
         Ok(bits) => bits,

@@ -6,27 +6,27 @@ ghost use Rattle.walk_steps.specs.Finding as spec;
 
 use crate::Partial;
 use crate::fault::StepFault;
-use crate::scene::Scene;
+use crate::level_frame::LevelFrame;
 use cert_rules::Learnt;
 use sem_bits::Bits;
 use sem_expr::Side;
 
 /// Learns what was found of a side of the field: it is tested against the field's bounds and compared with what is known.
 pub(crate) fn learn(
-    scene: &Scene<'_>,
+    level_frame: &LevelFrame<'_>,
     level: &mut Partial<'_>,
     field: usize,
     side: Side,
     found: Option<Learnt>,
 ) -> Result<(), StepFault>
-    requires at { spec.IsAt scene.now level.old }
+    requires at { spec.IsAt level_frame.now level.old }
     requires within { field < length level.old.slots }
-    requires finds { spec.Finds scene.now level.old field side found }
-    ensures gains { OnOk result (spec.Gains scene.now level.old field side found level.new) }
-    ensures fault { IfErr result (λ e. spec.Blames e scene.now level.old) }
+    requires finds { spec.Finds level_frame.now level.old field side found }
+    ensures gains { OnOk result (spec.Gains level_frame.now level.old field side found level.new) }
+    ensures fault { IfErr result (λ e. spec.Blames e level_frame.now level.old) }
     ensures stays { OnErr result (level.new ≡ level.old) }
 {
-    scene.profile.keeps();
+    level_frame.frame.profile.keeps();
     level.keeps();
     let Some(found) = found else {
         return Err(StepFault::Refused);
@@ -52,40 +52,40 @@ fn measured(count: Option<i128>) -> Option<Learnt>
 
 /// Learns the count that was found for the length of a side of the field.
 pub(crate) fn learn_count(
-    scene: &Scene<'_>,
+    level_frame: &LevelFrame<'_>,
     level: &mut Partial<'_>,
     field: usize,
     side: Side,
     count: Option<i128>,
 ) -> Result<(), StepFault>
-    requires at { spec.IsAt scene.now level.old }
+    requires at { spec.IsAt level_frame.now level.old }
     requires within { field < length level.old.slots }
-    requires counts { spec.Counts scene.now level.old field side count }
-    ensures gains { OnOk result (spec.Gains scene.now level.old field side (spec.counted count) level.new) }
-    ensures fault { IfErr result (λ e. spec.Blames e scene.now level.old) }
+    requires counts { spec.Counts level_frame.now level.old field side count }
+    ensures gains { OnOk result (spec.Gains level_frame.now level.old field side (spec.counted count) level.new) }
+    ensures fault { IfErr result (λ e. spec.Blames e level_frame.now level.old) }
     ensures stays { OnErr result (level.new ≡ level.old) }
 {
-    scene.profile.keeps();
+    level_frame.frame.profile.keeps();
     level.keeps();
-    learn(scene, level, field, side, measured(count))
+    learn(level_frame, level, field, side, measured(count))
 }
 
 /// Learns the bits that were found of a side of the field.
 pub(crate) fn learn_bits(
-    scene: &Scene<'_>,
+    level_frame: &LevelFrame<'_>,
     level: &mut Partial<'_>,
     field: usize,
     side: Side,
     bits: Option<Bits>,
 ) -> Result<(), StepFault>
-    requires at { spec.IsAt scene.now level.old }
+    requires at { spec.IsAt level_frame.now level.old }
     requires within { field < length level.old.slots }
-    requires finds { spec.Finds scene.now level.old field side (option_map learnt.Whole bits) }
-    ensures gains { OnOk result (spec.Gains scene.now level.old field side (option_map learnt.Whole bits) level.new) }
-    ensures fault { IfErr result (λ e. spec.Blames e scene.now level.old) }
+    requires finds { spec.Finds level_frame.now level.old field side (option_map learnt.Whole bits) }
+    ensures gains { OnOk result (spec.Gains level_frame.now level.old field side (option_map learnt.Whole bits) level.new) }
+    ensures fault { IfErr result (λ e. spec.Blames e level_frame.now level.old) }
     ensures stays { OnErr result (level.new ≡ level.old) }
 {
-    learn(scene, level, field, side, whole(bits))
+    learn(level_frame, level, field, side, whole(bits))
 }
 
 /// The bits as what is learnt of a side.

@@ -15,8 +15,8 @@ ghost use Rattle.walk_steps.specs.Finding as spec;
 use crate::Partial;
 use crate::fault::StepFault;
 use crate::findings::learn_count;
+use crate::level_frame::LevelFrame;
 use crate::reference::reference_in;
-use crate::scene::Scene;
 use cert_rules::equations::length_given;
 use cert_rules::fields::size_of;
 use sem_expr::Side;
@@ -26,15 +26,15 @@ use std::alloc::{AllocError, Global};
 /// Learns the length of a side of the field that its library method gives. The error is Refused or out of memory.
 pub fn method_length(
     alloc: Global,
-    scene: &Scene<'_>,
+    level_frame: &LevelFrame<'_>,
     level: &mut Partial<'_>,
     field: usize,
     side: Side,
 ) -> Result<(), StepFault>
-    requires at { spec.IsAt scene.now level.old }
+    requires at { spec.IsAt level_frame.now level.old }
     requires ready { spec.IsReady level.old (rules.common_rule Two level.old.sizes level.old.format (step.MethodLength field side)) }
-    ensures learns { OnOk result (spec.Learns scene.now (rules.common_rule Two level.old.sizes level.old.format (step.MethodLength field side)) level.old level.new) }
-    ensures fault { IfErr result (λ e. spec.Blames e scene.now level.old) }
+    ensures learns { OnOk result (spec.Learns level_frame.now (rules.common_rule Two level.old.sizes level.old.format (step.MethodLength field side)) level.old level.new) }
+    ensures fault { IfErr result (λ e. spec.Blames e level_frame.now level.old) }
     ensures stays { OnErr result (level.new ≡ level.old) }
 {
     level.keeps();
@@ -44,14 +44,14 @@ pub fn method_length(
     let Encoding::Library(library) = coded.encoding.get() else {
         return Err(StepFault::Refused);
     };
-    let count = method_count(alloc, scene, level, coded, library, side)?;
-    learn_count(scene, level, field, side, count)
+    let count = method_count(alloc, level_frame, level, coded, library, side)?;
+    learn_count(level_frame, level, field, side, count)
 }
 
 /// The length that the method gives the side, where it gives one.
 fn method_count(
     alloc: Global,
-    scene: &Scene<'_>,
+    level_frame: &LevelFrame<'_>,
     level: &Partial<'_>,
     coded: &Field,
     library: &Library,
@@ -59,7 +59,7 @@ fn method_count(
 ) -> Result<Option<i128>, AllocError>
     requires asked { spec.AllAsked level.now (library_exprs library.now) }
     requires known { knows_all level.now.format level.now.slots (rules.length_needs level.now.format side library.now) ≡ true }
-    ensures { IfOk result (λ count. (n : ℕ) → LengthIs (spec.shown_numbers level.now) (spec.reference_at scene.now coded.now) side library.now n → count ≡ Some (pos n)) }
+    ensures { IfOk result (λ count. (n : ℕ) → LengthIs (spec.shown_numbers level.now) (spec.reference_at level_frame.now coded.now) side library.now n → count ≡ Some (pos n)) }
 {
     if let Some(size) = size_of(side, library) {
         return Ok(level.value(size));
@@ -67,7 +67,7 @@ fn method_count(
     if is_empty(side, library) {
         return Ok(Some(0));
     }
-    match reference_in(alloc, scene, coded)? {
+    match reference_in(alloc, level_frame, coded)? {
         Some(bits) => Ok(Some(bits.len() as i128)),
         None => Ok(None),
     }
@@ -89,21 +89,21 @@ fn is_empty(side: Side, library: &Library) -> bool
 
 /// Learns the length of a side of the field that the constraint gives, by its number. The error is Refused or out of memory.
 pub fn constraint_length(
-    scene: &Scene<'_>,
+    level_frame: &LevelFrame<'_>,
     level: &mut Partial<'_>,
     field: usize,
     side: Side,
     constraint: usize,
 ) -> Result<(), StepFault>
-    requires at { spec.IsAt scene.now level.old }
+    requires at { spec.IsAt level_frame.now level.old }
     requires ready { spec.IsReady level.old (rules.common_rule Two level.old.sizes level.old.format (step.ConstraintLength field side constraint)) }
-    ensures learns { OnOk result (spec.Learns scene.now (rules.common_rule Two level.old.sizes level.old.format (step.ConstraintLength field side constraint)) level.old level.new) }
-    ensures fault { IfErr result (λ e. spec.Blames e scene.now level.old) }
+    ensures learns { OnOk result (spec.Learns level_frame.now (rules.common_rule Two level.old.sizes level.old.format (step.ConstraintLength field side constraint)) level.old level.new) }
+    ensures fault { IfErr result (λ e. spec.Blames e level_frame.now level.old) }
     ensures stays { OnErr result (level.new ≡ level.old) }
 {
     level.keeps();
     let count = constraint_count(level, field, side, constraint);
-    learn_count(scene, level, field, side, count)
+    learn_count(level_frame, level, field, side, count)
 }
 
 /// The value of the expression that the constraint gives for the length.

@@ -14,9 +14,9 @@ ghost use Rattle.walk_steps.specs.Finding as spec;
 use crate::Partial;
 use crate::fault::StepFault;
 use crate::findings::learn_bits;
+use crate::level_frame::LevelFrame;
 use crate::methods::{checksum, copied, low_part, lsb_found, spelled};
 use crate::reference::reference_in;
-use crate::scene::Scene;
 use sem_bits::Bits;
 use sem_expr::{Side, Subject};
 use sem_profile::{CrcArguments, Encoding, Field, Library};
@@ -25,14 +25,14 @@ use std::alloc::{AllocError, Global};
 /// Learns the uncompressed side that the field's library method gives. The error is Refused or out of memory.
 pub fn library_up(
     alloc: Global,
-    scene: &Scene<'_>,
+    level_frame: &LevelFrame<'_>,
     level: &mut Partial<'_>,
     field: usize,
 ) -> Result<(), StepFault>
-    requires at { spec.IsAt scene.now level.old }
+    requires at { spec.IsAt level_frame.now level.old }
     requires ready { spec.IsReady level.old (rules.common_rule Two level.old.sizes level.old.format (step.LibraryUp field)) }
-    ensures learns { OnOk result (spec.Learns scene.now (rules.common_rule Two level.old.sizes level.old.format (step.LibraryUp field)) level.old level.new) }
-    ensures fault { IfErr result (λ e. spec.Blames e scene.now level.old) }
+    ensures learns { OnOk result (spec.Learns level_frame.now (rules.common_rule Two level.old.sizes level.old.format (step.LibraryUp field)) level.old level.new) }
+    ensures fault { IfErr result (λ e. spec.Blames e level_frame.now level.old) }
     ensures stays { OnErr result (level.new ≡ level.old) }
 {
     level.keeps();
@@ -42,14 +42,14 @@ pub fn library_up(
     let Encoding::Library(library) = coded.encoding.get() else {
         return Err(StepFault::Refused);
     };
-    let found = upward(alloc, scene, level, field, coded, library)?;
-    learn_bits(scene, level, field, Side::Uncompressed, found)
+    let found = upward(alloc, level_frame, level, field, coded, library)?;
+    learn_bits(level_frame, level, field, Side::Uncompressed, found)
 }
 
 /// The one uncompressed side that the method gives, if it gives one.
 fn upward(
     alloc: Global,
-    scene: &Scene<'_>,
+    level_frame: &LevelFrame<'_>,
     level: &Partial<'_>,
     field: usize,
     coded: &Field,
@@ -57,19 +57,19 @@ fn upward(
 ) -> Result<Option<Bits>, AllocError>
     requires asked { spec.AllAsked level.now (library_exprs library.now) }
     requires known { knows_all level.now.format level.now.slots (rules.up_needs level.now.format field library.now) ≡ true }
-    ensures { IfOk result (IsOnly (UpIs (spec.shown_numbers level.now) (spec.reference_at scene.now coded.now) (bits_of (learnt_at level.now.slots field Side.Compressed)) library.now)) }
+    ensures { IfOk result (IsOnly (UpIs (spec.shown_numbers level.now) (spec.reference_at level_frame.now coded.now) (bits_of (learnt_at level.now.slots field Side.Compressed)) library.now)) }
 {
     match library {
         Library::UncompressedValue { length, value } => {
             spelled(alloc, level.value(length), level.value(value))
         }
         Library::Irregular { .. } => copied(alloc, level.bits(field, Side::Compressed)),
-        Library::Static => copied(alloc, reference_in(alloc, scene, coded)?),
+        Library::Static => copied(alloc, reference_in(alloc, level_frame, coded)?),
         Library::Lsb { bits, offset } => {
             let Some(compressed) = level.bits(field, Side::Compressed) else {
                 return Ok(None);
             };
-            let reference = reference_in(alloc, scene, coded)?;
+            let reference = reference_in(alloc, level_frame, coded)?;
             lsb_found(
                 alloc,
                 level.value(bits),
@@ -85,17 +85,17 @@ fn upward(
 /// Learns the compressed side that the field's library method gives. The error is Refused or out of memory.
 pub fn library_down(
     alloc: Global,
-    scene: &Scene<'_>,
+    level_frame: &LevelFrame<'_>,
     level: &mut Partial<'_>,
     field: usize,
 ) -> Result<(), StepFault>
-    requires at { spec.IsAt scene.now level.old }
+    requires at { spec.IsAt level_frame.now level.old }
     requires ready { spec.IsReady level.old (rules.common_rule Two level.old.sizes level.old.format (step.LibraryDown field)) }
-    ensures learns { OnOk result (spec.Learns scene.now (rules.common_rule Two level.old.sizes level.old.format (step.LibraryDown field)) level.old level.new) }
-    ensures fault { IfErr result (λ e. spec.Blames e scene.now level.old) }
+    ensures learns { OnOk result (spec.Learns level_frame.now (rules.common_rule Two level.old.sizes level.old.format (step.LibraryDown field)) level.old level.new) }
+    ensures fault { IfErr result (λ e. spec.Blames e level_frame.now level.old) }
     ensures stays { OnErr result (level.new ≡ level.old) }
 {
-    scene.profile.keeps();
+    level_frame.frame.profile.keeps();
     level.keeps();
     let Some(coded) = level.format().fields.get(field) else {
         return Err(StepFault::Refused);
@@ -104,7 +104,7 @@ pub fn library_down(
         return Err(StepFault::Refused);
     };
     let found = downward(alloc, level, field, library)?;
-    learn_bits(scene, level, field, Side::Compressed, found)
+    learn_bits(level_frame, level, field, Side::Compressed, found)
 }
 
 /// The one compressed side that the method gives, if it gives one, for at most 64 uncompressed bits.

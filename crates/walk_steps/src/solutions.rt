@@ -10,8 +10,8 @@ ghost use Rattle.walk_steps.specs.Finding as spec;
 use crate::Partial;
 use crate::fault::StepFault;
 use crate::findings::learn_bits;
+use crate::level_frame::LevelFrame;
 use crate::methods::spelled;
-use crate::scene::Scene;
 use cert_rules::equations::{remainder_given, value_given};
 use sem_expr::Side;
 use sem_profile::Constraint;
@@ -21,23 +21,23 @@ use std::alloc::Global;
 /// Refused or out of memory.
 pub fn solve(
     alloc: Global,
-    scene: &Scene<'_>,
+    level_frame: &LevelFrame<'_>,
     level: &mut Partial<'_>,
     field: usize,
     constraint: usize,
 ) -> Result<(), StepFault>
-    requires at { spec.IsAt scene.now level.old }
+    requires at { spec.IsAt level_frame.now level.old }
     requires ready { spec.IsReady level.old (rules.common_rule Two level.old.sizes level.old.format (step.Solve field constraint)) }
-    ensures learns { OnOk result (spec.Learns scene.now (rules.common_rule Two level.old.sizes level.old.format (step.Solve field constraint)) level.old level.new) }
-    ensures fault { IfErr result (λ e. spec.Blames e scene.now level.old) }
+    ensures learns { OnOk result (spec.Learns level_frame.now (rules.common_rule Two level.old.sizes level.old.format (step.Solve field constraint)) level.old level.new) }
+    ensures fault { IfErr result (λ e. spec.Blames e level_frame.now level.old) }
     ensures stays { OnErr result (level.new ≡ level.old) }
 {
-    scene.profile.keeps();
+    level_frame.frame.profile.keeps();
     level.keeps();
     let len = counted(level.length(field, Side::Uncompressed));
     let number = solved(alloc, level, field, constraint);
     let found = spelled(alloc, len, number)?;
-    learn_bits(scene, level, field, Side::Uncompressed, found)
+    learn_bits(level_frame, level, field, Side::Uncompressed, found)
 }
 
 fn counted(length: Option<usize>) -> Option<i128>

@@ -46,7 +46,7 @@ use Rattle.walk_steps.specs.Calls.{MayCall, IsCall, IsFilledBy, Fills, BlamesFil
 use Rattle.walk_steps.specs.declared.calls.Call.{Call as CallOf}
 use Rattle.walk_steps.specs.declared.fault.StepFault.{StepFault}
 use Rattle.walk_steps.specs.declared.fault.StepFault.TheVariants as fault
-use Rattle.walk_steps.specs.declared.scene.Scene.{Scene}
+use Rattle.walk_steps.specs.declared.level_frame.LevelFrame.{LevelFrame}
 use Rattle.cert_candidates.specs.Knowing.{writer_knows, writer_knows_all}
 use Rattle.cert_candidates.specs.Writing.{AsksNothing}
 use Rattle.cert_candidates.proofs.WritingLawsGoing.{writing_calls, filled_law, call_fails_law}
@@ -143,20 +143,20 @@ record Needs (table : List MethodSizes) (format : Format) (slots : List Slot) (k
   pub needs : writer_knows_all format slots (inputs_of_all format es ++ in_header (is_header d.declared.part) (headers_before format i) (own_bits (is_headless (slice_get table j)) i)) ≡ true
   pub absent : has known (Done i) ≡ false
 
-module _ (a : Accepting) (scene : Scene) (source : List Bool) (asked : List AskedValue) (serves : Serves a scene) (i : ℕ) where
+module _ (a : Accepting) (level_frame : LevelFrame) (source : List Bool) (asked : List AskedValue) (serves : Serves a level_frame) (i : ℕ) where
   abbrev Stands : List Step → ℕ → Digits → Reached → Type 0
-  Stands later c digits l = IsGoing a scene source asked (Call i ∷ later) c digits l
+  Stands later c digits l = IsGoing a level_frame source asked (Call i ∷ later) c digits l
 
-  is_enabled : (later : List Step) (c : ℕ) (digits : Digits) (l : Reached) (g : Stands later c digits l) → enabled g.known (write_rule Two scene.profile.now.sizes l.sizes l.format (Call i)) ≡ true
+  is_enabled : (later : List Step) (c : ℕ) (digits : Digits) (l : Reached) (g : Stands later c digits l) → enabled g.known (write_rule Two level_frame.frame.profile.now.sizes l.sizes l.format (Call i)) ≡ true
   is_enabled later c digits l g =
-      let rules = rule_of Two Write scene.profile.now.sizes l.sizes l.format in
+      let rules = rule_of Two Write level_frame.frame.profile.now.sizes l.sizes l.format in
       (and_true (enabled g.known (rules (Call i))) (all_enabled rules (learnt (rules (Call i)) ++ g.known) later) g.enabled).0
 
   needed : (later : List Step) (c : ℕ) (digits : Digits) (l : Reached) (g : Stands later c digits l) (j : ℕ) (d : Field) (es : List Expr) → slice_get l.format.fields i ≡ Some d → d.encoding ≡ encoding.Call j es →
-      Needs scene.profile.now.sizes l.format l.slots g.known i j d es
+      Needs level_frame.frame.profile.now.sizes l.format l.slots g.known i j d es
   needed later c digits l g j d es field_is is =
-      let rule = rule_once i (inputs_of_all l.format es ++ in_header (is_header d.declared.part) (headers_before l.format i) (own_bits (is_headless (slice_get scene.profile.now.sizes j)) i)) (all_of i) in
-      let on : enabled g.known (Some rule) ≡ true = ap (enabled g.known) (sym (rule_at scene.profile.now.sizes l.sizes l.format i j d es field_is is)) ∙ is_enabled later c digits l g in
+      let rule = rule_once i (inputs_of_all l.format es ++ in_header (is_header d.declared.part) (headers_before l.format i) (own_bits (is_headless (slice_get level_frame.frame.profile.now.sizes j)) i)) (all_of i) in
+      let on : enabled g.known (Some rule) ≡ true = ap (enabled g.known) (sym (rule_at level_frame.frame.profile.now.sizes l.sizes l.format i j d es field_is is)) ∙ is_enabled later c digits l g in
       let b = and_true (has_all g.known rule.needs) (has_none g.known rule.absent) on in
       let n = and_true (not (has g.known (Done i))) true b.1 in
       record { needs = needs_known l.format l.slots g.known rule on g.knows; absent = not_true (has g.known (Done i)) n.0 }
@@ -164,7 +164,7 @@ module _ (a : Accepting) (scene : Scene) (source : List Bool) (asked : List Aske
   -- the call may be made
   pub may_call : (later : List Step) (c : ℕ) (digits : Digits) (l : Reached) → Stands later c digits l → MayCall l i
   may_call later c digits l g =
-      let r = ruled scene.profile.now.sizes l.format g.known i (slice_get l.format.fields i) refl (is_enabled later c digits l g) in
+      let r = ruled level_frame.frame.profile.now.sizes l.format g.known i (slice_get l.format.fields i) refl (is_enabled later c digits l g) in
       let n = needed later c digits l g r.method r.field r.exprs r.field_is r.encoding_is in
       record {
         field = r.field;
@@ -175,13 +175,13 @@ module _ (a : Accepting) (scene : Scene) (source : List Bool) (asked : List Aske
         known = sym (alike l.format l.slots (inputs_of_all l.format r.exprs) (inputs_all_plain l.format r.exprs)) ∙ left_known l.format l.slots (inputs_of_all l.format r.exprs) _ n.needs;
       }
 
-  module _ (call : CallOf) (l : Reached) (is : IsCall scene l i call) where
+  module _ (call : CallOf) (l : Reached) (is : IsCall level_frame l i call) where
     -- what stands before a called header field is known
     pub knows_before : (later : List Step) (c : ℕ) (digits : Digits) → Stands later c digits l → KnowsBefore l i
     knows_before later c digits g d field_is header =
         let one : is.field ≡ d = same_Some is.field d (sym is.field_is ∙ field_is) in
         let n = needed later c digits l g call.method is.field is.exprs is.field_is is.encoding_is in
-        let own = own_bits (is_headless (slice_get scene.profile.now.sizes call.method)) i in
+        let own = own_bits (is_headless (slice_get level_frame.frame.profile.now.sizes call.method)) i in
         let known = right_known l.format l.slots (inputs_of_all l.format is.exprs) (in_header (is_header is.field.declared.part) (headers_before l.format i) own) n.needs in
         subst (λ b. writer_knows_all l.format l.slots (in_header b (headers_before l.format i) own) ≡ true) (ap (λ (z : Field). is_header z.declared.part) one ∙ header) known
 
@@ -199,8 +199,8 @@ module _ (a : Accepting) (scene : Scene) (source : List Bool) (asked : List Aske
     pub has_slot : (later : List Step) (c : ℕ) (digits : Digits) → Stands later c digits l → i < length l.slots
     has_slot later c digits g = subst (λ n. i < n) (sym g.writing.count) (slice_get_within l.format.fields i is.field is.field_is)
 
-    pub is_there_method : (later : List Step) (c : ℕ) (digits : Digits) → Stands later c digits l → call.method < length scene.profile.now.methods
-    is_there_method later c digits g = is_method scene.profile.now serves.sound scene.method scene.format i call.method l.format is.field is.exprs g.at.format_is is.field_is is.encoding_is
+    pub is_there_method : (later : List Step) (c : ℕ) (digits : Digits) → Stands later c digits l → call.method < length level_frame.frame.profile.now.methods
+    is_there_method later c digits g = is_method level_frame.frame.profile.now serves.sound level_frame.frame.method level_frame.format i call.method l.format is.field is.exprs g.at.format_is is.field_is is.encoding_is
 
     pub has_count : (later : List Step) (c : ℕ) (digits : Digits) → Stands later c digits l → call.method < length a.counts
     has_count later c digits g = subst (λ n. call.method < n) (sym serves.checked.are_counts.each) (is_there_method later c digits g)
@@ -214,17 +214,17 @@ module _ (a : Accepting) (scene : Scene) (source : List Bool) (asked : List Aske
 
       pub call_divides : (later : List Step) (c : ℕ) (digits : Digits) → Stands later c digits l → Divides radix digits.span
       call_divides later c digits g =
-          reading_parts scene.profile.now.methods a.certificate.methods a.counts scene.method scene.format l.format (Call i) later c digits g.writing.reading radix ways_is
+          reading_parts level_frame.frame.profile.now.methods a.certificate.methods a.counts level_frame.frame.method level_frame.format l.format (Call i) later c digits g.writing.reading radix ways_is
 
       module _ (digits next : Digits) (digit : ℕ) (split : IsNext radix digits digit next) (carries : CarriesOn radix digits digit next) where
-        read : (later : List Step) (c : ℕ) (g : Stands later c digits l) → ReadsOn scene.profile.now.methods a.certificate.methods a.counts scene.method scene.format l.format (Call i) later c digits g.writing.reading digit next
-        read later c g = carries scene.profile.now.methods a.certificate.methods a.counts serves.checked.are_counts scene.method scene.format l.format (Call i) later c ways_is g.writing.reading
+        read : (later : List Step) (c : ℕ) (g : Stands later c digits l) → ReadsOn level_frame.frame.profile.now.methods a.certificate.methods a.counts level_frame.frame.method level_frame.format l.format (Call i) later c digits g.writing.reading digit next
+        read later c g = carries level_frame.frame.profile.now.methods a.certificate.methods a.counts serves.checked.are_counts level_frame.frame.method level_frame.format l.format (Call i) later c ways_is g.writing.reading
 
-        asks : (later : List Step) (c : ℕ) (g : Stands later c digits l) → AsksNothing scene.profile.now.methods call.method
-        asks later c g = asks_nothing scene.profile.now serves.sound scene.method scene.format i call.method l.format is.field is.exprs g.at.format_is is.field_is is.encoding_is
+        asks : (later : List Step) (c : ℕ) (g : Stands later c digits l) → AsksNothing level_frame.frame.profile.now.methods call.method
+        asks later c g = asks_nothing level_frame.frame.profile.now serves.sound level_frame.frame.method level_frame.format i call.method l.format is.field is.exprs g.at.format_is is.field_is is.encoding_is
 
         -- so many digits are within 64 bits
-        pub can_pass : radix * next.span < 2 ^ 64 → (e : WriteFault) → BlamesInside e a scene l source i call digit → CanPass e next
+        pub can_pass : radix * next.span < 2 ^ 64 → (e : WriteFault) → BlamesInside e a level_frame l source i call digit → CanPass e next
         can_pass fits OutOfMemory blame = tt
         can_pass fits (Failed m) blame =
             let inner = blame is.field is.field_is in
@@ -233,8 +233,8 @@ module _ (a : Accepting) (scene : Scene) (source : List Bool) (asked : List Aske
             (inner.some, omega (arith, all, fits))
 
         -- what the fault of the filling inside passes
-        pub inside_fails : (e w : WriteFault) → BlamesInside e a scene l source i call digit → PassesOn e next w → BlamesGoing w a scene source asked (Call i) digits l
-        inside_fails OutOfMemory w blame passes later c g = subst (λ z. BlamesAt z a scene (site_at scene l source asked) c) (sym passes) tt
+        pub inside_fails : (e w : WriteFault) → BlamesInside e a level_frame l source i call digit → PassesOn e next w → BlamesGoing w a level_frame source asked (Call i) digits l
+        inside_fails OutOfMemory w blame passes later c g = subst (λ z. BlamesAt z a level_frame (site_at level_frame l source asked) c) (sym passes) tt
         inside_fails (Failed m) w blame passes later c g =
             let inner = blame is.field is.field_is in
             let rest = next.rest in
@@ -249,41 +249,41 @@ module _ (a : Accepting) (scene : Scene) (source : List Bool) (asked : List Aske
             let parts : (digit + m) * span ≡ digit * span + m * span = omega arith in
             let span_is = split.span_is in
             let rest_is = split.rest_is in
-            subst (λ z. BlamesAt z a scene (site_at scene l source asked) c) (sym passes.1) record {
+            subst (λ z. BlamesAt z a level_frame (site_at level_frame l source asked) c) (sym passes.1) record {
               some = omega (arith, count, below, least);
               within = λ n at. let room = g.room n at in omega (arith, room, count, all, parts, span_is, rest_is);
-              none = call_fails_law scene.profile.now.methods scene.profile.now.sizes scene.profile.now.top a.certificate.methods a.counts serves.checked (bits_at scene.context.now) (site_at scene l source asked) scene.format l.format
+              none = call_fails_law level_frame.frame.profile.now.methods level_frame.frame.profile.now.sizes level_frame.frame.profile.now.top a.certificate.methods a.counts serves.checked (bits_at level_frame.frame.context.now) (site_at level_frame l source asked) level_frame.format l.format
                   i later c digits next l.slots g.writing digit (read later c g) is.field call.method is.exprs is.field_is is.encoding_is (asks later c g)
                   (needed later c digits l g call.method is.field is.exprs is.field_is is.encoding_is).needs call.arguments is.args_are m (subst (λ z. digit + m ≤ z) ways_is within) inner.none skipped passes.3;
             }
 
-        module _ (g' : Filling) (made : IsInside a scene l source i call digit g') where
+        module _ (g' : Filling) (made : IsInside a level_frame l source i call digit g') where
           -- each that is open with the digit has the filling inside
-          has_inside : (later : List Step) (c : ℕ) (g : Stands later c digits l) (f : Filling) → Open a scene source asked serves l (read later c g).after.base later f → IsFilledBy f i g'
+          has_inside : (later : List Step) (c : ℕ) (g : Stands later c digits l) (f : Filling) → Open a level_frame source asked serves l (read later c g).after.base later f → IsFilledBy f i g'
           has_inside later c g f h =
-              let x = filled_law scene.profile.now.methods scene.profile.now.sizes scene.profile.now.top a.certificate.methods a.counts serves.checked (bits_at scene.context.now) (site_at scene l source asked) scene.format l.format
+              let x = filled_law level_frame.frame.profile.now.methods level_frame.frame.profile.now.sizes level_frame.frame.profile.now.top a.certificate.methods a.counts serves.checked (bits_at level_frame.frame.context.now) (site_at level_frame l source asked) level_frame.format l.format
               i later c digits next l.slots g.writing digit (read later c g) is.field call.method is.exprs is.field_is is.encoding_is (asks later c g)
               (needed later c digits l g call.method is.field is.exprs is.field_is is.encoding_is).needs call.arguments is.args_are g' (made is.field is.field_is) f h in
               record { inner_is = x.inner_is; uncompressed = x.uncompressed; compressed = x.compressed }
 
-          was_here : (later : List Step) (c : ℕ) (g : Stands later c digits l) (f : Filling) → Open a scene source asked serves l (read later c g).after.base later f → IsHere scene l source asked f
+          was_here : (later : List Step) (c : ℕ) (g : Stands later c digits l) (f : Filling) → Open a level_frame source asked serves l (read later c g).after.base later f → IsHere level_frame l source asked f
           was_here later c g f h =
-              let was : Open a scene source asked serves l g.writing.reading.base (Call i ∷ later) f = record { begins = h.begins; within = (read later c g).inside f h.within } in
-              here a scene source asked serves l (Call i ∷ later) c digits g.writing f was
+              let was : Open a level_frame source asked serves l g.writing.reading.base (Call i ∷ later) f = record { begins = h.begins; within = (read later c g).inside f h.within } in
+              here a level_frame source asked serves l (Call i ∷ later) c digits g.writing f was
 
           -- it is here, with the filling inside
           record Theirs (f : Filling) : Type 0 where
-            shows : IsHere scene l source asked f
+            shows : IsHere level_frame l source asked f
             filled : IsFilledBy f i g'
 
-          pub filling_fails : (e : StepFault) → BlamesFilling e scene l i g' → (alike : ℕ) → alike + next.rest ≡ next.span → ShareDigits next alike → (w : WriteFault) → w ≡ fault_of e alike →
-              BlamesGoing w a scene source asked (Call i) digits l
+          pub filling_fails : (e : StepFault) → BlamesFilling e level_frame l i g' → (alike : ℕ) → alike + next.rest ≡ next.span → ShareDigits next alike → (w : WriteFault) → w ≡ fault_of e alike →
+              BlamesGoing w a level_frame source asked (Call i) digits l
           filling_fails e blame many count share w is_fault later c g =
-              subst (λ z. BlamesAt z a scene (site_at scene l source asked) c) (sym is_fault)
-              (step_fails a scene source asked serves e Theirs (blames e blame) l later c next (read later c g).after (λ k at. room_next radix c k digit digits next split (g.room k at))
+              subst (λ z. BlamesAt z a level_frame (site_at level_frame l source asked) c) (sym is_fault)
+              (step_fails a level_frame source asked serves e Theirs (blames e blame) l later c next (read later c g).after (λ k at. room_next radix c k digit digits next split (g.room k at))
               (λ f h. record { shows = was_here later c g f h; filled = has_inside later c g f h }) many count share)
             where
-              blames : (e : StepFault) → BlamesFilling e scene l i g' → BlamesStep e Theirs
+              blames : (e : StepFault) → BlamesFilling e level_frame l i g' → BlamesStep e Theirs
               blames fault.Short b = b
               blames fault.Refused b = λ f h. b [] f h.shows.shows h.filled
               blames fault.OutOfMemory b = tt
@@ -313,16 +313,16 @@ module _ (a : Accepting) (scene : Scene) (source : List Bool) (asked : List Aske
               by true e = ap (λ b. b || has known (Done k)) e
               by false e = has_more (all_of i) known (Done k) (was k (ap is_there (sym (fills.others k (λ same. let wrong : false ≡ true = sym e ∙ eq-eqb i k (sym same) in cc))) ∙ there))
 
-          pub call_goes : (new : Reached) → Fills l i g' new → IsKept new → StepsOn a scene source asked (Call i) digits l next new
+          pub call_goes : (new : Reached) → Fills l i g' new → IsKept new → StepsOn a level_frame source asked (Call i) digits l next new
           call_goes new fills kept later c g =
               let reads = read later c g in
-              let rule = rule_at scene.profile.now.sizes l.sizes l.format i call.method is.field is.exprs is.field_is is.encoding_is in
-              let has_new = λ (f : Filling) (h : Open a scene source asked serves l reads.after.base later f). fills.agrees f ((was_here later c g f h).shows.has) (has_inside later c g f h) in
-              let writing = writing_calls scene.profile.now.methods scene.profile.now.sizes scene.profile.now.top a.certificate.methods a.counts serves.checked (bits_at scene.context.now) (site_at scene l source asked) scene.format
-              l.format i later c digits next l.slots new.slots g.writing digit reads (counted a scene source asked serves l new g.writing.count kept fills.format_is) fills.grown is.field call.method is.exprs g' is.field_is
+              let rule = rule_at level_frame.frame.profile.now.sizes l.sizes l.format i call.method is.field is.exprs is.field_is is.encoding_is in
+              let has_new = λ (f : Filling) (h : Open a level_frame source asked serves l reads.after.base later f). fills.agrees f ((was_here later c g f h).shows.has) (has_inside later c g f h) in
+              let writing = writing_calls level_frame.frame.profile.now.methods level_frame.frame.profile.now.sizes level_frame.frame.profile.now.top a.certificate.methods a.counts serves.checked (bits_at level_frame.frame.context.now) (site_at level_frame l source asked) level_frame.format
+              l.format i later c digits next l.slots new.slots g.writing digit reads (counted a level_frame source asked serves l new g.writing.count kept fills.format_is) fills.grown is.field call.method is.exprs g' is.field_is
               is.encoding_is fills.inner_is (made is.field is.field_is).number_is has_new in
-              renewed a scene source asked serves l new fills.format_is fills.sizes_are fills.args_are (IsGoing a scene source asked later c next)
-              (went a scene source asked serves (Call i) later c digits next l new.slots g writing fills.grown
+              renewed a level_frame source asked serves l new fills.format_is fills.sizes_are fills.args_are (IsGoing a level_frame source asked later c next)
+              (went a level_frame source asked serves (Call i) later c digits next l new.slots g writing fills.grown
               (subst (λ o. IsSomeAnd o (λ (r : Rule). writer_knows_all l.format new.slots r.gives ≡ true)) (sym rule) (gives new fills))
               (subst (λ o. (k : ℕ) → is_there (slot_inner (slice_get new.slots k)) ≡ true → has (learnt o ++ g.known) (Done k) ≡ true) (sym rule) (filled_now g.known new fills g.filled))
               (λ k at. room_next radix c k digit digits next split (g.room k at)))

@@ -21,7 +21,7 @@ use Rattle.cert_candidates.specs.declared.digits.Digits.{Digits}
 use Rattle.cert_candidates.specs.Reading.{ShareDigits}
 use Rattle.cert_accepted.specs.Accepted.{Accepting}
 use Rattle.walk_steps.specs.Partial.{Reached, Lacks}
-use Rattle.walk_steps.specs.declared.scene.Scene.{Scene}
+use Rattle.walk_steps.specs.declared.level_frame.LevelFrame.{LevelFrame}
 use Rattle.cert_candidates.specs.Knowing.{writer_knows}
 use Rattle.cert_candidates.specs.Writing.{IsNumbered}
 use Rattle.cert_candidates.proofs.KnowingEnding.{writing_ends}
@@ -36,7 +36,7 @@ method_within methods k n format e =
     let m = and_then_some (λ (x : Method). slice_get x.formats n) (slice_get methods k) format e in
     slice_get_within methods k m.0 m.1
 
-module _ (a : Accepting) (scene : Scene) (source : List Bool) (asked : List AskedValue) (serves : Serves a scene) (c : ℕ) (digits : Digits) (l : Reached) (g : IsGoing a scene source asked [] c digits l) where
+module _ (a : Accepting) (level_frame : LevelFrame) (source : List Bool) (asked : List AskedValue) (serves : Serves a level_frame) (c : ℕ) (digits : Digits) (l : Reached) (g : IsGoing a level_frame source asked [] c digits l) where
   -- all sides are known
   pub lacks_none : Lacks l.slots → ⊥
   lacks_none lacks =
@@ -55,18 +55,18 @@ module _ (a : Accepting) (scene : Scene) (source : List Bool) (asked : List Aske
       there (d ∷ ds) (s ∷ slots) (suc i) count within = there ds slots i (omega (arith, count)) (omega (arith, within))
 
   -- what is made of them has the number
-  pub ended : (made : Filling) → IsMade scene.format l.format l.slots made →
-      IsNumbered scene.profile.now.methods a.certificate.methods a.counts (bits_at scene.context.now) (site_at scene l source asked) c made
+  pub ended : (made : Filling) → IsMade level_frame.format l.format l.slots made →
+      IsNumbered level_frame.frame.profile.now.methods a.certificate.methods a.counts (bits_at level_frame.frame.context.now) (site_at level_frame l source asked) c made
   ended made is =
-      writing_ends scene.profile.now.methods scene.profile.now.sizes scene.profile.now.top a.certificate.methods a.counts serves.checked (bits_at scene.context.now) (site_at scene l source asked) scene.format l.format c digits l.slots
+      writing_ends level_frame.frame.profile.now.methods level_frame.frame.profile.now.sizes level_frame.frame.profile.now.top a.certificate.methods a.counts serves.checked (bits_at level_frame.frame.context.now) (site_at level_frame l source asked) level_frame.format l.format c digits l.slots
       g.writing g.known g.complete g.knows made is
 
   -- where it doesn't fit nothing has the number
-  pub ended_fails : (made : Filling) → IsMade scene.format l.format l.slots made → (Fits scene.profile.now.methods (bits_at scene.context.now) scene.method l.args scene.path.now made → ⊥) →
-      (alike : ℕ) → alike + digits.rest ≡ digits.span → ShareDigits digits alike → FailsAt a scene (site_at scene l source asked) c alike
-  ended_fails made is misfit alike count share = fails a scene source asked serves l [] c digits g.writing.reading g.room none alike count share
+  pub ended_fails : (made : Filling) → IsMade level_frame.format l.format l.slots made → (Fits level_frame.frame.profile.now.methods (bits_at level_frame.frame.context.now) level_frame.frame.method l.args level_frame.frame.path.now made → ⊥) →
+      (alike : ℕ) → alike + digits.rest ≡ digits.span → ShareDigits digits alike → FailsAt a level_frame (site_at level_frame l source asked) c alike
+  ended_fails made is misfit alike count share = fails a level_frame source asked serves l [] c digits g.writing.reading g.room none alike count share
     where
-      none : (f : Filling) → Open a scene source asked serves l g.writing.reading.base [] f → ⊥
+      none : (f : Filling) → Open a level_frame source asked serves l g.writing.reading.base [] f → ⊥
       none f h =
           let from = h.within.from in
           let to = h.within.to in
@@ -74,9 +74,9 @@ module _ (a : Accepting) (scene : Scene) (source : List Bool) (asked : List Aske
           let below = g.writing.reading.below in
           let number = g.writing.reading.number_is in
           let same : f ≡ made = (ended made is).alone f h.begins (omega (arith, from, to, span, below, number)) in
-          misfit (subst (Fits scene.profile.now.methods (bits_at scene.context.now) scene.method l.args scene.path.now) same h.begins.fits)
+          misfit (subst (Fits level_frame.frame.profile.now.methods (bits_at level_frame.frame.context.now) level_frame.frame.method l.args level_frame.frame.path.now) same h.begins.fits)
 
-  pub lacking_fails : Lacks l.slots → (alike : ℕ) → FailsAt a scene (site_at scene l source asked) c alike
+  pub lacking_fails : Lacks l.slots → (alike : ℕ) → FailsAt a level_frame (site_at level_frame l source asked) c alike
   lacking_fails lacks alike = absurd (lacks_none lacks)
 
 -- what was made, if it was

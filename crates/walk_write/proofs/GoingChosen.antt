@@ -24,7 +24,7 @@ use Rattle.cert_candidates.proofs.CodesKept.{reading_parts, ways_of_choice}
 use Rattle.cert_accepted.specs.Accepted.{Accepting}
 use Rattle.walk_steps.specs.Partial.{Reached, IsKept}
 use Rattle.walk_steps.specs.declared.fault.StepFault.{StepFault}
-use Rattle.walk_steps.specs.declared.scene.Scene.{Scene}
+use Rattle.walk_steps.specs.declared.level_frame.LevelFrame.{LevelFrame}
 use Rattle.cert_candidates.proofs.WritingLawsGoing.{writing_chooses, choose_law}
 use Rattle.walk_write.specs.declared.fault.WriteFault.{WriteFault}
 use Rattle.walk_write.specs.Going.{Serves, IsGoing, StepsOn, BlamesAt, BlamesGoing, fault_of}
@@ -62,53 +62,53 @@ ruled : (known : List Fact) (f : ℕ → Rule) (o : Option ℕ) → enabled know
 ruled known f None e none = absurd (cc)
 ruled known f (Some n) e none = absurd (cc)
 
-module _ (a : Accepting) (scene : Scene) (source : List Bool) (asked : List AskedValue) (serves : Serves a scene) where
+module _ (a : Accepting) (level_frame : LevelFrame) (source : List Bool) (asked : List AskedValue) (serves : Serves a level_frame) where
   -- a choice that is followed has a width
-  pub has_choice : (i : ℕ) (later : List Step) (c : ℕ) (digits : Digits) (l : Reached) → IsGoing a scene source asked (Choose i ∷ later) c digits l →
+  pub has_choice : (i : ℕ) (later : List Step) (c : ℕ) (digits : Digits) (l : Reached) → IsGoing a level_frame source asked (Choose i ∷ later) c digits l →
       option_and_then (choice l.format i) (slice_get l.format.fields i) ≡ None → ⊥
   has_choice i later c digits l g none =
-      let rules = rule_of Two Write scene.profile.now.sizes l.sizes l.format in
+      let rules = rule_of Two Write level_frame.frame.profile.now.sizes l.sizes l.format in
       ruled g.known _ (option_and_then (choice l.format i) (slice_get l.format.fields i)) (and_true (enabled g.known (rules (Choose i))) (all_enabled rules (learnt (rules (Choose i)) ++ g.known) later) g.enabled).0 none
 
   -- its ways part the span
-  pub choice_divides : (i : ℕ) (later : List Step) (c : ℕ) (digits : Digits) (l : Reached) (g : IsGoing a scene source asked (Choose i ∷ later) c digits l) (n : ℕ) →
+  pub choice_divides : (i : ℕ) (later : List Step) (c : ℕ) (digits : Digits) (l : Reached) (g : IsGoing a level_frame source asked (Choose i ∷ later) c digits l) (n : ℕ) →
       option_and_then (choice l.format i) (slice_get l.format.fields i) ≡ Some n → Divides (2 ^ n) digits.span
   choice_divides i later c digits l g n is =
-      reading_parts scene.profile.now.methods a.certificate.methods a.counts scene.method scene.format l.format (Choose i) later c digits g.writing.reading (2 ^ n) (sym (ways_of_choice a.counts l.format i n is))
+      reading_parts level_frame.frame.profile.now.methods a.certificate.methods a.counts level_frame.frame.method level_frame.format l.format (Choose i) later c digits g.writing.reading (2 ^ n) (sym (ways_of_choice a.counts l.format i n is))
 
   module _ (i n digit : ℕ) (digits next : Digits) (old : Reached) (is : option_and_then (choice old.format i) (slice_get old.format.fields i) ≡ Some n) (split : IsNext (2 ^ n) digits digit next) (carries : CarriesOn (2 ^ n) digits digit next) where
-    read : (later : List Step) (c : ℕ) (g : IsGoing a scene source asked (Choose i ∷ later) c digits old) → ReadsOn scene.profile.now.methods a.certificate.methods a.counts scene.method scene.format old.format (Choose i) later c digits g.writing.reading digit next
-    read later c g = carries scene.profile.now.methods a.certificate.methods a.counts serves.checked.are_counts scene.method scene.format old.format (Choose i) later c (sym (ways_of_choice a.counts old.format i n is)) g.writing.reading
+    read : (later : List Step) (c : ℕ) (g : IsGoing a level_frame source asked (Choose i ∷ later) c digits old) → ReadsOn level_frame.frame.profile.now.methods a.certificate.methods a.counts level_frame.frame.method level_frame.format old.format (Choose i) later c digits g.writing.reading digit next
+    read later c g = carries level_frame.frame.profile.now.methods a.certificate.methods a.counts serves.checked.are_counts level_frame.frame.method level_frame.format old.format (Choose i) later c (sym (ways_of_choice a.counts old.format i n is)) g.writing.reading
 
     -- what is open with the digit has it chosen
-    theirs : (later : List Step) (c : ℕ) (g : IsGoing a scene source asked (Choose i ∷ later) c digits old) (f : Filling) → Open a scene source asked serves old (read later c g).after.base later f → HasChosen scene old i n digit f
+    theirs : (later : List Step) (c : ℕ) (g : IsGoing a level_frame source asked (Choose i ∷ later) c digits old) (f : Filling) → Open a level_frame source asked serves old (read later c g).after.base later f → HasChosen level_frame old i n digit f
     theirs later c g f h =
         let reads = read later c g in
-        let was : Open a scene source asked serves old g.writing.reading.base (Choose i ∷ later) f = record { begins = h.begins; within = reads.inside f h.within } in
+        let was : Open a level_frame source asked serves old g.writing.reading.base (Choose i ∷ later) f = record { begins = h.begins; within = reads.inside f h.within } in
         record {
           source = source;
           asked = asked;
-          here = here a scene source asked serves old (Choose i ∷ later) c digits g.writing f was;
-          chosen = choose_law scene.profile.now.methods scene.profile.now.sizes scene.profile.now.top a.certificate.methods a.counts serves.checked (bits_at scene.context.now) (site_at scene old source asked) scene.format
+          here = here a level_frame source asked serves old (Choose i ∷ later) c digits g.writing f was;
+          chosen = choose_law level_frame.frame.profile.now.methods level_frame.frame.profile.now.sizes level_frame.frame.profile.now.top a.certificate.methods a.counts serves.checked (bits_at level_frame.frame.context.now) (site_at level_frame old source asked) level_frame.format
               old.format i later c digits old.slots g.writing digit next reads n is f h;
         }
 
-    pub choice_goes : (new : Reached) → LearnsOf (HasChosen scene old i n digit) (write_rule Two scene.profile.now.sizes old.sizes old.format (Choose i)) old new → KnowsChosen new.slots i digit → IsKept new →
-        StepsOn a scene source asked (Choose i) digits old next new
+    pub choice_goes : (new : Reached) → LearnsOf (HasChosen level_frame old i n digit) (write_rule Two level_frame.frame.profile.now.sizes old.sizes old.format (Choose i)) old new → KnowsChosen new.slots i digit → IsKept new →
+        StepsOn a level_frame source asked (Choose i) digits old next new
     choice_goes new learns known kept later c g =
         let reads = read later c g in
-        let has = λ (f : Filling) (h : Open a scene source asked serves old reads.after.base later f).
+        let has = λ (f : Filling) (h : Open a level_frame source asked serves old reads.after.base later f).
         let t = theirs later c g f h in learns.agrees f t (t.here.shows.has) in
-        let writing = writing_chooses scene.profile.now.methods scene.profile.now.sizes scene.profile.now.top a.certificate.methods a.counts serves.checked (bits_at scene.context.now) (site_at scene old source asked) scene.format
-        old.format i later c digits next old.slots new.slots g.writing digit reads (counted a scene source asked serves old new g.writing.count kept learns.format_is) learns.grown known.bits known.known known.number_is has in
-        renewed a scene source asked serves old new learns.format_is learns.sizes_are learns.args_are (IsGoing a scene source asked later c next)
-        (went a scene source asked serves (Choose i) later c digits next old new.slots g writing learns.grown learns.gives
-        (same_filled a scene source asked serves (learnt (write_rule Two scene.profile.now.sizes old.sizes old.format (Choose i))) g.known old.slots new.slots learns.inners g.filled)
+        let writing = writing_chooses level_frame.frame.profile.now.methods level_frame.frame.profile.now.sizes level_frame.frame.profile.now.top a.certificate.methods a.counts serves.checked (bits_at level_frame.frame.context.now) (site_at level_frame old source asked) level_frame.format
+        old.format i later c digits next old.slots new.slots g.writing digit reads (counted a level_frame source asked serves old new g.writing.count kept learns.format_is) learns.grown known.bits known.known known.number_is has in
+        renewed a level_frame source asked serves old new learns.format_is learns.sizes_are learns.args_are (IsGoing a level_frame source asked later c next)
+        (went a level_frame source asked serves (Choose i) later c digits next old new.slots g writing learns.grown learns.gives
+        (same_filled a level_frame source asked serves (learnt (write_rule Two level_frame.frame.profile.now.sizes old.sizes old.format (Choose i))) g.known old.slots new.slots learns.inners g.filled)
         (λ k at. room_next (2 ^ n) c k digit digits next split (g.room k at)))
 
-    pub choice_fails : (e : StepFault) → BlamesStep e (HasChosen scene old i n digit) → (alike : ℕ) → alike + next.rest ≡ next.span → ShareDigits next alike → (w : WriteFault) → w ≡ fault_of e alike →
-        BlamesGoing w a scene source asked (Choose i) digits old
+    pub choice_fails : (e : StepFault) → BlamesStep e (HasChosen level_frame old i n digit) → (alike : ℕ) → alike + next.rest ≡ next.span → ShareDigits next alike → (w : WriteFault) → w ≡ fault_of e alike →
+        BlamesGoing w a level_frame source asked (Choose i) digits old
     choice_fails e blame alike count share w is_fault later c g =
-        subst (λ z. BlamesAt z a scene (site_at scene old source asked) c) (sym is_fault)
-        (step_fails a scene source asked serves e (HasChosen scene old i n digit) blame old later c next (read later c g).after (λ k at. room_next (2 ^ n) c k digit digits next split (g.room k at))
+        subst (λ z. BlamesAt z a level_frame (site_at level_frame old source asked) c) (sym is_fault)
+        (step_fails a level_frame source asked serves e (HasChosen level_frame old i n digit) blame old later c next (read later c g).after (λ k at. room_next (2 ^ n) c k digit digits next split (g.room k at))
         (theirs later c g) alike count share)

@@ -11,7 +11,7 @@ pub mod WalkingWhole
 pub mod WalkingLearning
 pub mod WalkingChoosing
 pub mod WalkingTaken
-pub mod ToldLemmas
+pub mod PremisesLemmas
 pub mod RefutationNever
 pub mod RefutationHeaders
 pub mod RefutationLacked

@@ -17,7 +17,7 @@ use Rattle.sem_profile.specs.declared.profile.FormatSizes.{FormatSizes}
 use Rattle.text_source.specs.declared.span.Span.{Span}
 use Rattle.sem_profile.specs.Resolved.{Resolved}
 use Rattle.sem_filling.specs.Bounded.{sizes_at}
-use Rattle.cert_accepted.specs.declared.place.Place.{Place}
+use Rattle.cert_accepted.specs.declared.frame.AcceptedFrame.{AcceptedFrame}
 use Rattle.walk_write.specs.Refutation.{HasFalse, IsElse, CallsOnly, Lacks, of_field, FieldLacks, IsOther, by_lsb, operand, known_operand}
 use Rattle.walk_write.specs.Premises.{told_numbers}
 
@@ -64,14 +64,14 @@ lacks_by p known j exprs bits args inner sizes calls sizes_are h = of_field j ar
 -- ---- constraints
 
 -- what the arguments tell of an operand is told
-known_too : (place : Place) (fields : List Field) (e : Expr) (v : ℤ) → operand place.arguments.now e ≡ Some v → known_operand place fields e ≡ Some v
+known_too : (place : AcceptedFrame) (fields : List Field) (e : Expr) (v : ℤ) → operand place.frame.arguments.now e ≡ Some v → known_operand place fields e ≡ Some v
 known_too place fields (Number s n) v is = is
 known_too place fields (Parameter s i) v is = is
 known_too place fields (expr.Attribute s t) v is = absurd (cc)
 known_too place fields (Binary' s op p x q y) v is = absurd (cc)
 
 -- a constraint that is false by the arguments is false
-pub known_false : (place : Place) (fields : List Field) (constraints : List Constraint) → HasFalse (operand place.arguments.now) constraints → HasFalse (known_operand place fields) constraints
+pub known_false : (place : AcceptedFrame) (fields : List Field) (constraints : List Constraint) → HasFalse (operand place.frame.arguments.now) constraints → HasFalse (known_operand place fields) constraints
 known_false place fields constraints h =
     let f = h.is_false in
     record {

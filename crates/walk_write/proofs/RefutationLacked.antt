@@ -30,7 +30,7 @@ use Rattle.sem_filling.proofs.FitsSized.{one_value, and_then_some}
 use Rattle.walk_write.specs.Refutation.{operand, IsFalse, HasFalse, IsElse, CallsOnly, Lacks, of_constant, of_constraint, of_field}
 use Rattle.walk_write.specs.Premises.{told_numbers}
 use Rattle.walk_write.proofs.RefutationHeaders.{held}
-use Rattle.walk_write.proofs.ToldLemmas as told
+use Rattle.walk_write.proofs.PremisesLemmas as told
 
 -- ---- constraints
 

@@ -39,14 +39,14 @@ use Rattle.cert_rules.proofs.ViewsAgree.{when_some}
 use Rattle.cert_rules.proofs.ViewsMethods.{solved}
 use Rattle.cert_rules.proofs.TreesTold.{static_is}
 use Rattle.cert_candidates.specs.Writing.{Begins}
-use Rattle.cert_accepted.specs.declared.place.Place.{Place}
+use Rattle.cert_accepted.specs.declared.frame.AcceptedFrame.{AcceptedFrame}
 use Rattle.walk_write.specs.Refutation.{kept_number, kept_value, known_operand, reference_at, HasFalse, IsOther, by_constant, by_static, by_lsb, Differs, IsRefuted, by_constraint, by_header, NeverBegins}
-use Rattle.walk_write.specs.declared.told.Chosen.{Chosen}
+use Rattle.walk_write.specs.declared.premises.Chosen.{Chosen}
 use Rattle.walk_write.specs.Premises.{HasChosen, told_numbers}
 use Rattle.walk_write.specs.Walking.{site_of}
 use Rattle.walk_write.proofs.RefutationHeaders.{held}
 use Rattle.walk_write.proofs.RefutationLacked.{AreKnown, known_false, none_under, none_lacks}
-use Rattle.walk_write.proofs.ToldLemmas as told
+use Rattle.walk_write.proofs.PremisesLemmas as told
 
 -- ---- together
 
@@ -73,29 +73,29 @@ same_number (Some r) u v is e =
     ap (λ z. pos (num z)) (sym one) ∙ w.1
 same_number None u v is e = absurd (cc)
 
-module _ (place : Place) (sound : IsSound place.accepted.now.profile) (n : ℕ) (bits : List Bool) (asked : List AskedValue) (f : Filling)
-    (b : Begins place.accepted.now.profile.methods (bits_at place.context.now) (site_of place bits asked) f) (format_is : (out-Filling f).format ≡ n) where
+module _ (place : AcceptedFrame) (sound : IsSound place.accepted.now.profile) (n : ℕ) (bits : List Bool) (asked : List AskedValue) (f : Filling)
+    (b : Begins place.accepted.now.profile.methods (bits_at place.frame.context.now) (site_of place bits asked) f) (format_is : (out-Filling f).format ≡ n) where
   abbrev methods : List Method
   methods = place.accepted.now.profile.methods
 
   abbrev table : List MethodSizes
   table = place.accepted.now.profile.sizes
 
-  p : FitsParts methods (bits_at place.context.now) place.method place.arguments.now place.path.now f
+  p : FitsParts methods (bits_at place.frame.context.now) place.frame.method place.frame.arguments.now place.frame.path.now f
   p = parts b.fits
 
-  same_format : (format : Format) → format_at methods place.method n ≡ Some format → p.format ≡ format
-  same_format format at = one_value (format_at methods place.method n) p.format format (ap (format_at methods place.method) (sym format_is) ∙ p.is_format) at
+  same_format : (format : Format) → format_at methods place.frame.method n ≡ Some format → p.format ≡ format
+  same_format format at = one_value (format_at methods place.frame.method n) p.format format (ap (format_at methods place.frame.method) (sym format_is) ∙ p.is_format) at
 
   -- what is known of operands is so in the filling
   abbrev numbers : Assignment
-  numbers = assigned p.format.listing (level f) place.arguments.now
+  numbers = assigned p.format.listing (level f) place.frame.arguments.now
 
   kept_is : (i : ℕ) (d : Field) → slice_get p.format.fields i ≡ Some d → (v : ℤ) → kept_number place d ≡ Some v → Some (pos (num (field_side (slice_get (level f) i) Uncompressed))) ≡ Some v
   kept_is i d at v e =
       let k = kept_parts (is_static d.encoding) (referred (reference_at place d)) v e in
       let g = also_at p.format.fields (fields_of f) i d (sym (length-fields p.format f p.level_fits.shaped)) at in
-      let c = coded_parts methods (bits_at place.context.now) (p.each i d g.0 at g.1) library.Static (static_is d.encoding k.0) in
+      let c = coded_parts methods (bits_at place.frame.context.now) (p.each i d g.0 at g.1) library.Static (static_is d.encoding k.0) in
       let s = solved (side_of p.format.listing (level f)) numbers library.Static c.method (reference_at place d) (sides_of g.0).uncompressed (sides_of g.0).compressed c.is_method c.holds in
       let at_level : slice_get (level f) i ≡ Some (sides_of g.0) = slice_get-map sides_of (fields_of f) i ∙ ap (option_map sides_of) g.1 in
       ap (λ (o : Option Sides). Some (pos (num (field_side o Uncompressed)))) at_level ∙ ap Some (same_number (reference_at place d) (sides_of g.0).uncompressed v s.0 k.1)
@@ -114,21 +114,21 @@ module _ (place : Place) (sound : IsSound place.accepted.now.profile) (n : ℕ) 
   known_is (expr.Attribute s t) v e = value_is t.subject t.side t.measure v e
   known_is (Binary' s op l x r y) v e = absurd (cc)
 
-  no_false : (format : Format) → format_at methods place.method n ≡ Some format → HasFalse (known_operand place format.fields) format.constraints → ⊥
+  no_false : (format : Format) → format_at methods place.frame.method n ≡ Some format → HasFalse (known_operand place format.fields) format.constraints → ⊥
   no_false format at h =
       let one = same_format format at in
       let here : HasFalse (known_operand place p.format.fields) p.format.constraints = subst (λ (z : Format). HasFalse (known_operand place z.fields) z.constraints) (sym one) h in
       known_false (known_operand place p.format.fields) numbers known_is here.condition here.is_false (p.level_fits.constraints here.index (Enforce here.condition here.place) here.constraint_is)
 
-  pub no_other : (format : Format) (choices : List Chosen) → HasChosen f choices → (sizes : FormatSizes) → format_at methods place.method n ≡ Some format → sizes_at table place.method n ≡ Some sizes →
-      Differs place (told_numbers format place.arguments.now choices) format.fields sizes.fields bits → ⊥
+  pub no_other : (format : Format) (choices : List Chosen) → HasChosen f choices → (sizes : FormatSizes) → format_at methods place.frame.method n ≡ Some format → sizes_at table place.frame.method n ≡ Some sizes →
+      Differs place (told_numbers format place.frame.arguments.now choices) format.fields sizes.fields bits → ⊥
   no_other format choices chosen sizes at sizes_are h =
       let one = same_format format at in
-      let t = held methods table sound.sized (bits_at place.context.now) place.method place.arguments.now place.path.now f p b.fits format one sizes (ap (sizes_at table place.method) format_is ∙ sizes_are) bits b.rest b.in_front h.index h.offset h.field
+      let t = held methods table sound.sized (bits_at place.frame.context.now) place.frame.method place.frame.arguments.now place.frame.path.now f p b.fits format one sizes (ap (sizes_at table place.frame.method) format_is ∙ sizes_are) bits b.rest b.in_front h.index h.offset h.field
       h.before h.field_is h.in_header in
-      none_held place.accepted.now.profile sound.sized (bits_at place.context.now) _ (told_numbers format place.arguments.now choices) numbers
-      (told.value_is methods (bits_at place.context.now) place.method place.arguments.now place.path.now format choices f p one chosen) place.path.now h.field t.field t.fits (drop h.offset bits) t.later h.other t.there
+      none_held place.accepted.now.profile sound.sized (bits_at place.frame.context.now) _ (told_numbers format place.frame.arguments.now choices) numbers
+      (told.value_is methods (bits_at place.frame.context.now) place.frame.method place.frame.arguments.now place.frame.path.now format choices f p one chosen) place.frame.path.now h.field t.field t.fits (drop h.offset bits) t.later h.other t.there
 
-pub never_begins : (place : Place) → IsSound place.accepted.now.profile → (n : ℕ) (bits : List Bool) → IsRefuted place n bits → NeverBegins place n bits
+pub never_begins : (place : AcceptedFrame) → IsSound place.accepted.now.profile → (n : ℕ) (bits : List Bool) → IsRefuted place n bits → NeverBegins place n bits
 never_begins place sound n bits (by_constraint format at h) asked f b e = no_false place sound n bits asked f b e format at h
 never_begins place sound n bits (by_header format sizes at sizes_are h) asked f b e = no_other place sound n bits asked f b e format [] tt sizes at sizes_are h

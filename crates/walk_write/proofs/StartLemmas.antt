@@ -23,7 +23,7 @@ use Rattle.cert_candidates.specs.Starts.{IsStart}
 use Rattle.cert_candidates.proofs.CodesFew.{kept_are_counts}
 use Rattle.cert_candidates.proofs.CodesKept.{reading_starts, spans_are_kept, spans_add_up}
 use Rattle.cert_accepted.specs.Accepted.{Accepting, IsAccepted}
-use Rattle.cert_accepted.specs.declared.place.Place.{Place}
+use Rattle.cert_accepted.specs.declared.frame.AcceptedFrame.{AcceptedFrame}
 use Rattle.cert_candidates.specs.Writing.{IsChecked}
 use Rattle.walk_write.specs.Going.{Begins}
 use Rattle.walk_write.specs.Walking.{IsBelow}
@@ -103,18 +103,18 @@ module _ (a : Accepting) (accepted : IsAccepted a) (sound : IsSound a.profile) w
         let less = below n.0 n.1 in
         omega (arith, total, less, past)
 
-pub begins : (place : Place) (accepted : IsAccepted place.accepted.now) (sound : IsSound place.accepted.now.profile) (spans : List ℕ) → slice_get place.accepted.now.spans place.method ≡ Some spans →
+pub begins : (place : AcceptedFrame) (accepted : IsAccepted place.accepted.now) (sound : IsSound place.accepted.now.profile) (spans : List ℕ) → slice_get place.accepted.now.spans place.frame.method ≡ Some spans →
     (c : ℕ) (start : Start) → IsStart spans c start → Begins place c start
 begins place accepted sound spans spans_at c start is =
     let a = place.accepted.now in
     let methods = a.profile.methods in
     let base = checked a accepted sound in
-    let is_here = here a accepted sound place.method spans spans_at in
+    let is_here = here a accepted sound place.frame.method spans spans_at in
     let below = is.below in
-    let m = line_at a accepted sound place.method spans spans_at in
-    let x = entry_planned a.counts m.0.formats (entry_at a.certificate.methods place.method) start.format start.digits.span (ap (λ z. slice_get z start.format) m.2 ∙ is.span_at) (omega (arith, below)) in
-    let at : format_at methods place.method start.format ≡ Some x.0 = ap (option_and_then (λ (z : Method). slice_get z.formats start.format)) m.1 ∙ x.1 in
-    let r = reading_starts methods a.certificate.methods a.counts base.are_counts place.method spans is_here c start is x.0 x.2 at x.3 in
+    let m = line_at a accepted sound place.frame.method spans spans_at in
+    let x = entry_planned a.counts m.0.formats (entry_at a.certificate.methods place.frame.method) start.format start.digits.span (ap (λ z. slice_get z start.format) m.2 ∙ is.span_at) (omega (arith, below)) in
+    let at : format_at methods place.frame.method start.format ≡ Some x.0 = ap (option_and_then (λ (z : Method). slice_get z.formats start.format)) m.1 ∙ x.1 in
+    let r = reading_starts methods a.certificate.methods a.counts base.are_counts place.frame.method spans is_here c start is x.0 x.2 at x.3 in
     let part = part_fits spans start.format start.digits.span is.span_at in
     let number_is = is.number_is in
     record {
@@ -126,7 +126,7 @@ begins place accepted sound spans spans_at c start is =
       plans_are = x.3;
       reading = r.0;
       base_is = r.1;
-      room = λ n counted. let total = spans_add_up methods a.certificate.methods a.counts base.are_counts place.method n counted spans is_here in omega (arith, total, part, number_is);
+      room = λ n counted. let total = spans_add_up methods a.certificate.methods a.counts base.are_counts place.frame.method n counted spans is_here in omega (arith, total, part, number_is);
     }
 
 pub spans_there : (a : Accepting) → IsAccepted a → IsSound a.profile → (k : ℕ) → k < length a.profile.methods → (spans : List ℕ) × (slice_get a.spans k ≡ Some spans)
@@ -137,12 +137,12 @@ spans_there a accepted sound k within = by a.spans k (spans_within a accepted so
     by (x ∷ xs) zero within = (x, refl)
     by (x ∷ xs) (suc k) within = by xs k (omega (arith, within))
 
-pub started : (place : Place) (accepted : IsAccepted place.accepted.now) (sound : IsSound place.accepted.now.profile) (spans : List ℕ) → slice_get place.accepted.now.spans place.method ≡ Some spans →
+pub started : (place : AcceptedFrame) (accepted : IsAccepted place.accepted.now) (sound : IsSound place.accepted.now.profile) (spans : List ℕ) → slice_get place.accepted.now.spans place.frame.method ≡ Some spans →
     (c : ℕ) → IsBelow place c → (o : Option Start) → IfNone o (sum spans ≤ c) → IsSome o
-started place accepted sound spans spans_at c below None past = absurd (falls place.accepted.now accepted sound place.method spans spans_at c below past)
+started place accepted sound spans spans_at c below None past = absurd (falls place.accepted.now accepted sound place.frame.method spans spans_at c below past)
 started place accepted sound spans spans_at c below (Some start) past = refl
 
-pub all_begin : (place : Place) (accepted : IsAccepted place.accepted.now) (sound : IsSound place.accepted.now.profile) (spans : List ℕ) → slice_get place.accepted.now.spans place.method ≡ Some spans →
+pub all_begin : (place : AcceptedFrame) (accepted : IsAccepted place.accepted.now) (sound : IsSound place.accepted.now.profile) (spans : List ℕ) → slice_get place.accepted.now.spans place.frame.method ≡ Some spans →
     (c : ℕ) → (o : Option Start) → IfSome o (IsStart spans c) → IfSome o (Begins place c)
 all_begin place accepted sound spans spans_at c None is = tt
 all_begin place accepted sound spans spans_at c (Some start) is = begins place accepted sound spans spans_at c start is

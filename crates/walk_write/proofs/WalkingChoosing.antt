@@ -21,7 +21,7 @@ use Rattle.cert_rules.specs.Rules.{rule, when, choice, write_rule}
 use Rattle.cert_rules.specs.Views.{view, side_at}
 use Rattle.walk_steps.specs.Partial.{Reached, IsKept, Learns}
 use Rattle.walk_steps.specs.declared.fault.StepFault.{StepFault}
-use Rattle.walk_steps.specs.declared.scene.Scene.{Scene}
+use Rattle.walk_steps.specs.declared.level_frame.LevelFrame.{LevelFrame}
 use Rattle.walk_steps.proofs.FindingGaining.{on_ok}
 use Rattle.cert_candidates.specs.Writing.{IsChosen, asked_before}
 use Rattle.cert_candidates.proofs.WritingSteps as laws
@@ -37,13 +37,13 @@ spells o bits n digit is all = (subst (λ z. SomeIff z ((n ≤ 64) × (digit < 2
 same_chosen : (n digit : ℕ) (x bits : List Bool) → bits ≡ enc n digit → IsChosen n digit x → x ≡ bits
 same_chosen n digit x bits is h = sym (enc-num x) ∙ ((λ j. enc (h.as_long j) (h.number_is j)) ∙ sym is)
 
-module _ (scene : Scene) (old new : Reached) (i n digit : ℕ) (bits : List Bool) (is : bits ≡ enc n digit) (r : Result (Unit {0}) StepFault) where
+module _ (level_frame : LevelFrame) (old new : Reached) (i n digit : ℕ) (bits : List Bool) (is : bits ≡ enc n digit) (r : Result (Unit {0}) StepFault) where
   pub chosen_learns : (table : List MethodSizes) → option_and_then (choice old.format i) (slice_get old.format.fields i) ≡ Some n → OnOk r (Learns old i Uncompressed (Whole bits) new) →
-      OnOk r (LearnsOf (HasChosen scene old i n digit) (write_rule Two table old.sizes old.format (step.Choose i)) old new)
+      OnOk r (LearnsOf (HasChosen level_frame old i n digit) (write_rule Two table old.sizes old.format (step.Choose i)) old new)
   chosen_learns table chosen =
       let gives = LengthOf Uncompressed i ∷ BitsOf Uncompressed i ∷ [] in
-      on_ok r (Learns old i Uncompressed (Whole bits) new) (LearnsOf (HasChosen scene old i n digit) (write_rule Two table old.sizes old.format (step.Choose i)) old new)
-      (λ h. learns_of old new i bits h (HasChosen scene old i n digit) (λ f theirs. same_chosen n digit (side_at (view f) i Uncompressed) bits is theirs.chosen)
+      on_ok r (Learns old i Uncompressed (Whole bits) new) (LearnsOf (HasChosen level_frame old i n digit) (write_rule Two table old.sizes old.format (step.Choose i)) old new)
+      (λ h. learns_of old new i bits h (HasChosen level_frame old i n digit) (λ f theirs. same_chosen n digit (side_at (view f) i Uncompressed) bits is theirs.chosen)
       (write_rule Two table old.sizes old.format (step.Choose i)) (rule [] gives) (ap (option_map (λ (count : ℕ). rule [] gives)) chosen) (both_known old new i bits h))
 
   pub chosen_known : digit < 2 ^ n → OnOk r (Learns old i Uncompressed (Whole bits) new) → OnOk r (KnowsChosen new.slots i digit)
@@ -51,8 +51,8 @@ module _ (scene : Scene) (old new : Reached) (i n digit : ℕ) (bits : List Bool
       on_ok r (Learns old i Uncompressed (Whole bits) new) (KnowsChosen new.slots i digit)
       (λ h. record { bits = bits; known = whole_now old new i bits h; number_is = ap num is ∙ num-enc n digit below })
 
-  pub chosen_blamed : IfErr r (λ e. BlamesStep e (HasBits scene old i bits)) → IfErr r (λ e. BlamesStep e (HasChosen scene old i n digit))
-  chosen_blamed = blamed r (HasBits scene old i bits) (HasChosen scene old i n digit)
+  pub chosen_blamed : IfErr r (λ e. BlamesStep e (HasBits level_frame old i bits)) → IfErr r (λ e. BlamesStep e (HasChosen level_frame old i n digit))
+  chosen_blamed = blamed r (HasBits level_frame old i bits) (HasChosen level_frame old i n digit)
       (λ f m. record { source = m.source; asked = m.asked; here = m.here; bits_are = same_chosen n digit (side_at (view f) i Uncompressed) bits is m.chosen })
 
 -- ---- an asked field
@@ -87,27 +87,27 @@ asking table old i ready =
     }
 
 -- its value is that of each filling that is here
-pub value_of : (scene : Scene) (old : Reached) (i : ℕ) (o : Option Rule) → Asking old i o → (asked : List AskedValue) (f : Filling) → HasAsked scene old asked f →
+pub value_of : (level_frame : LevelFrame) (old : Reached) (i : ℕ) (o : Option Rule) → Asking old i o → (asked : List AskedValue) (f : Filling) → HasAsked level_frame old asked f →
     (v : AskedValue) × (slice_get asked (asked_before old.format i) ≡ Some v) × (v.bits ≡ side_at (view f) i Uncompressed)
-value_of scene old i o a asked f h =
-    let l = laws.asked scene.profile.now.methods (bits_at scene.context.now) (site_at scene old h.source asked) scene.format old.format old.slots f h.here.begins h.here.shows i a.field a.at a.is_asked in
+value_of level_frame old i o a asked f h =
+    let l = laws.asked level_frame.frame.profile.now.methods (bits_at level_frame.frame.context.now) (site_at level_frame old h.source asked) level_frame.format old.format old.slots f h.here.begins h.here.shows i a.field a.at a.is_asked in
     (record { name = a.field.declared.name; bits = side_at (view f) i Uncompressed }, l, refl)
 
-pub ask_none : (scene : Scene) (old : Reached) (i : ℕ) (o : Option Rule) → Asking old i o → (asked : List AskedValue) → slice_get asked (asked_before old.format i) ≡ None → (f : Filling) → HasAsked scene old asked f → ⊥
-ask_none scene old i o a asked none f h = let v = value_of scene old i o a asked f h in none-some v.0 (sym none ∙ v.1)
+pub ask_none : (level_frame : LevelFrame) (old : Reached) (i : ℕ) (o : Option Rule) → Asking old i o → (asked : List AskedValue) → slice_get asked (asked_before old.format i) ≡ None → (f : Filling) → HasAsked level_frame old asked f → ⊥
+ask_none level_frame old i o a asked none f h = let v = value_of level_frame old i o a asked f h in none-some v.0 (sym none ∙ v.1)
 
 pub ask_within : (old : Reached) (i : ℕ) (o : Option Rule) → IsKept old → Asking old i o → i < length old.slots
 ask_within old i o kept a = omega (arith, slice_get_within old.format.fields i a.field a.at, kept.count)
 
-module _ (scene : Scene) (old new : Reached) (i : ℕ) (o : Option Rule) (a : Asking old i o) (asked : List AskedValue) (v : AskedValue) (at : slice_get asked (asked_before old.format i) ≡ Some v) (bits : List Bool) (is : bits ≡ v.bits)
+module _ (level_frame : LevelFrame) (old new : Reached) (i : ℕ) (o : Option Rule) (a : Asking old i o) (asked : List AskedValue) (v : AskedValue) (at : slice_get asked (asked_before old.format i) ≡ Some v) (bits : List Bool) (is : bits ≡ v.bits)
     (r : Result (Unit {0}) StepFault) where
-  have : (f : Filling) → HasAsked scene old asked f → side_at (view f) i Uncompressed ≡ bits
-  have f h = let w = value_of scene old i o a asked f h in sym w.2 ∙ (ap (λ z. z.bits) (same_Some w.0 v (sym w.1 ∙ at)) ∙ sym is)
+  have : (f : Filling) → HasAsked level_frame old asked f → side_at (view f) i Uncompressed ≡ bits
+  have f h = let w = value_of level_frame old i o a asked f h in sym w.2 ∙ (ap (λ z. z.bits) (same_Some w.0 v (sym w.1 ∙ at)) ∙ sym is)
 
-  pub ask_learns : OnOk r (Learns old i Uncompressed (Whole bits) new) → OnOk r (LearnsOf (HasAsked scene old asked) o old new)
+  pub ask_learns : OnOk r (Learns old i Uncompressed (Whole bits) new) → OnOk r (LearnsOf (HasAsked level_frame old asked) o old new)
   ask_learns =
-      on_ok r (Learns old i Uncompressed (Whole bits) new) (LearnsOf (HasAsked scene old asked) o old new)
-      (λ h. learns_of old new i bits h (HasAsked scene old asked) have o (rule [] (LengthOf Uncompressed i ∷ BitsOf Uncompressed i ∷ [])) a.rule_is (both_known old new i bits h))
+      on_ok r (Learns old i Uncompressed (Whole bits) new) (LearnsOf (HasAsked level_frame old asked) o old new)
+      (λ h. learns_of old new i bits h (HasAsked level_frame old asked) have o (rule [] (LengthOf Uncompressed i ∷ BitsOf Uncompressed i ∷ [])) a.rule_is (both_known old new i bits h))
 
-  pub ask_blamed : IfErr r (λ e. BlamesStep e (HasBits scene old i bits)) → IfErr r (λ e. BlamesStep e (HasAsked scene old asked))
-  ask_blamed = blamed r (HasBits scene old i bits) (HasAsked scene old asked) (λ f m. record { source = m.source; asked = asked; here = m.here; bits_are = have f m })
+  pub ask_blamed : IfErr r (λ e. BlamesStep e (HasBits level_frame old i bits)) → IfErr r (λ e. BlamesStep e (HasAsked level_frame old asked))
+  ask_blamed = blamed r (HasBits level_frame old i bits) (HasAsked level_frame old asked) (λ f m. record { source = m.source; asked = asked; here = m.here; bits_are = have f m })

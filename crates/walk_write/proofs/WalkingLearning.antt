@@ -14,7 +14,7 @@ use Rattle.walk_steps.specs.Partial.{Reached, IsKept, Learns, bounds_at}
 use Rattle.walk_steps.proofs.SidesGained as gained
 use Rattle.walk_steps.specs.declared.fault.StepFault.{StepFault}
 use Rattle.walk_steps.specs.declared.fault.StepFault.TheVariants.{Short, Refused, OutOfMemory}
-use Rattle.walk_steps.specs.declared.scene.Scene.{Scene}
+use Rattle.walk_steps.specs.declared.level_frame.LevelFrame.{LevelFrame}
 use Rattle.walk_steps.specs.Finding.{IsAt}
 use Rattle.walk_steps.proofs.FindingGaining.{has_known}
 use Rattle.walk_steps.proofs.FindingShown.{lies}
@@ -23,10 +23,10 @@ use Rattle.walk_write.specs.Take.{HasBits}
 use Rattle.walk_write.specs.Walking.{LearnsOf, BlamesStep}
 
 -- bits that the level can't have are those of no filling
-pub refuses : (scene : Scene) (old : Reached) (i : ℕ) (bits : List Bool) → IsSound scene.profile.now → IsKept old → IsAt scene old → i < length old.slots →
-    ((x : List Bool) → HasSide x (learnt_at old.slots i Uncompressed) → HasSide x (Whole bits) → LiesBetween (bounds_at old.sizes i Uncompressed) (length x) → ⊥) → (f : Filling) → HasBits scene old i bits f → ⊥
-refuses scene old i bits sound kept at within never f h =
-    never (side_at (view f) i Uncompressed) (has_known f old.slots h.here.shows.has i Uncompressed) h.bits_are (lies scene old sound kept at [] f h.here.shows i within Uncompressed)
+pub refuses : (level_frame : LevelFrame) (old : Reached) (i : ℕ) (bits : List Bool) → IsSound level_frame.frame.profile.now → IsKept old → IsAt level_frame old → i < length old.slots →
+    ((x : List Bool) → HasSide x (learnt_at old.slots i Uncompressed) → HasSide x (Whole bits) → LiesBetween (bounds_at old.sizes i Uncompressed) (length x) → ⊥) → (f : Filling) → HasBits level_frame old i bits f → ⊥
+refuses level_frame old i bits sound kept at within never f h =
+    never (side_at (view f) i Uncompressed) (has_known f old.slots h.here.shows.has i Uncompressed) h.bits_are (lies level_frame old sound kept at [] f h.here.shows i within Uncompressed)
 
 -- what is refused of some fillings is refused of those that are among them
 pub blamed : (r : Result (Unit {0}) StepFault) (Theirs Mine : Filling → Type 0) → ((f : Filling) → Mine f → Theirs f) → IfErr r (λ e. BlamesStep e Theirs) → IfErr r (λ e. BlamesStep e Mine)

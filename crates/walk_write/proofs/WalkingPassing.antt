@@ -27,7 +27,7 @@ use Rattle.cert_accepted.specs.Accepted.{Accepting}
 use Rattle.walk_steps.specs.Partial.{Reached, IsKept}
 use Rattle.walk_steps.specs.declared.fault.StepFault.{StepFault}
 use Rattle.walk_steps.specs.declared.fault.StepFault.TheVariants as fault
-use Rattle.walk_steps.specs.declared.scene.Scene.{Scene}
+use Rattle.walk_steps.specs.declared.level_frame.LevelFrame.{LevelFrame}
 use Rattle.walk_steps.specs.Finding as finding
 use Rattle.walk_steps.specs.Finding.{HaveSameInners, Learns}
 use Rattle.cert_candidates.specs.Knowing.{writer_knows, writer_knows_all}
@@ -82,40 +82,40 @@ room_next radix c n digit old next is room =
     let r = is.rest_is in
     omega (arith, all, s, r, room)
 
--- ---- a walk in a scene
+-- ---- a walk in a level frame
 
-module _ (a : Accepting) (scene : Scene) (source : List Bool) (asked : List AskedValue) (serves : Serves a scene) where
+module _ (a : Accepting) (level_frame : LevelFrame) (source : List Bool) (asked : List AskedValue) (serves : Serves a level_frame) where
   abbrev pub Open : Reached → ℕ → List Step → Filling → Type 0
-  Open l base steps f = IsOpen scene.profile.now.methods a.certificate.methods a.counts (bits_at scene.context.now) (site_at scene l source asked) l.format base steps f
+  Open l base steps f = IsOpen level_frame.frame.profile.now.methods a.certificate.methods a.counts (bits_at level_frame.frame.context.now) (site_at level_frame l source asked) l.format base steps f
 
   abbrev Writes : Reached → List Step → ℕ → Digits → List Slot → Type 0
-  Writes l steps c digits slots = IsWriting scene.profile.now.methods a.certificate.methods a.counts (bits_at scene.context.now) (site_at scene l source asked) scene.format l.format steps c digits slots
+  Writes l steps c digits slots = IsWriting level_frame.frame.profile.now.methods a.certificate.methods a.counts (bits_at level_frame.frame.context.now) (site_at level_frame l source asked) level_frame.format l.format steps c digits slots
 
   abbrev Reads : Reached → List Step → ℕ → Digits → Type 0
-  Reads l steps c digits = IsReading scene.profile.now.methods a.certificate.methods a.counts scene.method scene.format l.format steps c digits
+  Reads l steps c digits = IsReading level_frame.frame.profile.now.methods a.certificate.methods a.counts level_frame.frame.method level_frame.format l.format steps c digits
 
   -- what is open is here
-  pub here : (l : Reached) (steps : List Step) (c : ℕ) (digits : Digits) (w : Writes l steps c digits l.slots) (f : Filling) → Open l w.reading.base steps f → IsHere scene l source asked f
+  pub here : (l : Reached) (steps : List Step) (c : ℕ) (digits : Digits) (w : Writes l steps c digits l.slots) (f : Filling) → Open l w.reading.base steps f → IsHere level_frame l source asked f
   here l steps c digits w f h = record {
     begins = h.begins;
-    shows = begins_ahead scene.profile.now.methods scene.profile.now.sizes scene.profile.now.top a.certificate.methods a.counts serves.checked (bits_at scene.context.now) (site_at scene l source asked) scene.format l.format
+    shows = begins_ahead level_frame.frame.profile.now.methods level_frame.frame.profile.now.sizes level_frame.frame.profile.now.top a.certificate.methods a.counts serves.checked (bits_at level_frame.frame.context.now) (site_at level_frame l source asked) level_frame.format l.format
         steps c digits l.slots w f h;
   }
 
   -- where none is open, all that share the digits fail
-  pub fails : (l : Reached) (steps : List Step) (c : ℕ) (digits : Digits) (reading : Reads l steps c digits) → ((n : ℕ) → slice_get a.counts scene.method ≡ Some n → c + digits.span ≤ n + digits.rest) →
-      ((f : Filling) → Open l reading.base steps f → ⊥) → (alike : ℕ) → alike + digits.rest ≡ digits.span → ShareDigits digits alike → FailsAt a scene (site_at scene l source asked) c alike
+  pub fails : (l : Reached) (steps : List Step) (c : ℕ) (digits : Digits) (reading : Reads l steps c digits) → ((n : ℕ) → slice_get a.counts level_frame.frame.method ≡ Some n → c + digits.span ≤ n + digits.rest) →
+      ((f : Filling) → Open l reading.base steps f → ⊥) → (alike : ℕ) → alike + digits.rest ≡ digits.span → ShareDigits digits alike → FailsAt a level_frame (site_at level_frame l source asked) c alike
   fails l steps c digits reading room none alike count share = record {
     some = let below = reading.below in omega (arith, below, count);
     within = λ n at. let all = room n at in omega (arith, all, count);
-    none = writing_fails scene.profile.now.methods scene.profile.now.sizes scene.profile.now.top a.certificate.methods a.counts serves.checked (bits_at scene.context.now) (site_at scene l source asked) scene.format l.format
+    none = writing_fails level_frame.frame.profile.now.methods level_frame.frame.profile.now.sizes level_frame.frame.profile.now.top a.certificate.methods a.counts serves.checked (bits_at level_frame.frame.context.now) (site_at level_frame l source asked) level_frame.format l.format
         steps c digits reading none alike share;
   }
 
   -- the fault of a step that finds none
   pub step_fails : (e : StepFault) (Theirs : Filling → Type 0) → BlamesStep e Theirs → (l : Reached) (steps : List Step) (c : ℕ) (digits : Digits) (reading : Reads l steps c digits) →
-      ((n : ℕ) → slice_get a.counts scene.method ≡ Some n → c + digits.span ≤ n + digits.rest) → ((f : Filling) → Open l reading.base steps f → Theirs f) →
-      (alike : ℕ) → alike + digits.rest ≡ digits.span → ShareDigits digits alike → BlamesAt (fault_of e alike) a scene (site_at scene l source asked) c
+      ((n : ℕ) → slice_get a.counts level_frame.frame.method ≡ Some n → c + digits.span ≤ n + digits.rest) → ((f : Filling) → Open l reading.base steps f → Theirs f) →
+      (alike : ℕ) → alike + digits.rest ≡ digits.span → ShareDigits digits alike → BlamesAt (fault_of e alike) a level_frame (site_at level_frame l source asked) c
   step_fails fault.Short Theirs blame l steps c digits reading room theirs alike count share = absurd (blame)
   step_fails fault.Refused Theirs blame l steps c digits reading room theirs alike count share = fails l steps c digits reading room (λ f h. blame f (theirs f h)) alike count share
   step_fails fault.OutOfMemory Theirs blame l steps c digits reading room theirs alike count share = tt
@@ -127,13 +127,13 @@ module _ (a : Accepting) (scene : Scene) (source : List Bool) (asked : List Aske
       subst P (sym same) h
 
   -- after a step whose writing goes on
-  pub went : (one : Step) (later : List Step) (c : ℕ) (digits next : Digits) (old : Reached) (slots : List Slot) (g : IsGoing a scene source asked (one ∷ later) c digits old) → Writes old later c next slots → Grows old.slots slots →
-      IsSomeAnd (write_rule Two scene.profile.now.sizes old.sizes old.format one) (λ r. writer_knows_all old.format slots r.gives ≡ true) →
-      ((i : ℕ) → is_there (slot_inner (slice_get slots i)) ≡ true → has (learnt (write_rule Two scene.profile.now.sizes old.sizes old.format one) ++ g.known) (Done i) ≡ true) →
-      ((n : ℕ) → slice_get a.counts scene.method ≡ Some n → c + next.span ≤ n + next.rest) →
-      IsGoing a scene source asked later c next (record { format = old.format; sizes = old.sizes; args = old.args; slots = slots })
+  pub went : (one : Step) (later : List Step) (c : ℕ) (digits next : Digits) (old : Reached) (slots : List Slot) (g : IsGoing a level_frame source asked (one ∷ later) c digits old) → Writes old later c next slots → Grows old.slots slots →
+      IsSomeAnd (write_rule Two level_frame.frame.profile.now.sizes old.sizes old.format one) (λ r. writer_knows_all old.format slots r.gives ≡ true) →
+      ((i : ℕ) → is_there (slot_inner (slice_get slots i)) ≡ true → has (learnt (write_rule Two level_frame.frame.profile.now.sizes old.sizes old.format one) ++ g.known) (Done i) ≡ true) →
+      ((n : ℕ) → slice_get a.counts level_frame.frame.method ≡ Some n → c + next.span ≤ n + next.rest) →
+      IsGoing a level_frame source asked later c next (record { format = old.format; sizes = old.sizes; args = old.args; slots = slots })
   went one later c digits next old slots g writing grown gives filled room =
-      let rules = rule_of Two Write scene.profile.now.sizes old.sizes old.format in
+      let rules = rule_of Two Write level_frame.frame.profile.now.sizes old.sizes old.format in
       let b = and_true (enabled g.known (rules one)) (all_enabled rules (learnt (rules one) ++ g.known) later) g.enabled in
       record {
         at = record { format_is = g.at.format_is; sizes_are = g.at.sizes_are };
@@ -158,30 +158,30 @@ module _ (a : Accepting) (scene : Scene) (source : List Bool) (asked : List Aske
 
   -- ---- steps that have no digit
 
-  pub is_ready : (one : Step) (later : List Step) (c : ℕ) (digits : Digits) (l : Reached) → IsGoing a scene source asked (one ∷ later) c digits l → IsReadyToWrite l (write_rule Two scene.profile.now.sizes l.sizes l.format one)
+  pub is_ready : (one : Step) (later : List Step) (c : ℕ) (digits : Digits) (l : Reached) → IsGoing a level_frame source asked (one ∷ later) c digits l → IsReadyToWrite l (write_rule Two level_frame.frame.profile.now.sizes l.sizes l.format one)
   is_ready one later c digits l g =
-      let rules = rule_of Two Write scene.profile.now.sizes l.sizes l.format in
+      let rules = rule_of Two Write level_frame.frame.profile.now.sizes l.sizes l.format in
       needs_of l.format l.slots g.known (rules one) (and_true (enabled g.known (rules one)) (all_enabled rules (learnt (rules one) ++ g.known) later) g.enabled).0 g.knows
 
-  pub plain_goes : (one : Step) → is_plain one ≡ true → (digits : Digits) (old new : Reached) → LearnsOf (IsHere scene old source asked) (write_rule Two scene.profile.now.sizes old.sizes old.format one) old new → IsKept new → StepsOn a scene source asked one digits old digits new
+  pub plain_goes : (one : Step) → is_plain one ≡ true → (digits : Digits) (old new : Reached) → LearnsOf (IsHere level_frame old source asked) (write_rule Two level_frame.frame.profile.now.sizes old.sizes old.format one) old new → IsKept new → StepsOn a level_frame source asked one digits old digits new
   plain_goes one plain digits old new learns kept later c g =
       let has = λ (f : Filling) (h : Open old g.writing.reading.base (one ∷ later) f). learns.agrees f (here old (one ∷ later) c digits g.writing f h) (g.writing.have f h) in
-      let writing = writing_passes scene.profile.now.methods scene.profile.now.sizes scene.profile.now.top a.certificate.methods a.counts serves.checked (bits_at scene.context.now) (site_at scene old source asked) scene.format old.format
+      let writing = writing_passes level_frame.frame.profile.now.methods level_frame.frame.profile.now.sizes level_frame.frame.profile.now.top a.certificate.methods a.counts serves.checked (bits_at level_frame.frame.context.now) (site_at level_frame old source asked) level_frame.format old.format
       one later c digits old.slots new.slots g.writing plain (counted old new g.writing.count kept learns.format_is) learns.grown has in
-      renewed old new learns.format_is learns.sizes_are learns.args_are (IsGoing a scene source asked later c digits)
+      renewed old new learns.format_is learns.sizes_are learns.args_are (IsGoing a level_frame source asked later c digits)
       (went one later c digits digits old new.slots g writing learns.grown learns.gives
-      (same_filled (learnt (write_rule Two scene.profile.now.sizes old.sizes old.format one)) g.known old.slots new.slots learns.inners g.filled) g.room)
+      (same_filled (learnt (write_rule Two level_frame.frame.profile.now.sizes old.sizes old.format one)) g.known old.slots new.slots learns.inners g.filled) g.room)
 
-  pub plain_fails : (e : StepFault) (one : Step) (digits : Digits) (l : Reached) → BlamesStep e (IsHere scene l source asked) → (alike : ℕ) → alike + digits.rest ≡ digits.span → ShareDigits digits alike →
-      (w : WriteFault) → w ≡ fault_of e alike → BlamesGoing w a scene source asked one digits l
+  pub plain_fails : (e : StepFault) (one : Step) (digits : Digits) (l : Reached) → BlamesStep e (IsHere level_frame l source asked) → (alike : ℕ) → alike + digits.rest ≡ digits.span → ShareDigits digits alike →
+      (w : WriteFault) → w ≡ fault_of e alike → BlamesGoing w a level_frame source asked one digits l
   plain_fails e one digits l blame alike count share w is later c g =
-      subst (λ z. BlamesAt z a scene (site_at scene l source asked) c) (sym is)
-      (step_fails e (IsHere scene l source asked) blame l (one ∷ later) c digits g.writing.reading g.room (λ f h. here l (one ∷ later) c digits g.writing f h) alike count share)
+      subst (λ z. BlamesAt z a level_frame (site_at level_frame l source asked) c) (sym is)
+      (step_fails e (IsHere level_frame l source asked) blame l (one ∷ later) c digits g.writing.reading g.room (λ f h. here l (one ∷ later) c digits g.writing f h) alike count share)
 
 -- what a library step learns, of those that are here
-common_learns : (scene : Scene) (source : List Bool) (asked : List AskedValue) (old new : Reached) (o : Option Rule) → ((r : Rule) → o ≡ Some r → writer_knows_all old.format new.slots r.gives ≡ knows_all old.format new.slots r.gives) →
-    Learns scene o old new → LearnsOf (IsHere scene old source asked) o old new
-common_learns scene source asked old new o alike learns = record {
+common_learns : (level_frame : LevelFrame) (source : List Bool) (asked : List AskedValue) (old new : Reached) (o : Option Rule) → ((r : Rule) → o ≡ Some r → writer_knows_all old.format new.slots r.gives ≡ knows_all old.format new.slots r.gives) →
+    Learns level_frame o old new → LearnsOf (IsHere level_frame old source asked) o old new
+common_learns level_frame source asked old new o alike learns = record {
   format_is = learns.format_is;
   sizes_are = learns.sizes_are;
   args_are = learns.args_are;
@@ -196,10 +196,10 @@ common_learns scene source asked old new o alike learns = record {
     gives None alike e = e
     gives (Some r) alike e = alike r refl ∙ e
 
-common_blames : (e : StepFault) (scene : Scene) (source : List Bool) (asked : List AskedValue) (l : Reached) → finding.Blames e scene l → BlamesStep e (IsHere scene l source asked)
-common_blames fault.Short scene source asked l blame = blame
-common_blames fault.Refused scene source asked l blame = λ f h. blame [] f h.shows
-common_blames fault.OutOfMemory scene source asked l blame = tt
+common_blames : (e : StepFault) (level_frame : LevelFrame) (source : List Bool) (asked : List AskedValue) (l : Reached) → finding.Blames e level_frame l → BlamesStep e (IsHere level_frame l source asked)
+common_blames fault.Short level_frame source asked l blame = blame
+common_blames fault.Refused level_frame source asked l blame = λ f h. blame [] f h.shows
+common_blames fault.OutOfMemory level_frame source asked l blame = tt
 
 -- a rule that is ready to be written is ready
 common_ready : (l : Reached) (o : Option Rule) → ((r : Rule) → o ≡ Some r → writer_knows_all l.format l.slots r.needs ≡ knows_all l.format l.slots r.needs) → IsReadyToWrite l o → finding.IsReady l o
@@ -224,18 +224,18 @@ is_common (Solve i k) plain not_take not_ask = common (λ table sizes format. re
 pub ready_common : (sizes : List MethodSizes) (l : Reached) (one : Step) → IsCommon one → IsReadyToWrite l (write_rule Two sizes l.sizes l.format one) → finding.IsReady l (common_rule Two l.sizes l.format one)
 ready_common sizes l one (common same) ready = common_ready l (common_rule Two l.sizes l.format one) (λ r e. (common_known l.sizes l.format one r e l.slots).0) (subst (IsReadyToWrite l) (same sizes l.sizes l.format) ready)
 
-pub learns_common : (scene : Scene) (source : List Bool) (asked : List AskedValue) (old new : Reached) (one : Step) → IsCommon one → Learns scene (common_rule Two old.sizes old.format one) old new →
-    LearnsOf (IsHere scene old source asked) (write_rule Two scene.profile.now.sizes old.sizes old.format one) old new
-learns_common scene source asked old new one (common same) learns =
-    subst (λ o. LearnsOf (IsHere scene old source asked) o old new) (sym (same scene.profile.now.sizes old.sizes old.format))
-    (common_learns scene source asked old new (common_rule Two old.sizes old.format one) (λ r e. (common_known old.sizes old.format one r e new.slots).1) learns)
+pub learns_common : (level_frame : LevelFrame) (source : List Bool) (asked : List AskedValue) (old new : Reached) (one : Step) → IsCommon one → Learns level_frame (common_rule Two old.sizes old.format one) old new →
+    LearnsOf (IsHere level_frame old source asked) (write_rule Two level_frame.frame.profile.now.sizes old.sizes old.format one) old new
+learns_common level_frame source asked old new one (common same) learns =
+    subst (λ o. LearnsOf (IsHere level_frame old source asked) o old new) (sym (same level_frame.frame.profile.now.sizes old.sizes old.format))
+    (common_learns level_frame source asked old new (common_rule Two old.sizes old.format one) (λ r e. (common_known old.sizes old.format one r e new.slots).1) learns)
 
-pub blames_common : (e : StepFault) (scene : Scene) (source : List Bool) (asked : List AskedValue) (l : Reached) → finding.Blames e scene l → BlamesStep e (IsHere scene l source asked)
-blames_common e scene source asked l blame = common_blames e scene source asked l blame
+pub blames_common : (e : StepFault) (level_frame : LevelFrame) (source : List Bool) (asked : List AskedValue) (l : Reached) → finding.Blames e level_frame l → BlamesStep e (IsHere level_frame l source asked)
+blames_common e level_frame source asked l blame = common_blames e level_frame source asked l blame
 
 -- what an asked field learns
-pub asked_learns : (scene : Scene) (source : List Bool) (asked : List AskedValue) (o : Option Rule) (old new : Reached) → LearnsOf (HasAsked scene old asked) o old new → LearnsOf (IsHere scene old source asked) o old new
-asked_learns scene source asked o old new learns = record {
+pub asked_learns : (level_frame : LevelFrame) (source : List Bool) (asked : List AskedValue) (o : Option Rule) (old new : Reached) → LearnsOf (HasAsked level_frame old asked) o old new → LearnsOf (IsHere level_frame old source asked) o old new
+asked_learns level_frame source asked o old new learns = record {
   format_is = learns.format_is;
   sizes_are = learns.sizes_are;
   args_are = learns.args_are;
@@ -245,10 +245,10 @@ asked_learns scene source asked o old new learns = record {
   agrees = λ f h has. learns.agrees f (record { source = source; here = h }) has;
 }
 
-pub asked_blames : (e : StepFault) (scene : Scene) (source : List Bool) (asked : List AskedValue) (l : Reached) → BlamesStep e (HasAsked scene l asked) → BlamesStep e (IsHere scene l source asked)
-asked_blames fault.Short scene source asked l blame = blame
-asked_blames fault.Refused scene source asked l blame = λ f h. blame f (record { source = source; here = h })
-asked_blames fault.OutOfMemory scene source asked l blame = tt
+pub asked_blames : (e : StepFault) (level_frame : LevelFrame) (source : List Bool) (asked : List AskedValue) (l : Reached) → BlamesStep e (HasAsked level_frame l asked) → BlamesStep e (IsHere level_frame l source asked)
+asked_blames fault.Short level_frame source asked l blame = blame
+asked_blames fault.Refused level_frame source asked l blame = λ f h. blame f (record { source = source; here = h })
+asked_blames fault.OutOfMemory level_frame source asked l blame = tt
 
 -- ---- results
 

@@ -4,10 +4,10 @@ use Rattle.std.proofs.lemmas.Bool.{cases_lt}
 use Rattle.std.specs.Prelude.{Some, slice_get}
 use Rattle.sem_filling.specs.declared.filling.AskedValue.{AskedValue}
 use Rattle.cert_candidates.specs.Codes.{number}
-use Rattle.cert_accepted.specs.declared.place.Place.{Place}
+use Rattle.cert_accepted.specs.declared.frame.AcceptedFrame.{AcceptedFrame}
 use Rattle.walk_write.specs.Walking.{Fails, Passes}
 
-module _ (place : Place) (source : List Bool) (asked : List AskedValue) where
+module _ (place : AcceptedFrame) (source : List Bool) (asked : List AskedValue) where
   pub none_passed : (c : ℕ) → Passes place source asked c c
   none_passed c = record { many = 0; next_is = omega arith; fail = λ l. absurd (omega (arith, l)) }
 
@@ -25,14 +25,14 @@ module _ (place : Place) (source : List Bool) (asked : List AskedValue) where
       within = λ m at. within m at q.many refl l;
       none = λ f begins from to.
           let e = p.next_is in
-          elim (cases_lt (number place.accepted.now.profile.methods place.accepted.now.certificate.methods place.accepted.now.counts f place.method) next) [
+          elim (cases_lt (number place.accepted.now.profile.methods place.accepted.now.certificate.methods place.accepted.now.counts f place.frame.method) next) [
             | inl below ↦ (p.fail (omega (arith, from, below, e))).none f begins from (omega (arith, below, e))
             | inr over ↦ (q.fail (omega (arith, over, to, e))).none f begins over (omega (arith, to, e))
           ];
     };
   }
     where
-      within : (m : ℕ) → slice_get place.accepted.now.counts place.method ≡ Some m → (k : ℕ) → q.many ≡ k → 0 < p.many + q.many → c + (p.many + q.many) ≤ m
+      within : (m : ℕ) → slice_get place.accepted.now.counts place.frame.method ≡ Some m → (k : ℕ) → q.many ≡ k → 0 < p.many + q.many → c + (p.many + q.many) ≤ m
       within m at zero is l = let room = (p.fail (omega (arith, l, is))).within m at in omega (arith, room, is)
       within m at (suc k) is l = let e = p.next_is in let room = (q.fail (omega (arith, is))).within m at in omega (arith, room, e)
 

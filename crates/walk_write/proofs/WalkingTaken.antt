@@ -27,7 +27,7 @@ use Rattle.walk_steps.specs.Partial.{Reached, IsKept, Learns}
 use Rattle.walk_steps.specs.Sides.{length_of}
 use Rattle.walk_steps.proofs.JoinedKept.{offset_short}
 use Rattle.walk_steps.specs.declared.fault.StepFault.{StepFault}
-use Rattle.walk_steps.specs.declared.scene.Scene.{Scene}
+use Rattle.walk_steps.specs.declared.level_frame.LevelFrame.{LevelFrame}
 use Rattle.cert_candidates.specs.Knowing.{writer_knows, writer_knows_all}
 use Rattle.cert_candidates.specs.Writing.{TakenIs, header_offset}
 use Rattle.cert_candidates.proofs.WritingSteps as writing
@@ -136,34 +136,34 @@ module _ (l : Reached) (i : ℕ) (kept : IsKept l) (ready : IsReadyToWrite l (op
       -- ---- what is taken
 
       module _ (p : Option ℕ) (measured : p ≡ length_of (learnt_at l.slots i Uncompressed)) (count : ℕ) (some_count : p ≡ Some count)
-          (scene : Scene) (left : List Bool) (from : ℕ) (asked : List AskedValue) (from_within : from ≤ length left) (found : Option (List Bool))
+          (level_frame : LevelFrame) (left : List Bool) (from : ℕ) (asked : List AskedValue) (from_within : from ≤ length left) (found : Option (List Bool))
           (looked : SomeIff found (from + offset + count ≤ length left) (take count (drop (from + offset) left))) where
         many : count ≡ length (bits_of (learnt_at l.slots i Uncompressed))
         many = counted (learnt_at l.slots i Uncompressed) count (sym measured ∙ some_count)
 
-        taken_is : (f : Filling) → IsHere scene l (drop from left) asked f → TakenIs l.format l.slots (site_at scene l (drop from left) asked) i (length (bits_of (learnt_at l.slots i Uncompressed))) f
+        taken_is : (f : Filling) → IsHere level_frame l (drop from left) asked f → TakenIs l.format l.slots (site_at level_frame l (drop from left) asked) i (length (bits_of (learnt_at l.slots i Uncompressed))) f
         taken_is f h =
-            writing.taken scene.profile.now.methods (bits_at scene.context.now) (site_at scene l (drop from left) asked) scene.format l.format l.slots f h.begins h.shows i here.field here.field_is here.header here.known
+            writing.taken level_frame.frame.profile.now.methods (bits_at level_frame.frame.context.now) (site_at level_frame l (drop from left) asked) level_frame.format l.format l.slots f h.begins h.shows i here.field here.field_is here.header here.known
 
-        pub too_few : found ≡ None → (f : Filling) → IsHere scene l (drop from left) asked f → ⊥
+        pub too_few : found ≡ None → (f : Filling) → IsHere level_frame l (drop from left) asked f → ⊥
         too_few none f h =
             let never : from + offset + count ≤ length left → ⊥ = subst (λ z. SomeIff z (from + offset + count ≤ length left) (take count (drop (from + offset) left))) none looked in
             never (omega (arith, (taken_is f h).enough, length-drop from left, from_within, at, many))
 
         module _ (bits : List Bool) (some_bits : found ≡ Some bits) where
-          bits_in : (f : Filling) → IsHere scene l (drop from left) asked f → side_at (view f) i Uncompressed ≡ bits
+          bits_in : (f : Filling) → IsHere level_frame l (drop from left) asked f → side_at (view f) i Uncompressed ≡ bits
           bits_in f h =
               let is = subst (λ z. SomeIff z (from + offset + count ≤ length left) (take count (drop (from + offset) left))) some_bits looked in
               (taken_is f h).taken ∙ ((λ j. take (sym many j) (drop (sym at j) (drop from left))) ∙ (ap (take count) (sym (drop_add from offset left)) ∙ sym is.1))
 
-          pub among : (f : Filling) → IsHere scene l (drop from left) asked f → HasBits scene l i bits f
+          pub among : (f : Filling) → IsHere level_frame l (drop from left) asked f → HasBits level_frame l i bits f
           among f h = record { source = drop from left; asked = asked; here = h; bits_are = bits_in f h }
 
           pub learns : (new : Reached) (r : Result (Unit {0}) StepFault) → OnOk r (Learns l i Uncompressed (Whole bits) new) →
-              OnOk r (LearnsOf (IsHere scene l (drop from left) asked) (option_and_then (write_take l.format i) (slice_get l.format.fields i)) l new)
+              OnOk r (LearnsOf (IsHere level_frame l (drop from left) asked) (option_and_then (write_take l.format i) (slice_get l.format.fields i)) l new)
           learns new (Err e) h = h
           learns new (Ok x) h =
-              learns_of l new i bits h (IsHere scene l (drop from left) asked) bits_in (option_and_then (write_take l.format i) (slice_get l.format.fields i)) (taking l i) here.rule_is
+              learns_of l new i bits h (IsHere level_frame l (drop from left) asked) bits_in (option_and_then (write_take l.format i) (slice_get l.format.fields i)) (taking l i) here.rule_is
               (given (bits_now l new i bits h))
             where
               given : has_bits (learnt_at new.slots i Uncompressed) ≡ true → writer_knows_all l.format new.slots (BitsOf Uncompressed i ∷ Done i ∷ []) ≡ true

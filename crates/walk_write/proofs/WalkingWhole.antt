@@ -30,9 +30,9 @@ use Rattle.cert_candidates.specs.Reading.{IsReading, ShareDigits}
 use Rattle.cert_candidates.proofs.CodesFitting.{write_by}
 use Rattle.cert_accepted.specs.Accepted.{Accepting}
 use Rattle.walk_steps.specs.Partial.{Reached}
-use Rattle.walk_steps.specs.declared.scene.Scene.{Scene}
-use Rattle.cert_accepted.specs.declared.place.Place.{Place}
-use Rattle.cert_accepted.specs.Standing.{Stands, HasDepth, IsSceneOf, IsAtStart, NeverFits}
+use Rattle.walk_steps.specs.declared.level_frame.LevelFrame.{LevelFrame}
+use Rattle.cert_accepted.specs.declared.frame.AcceptedFrame.{AcceptedFrame}
+use Rattle.cert_accepted.specs.Standing.{Stands, HasDepth, IsLevelFrameOf, IsAtStart, NeverFits}
 use Rattle.cert_candidates.specs.Writing.{IsChecked, IsWriting, NoneNumbered, IsNumbered}
 use Rattle.cert_candidates.proofs.WritingLawsGoing.{writing_starts, writing_fails, tried}
 use Rattle.cert_candidates.specs.Knowing.{writer_knows_all}
@@ -62,7 +62,7 @@ record Facts (a : Accepting) (format : Format) (sizes : FormatSizes) (args : Lis
   pub base_is : reading.base ≡ ways_before p.methods a.certificate.methods a.counts k n
   pub room : (m : ℕ) → slice_get a.counts k ≡ Some m → c + digits.span ≤ m + digits.rest
 
-module _ (place : Place) (stands : Stands place) (c : ℕ) (start : Start) (b : Begins place c start) where
+module _ (place : AcceptedFrame) (stands : Stands place) (c : ℕ) (start : Start) (b : Begins place c start) where
   abbrev p : Resolved
   p = place.accepted.now.profile
 
@@ -71,51 +71,51 @@ module _ (place : Place) (stands : Stands place) (c : ℕ) (start : Start) (b : 
   never_begins source never asked alike count share = record {
     some = let below = b.reading.below in omega (arith, below, count);
     within = λ n at. let room = b.room n at in omega (arith, room, count);
-    none = writing_fails p.methods p.sizes p.top place.accepted.now.certificate.methods place.accepted.now.counts b.checked (bits_at place.context.now) (site_of place source asked) start.format b.format b.plans.write c start.digits
+    none = writing_fails p.methods p.sizes p.top place.accepted.now.certificate.methods place.accepted.now.counts b.checked (bits_at place.frame.context.now) (site_of place source asked) start.format b.format b.plans.write c start.digits
         b.reading (λ f h. never asked f h.begins
-        (b.reading.all f (tried p.methods p.sizes p.top place.accepted.now.certificate.methods place.accepted.now.counts b.checked (bits_at place.context.now) (site_of place source asked) f h.begins) h.within).format_is) alike share;
+        (b.reading.all f (tried p.methods p.sizes p.top place.accepted.now.certificate.methods place.accepted.now.counts b.checked (bits_at place.frame.context.now) (site_of place source asked) f h.begins) h.within).format_is) alike share;
   }
 
   -- where no filling of the format fits none begins the source
   pub never_fits : NeverFits place start.format → (source : List Bool) (asked : List AskedValue) (alike : ℕ) → alike + start.digits.rest ≡ start.digits.span → ShareDigits start.digits alike → Fails place source asked c alike
   never_fits never source asked alike count share = never_begins source (λ asked f h. never f h.fits) asked alike count share
 
-  module _ (scene : Scene) (is : IsSceneOf place start.format scene) where
-    pub serves : Serves place.accepted.now scene
+  module _ (level_frame : LevelFrame) (is : IsLevelFrameOf place start.format level_frame) where
+    pub serves : Serves place.accepted.now level_frame
     serves = record {
       profile_is = is.profile_is;
       sound = subst IsSound (sym is.profile_is) b.sound;
       checked = subst (λ (z : Resolved). IsChecked z.methods z.sizes z.top place.accepted.now.certificate.methods place.accepted.now.counts) (sym is.profile_is) b.checked;
     }
 
-    pub deep : (depth : ℕ) → HasDepth place depth → IsDeep scene depth
-    deep depth least j n chain = least j n (subst (λ k. Chain (used_graph p.methods) k n j) is.method_is (subst (λ (z : Resolved). Chain (used_graph z.methods) scene.method n j) is.profile_is chain))
+    pub deep : (depth : ℕ) → HasDepth place depth → IsDeep level_frame depth
+    deep depth least j n chain = least j n (subst (λ k. Chain (used_graph p.methods) k n j) is.method_is (subst (λ (z : Resolved). Chain (used_graph z.methods) level_frame.frame.method n j) is.profile_is chain))
 
     -- the site of a level of this place
-    same_site : (l : Reached) → l.args ≡ place.arguments.now → (source : List Bool) (asked : List AskedValue) → site_at scene l source asked ≡ site_of place source asked
+    same_site : (l : Reached) → l.args ≡ place.frame.arguments.now → (source : List Bool) (asked : List AskedValue) → site_at level_frame l source asked ≡ site_of place source asked
     same_site l args source asked = λ k. record { method = is.method_is k; args = args k; path = is.path_is k; source = source; asked = asked }
 
-    pub blamed : (e : WriteFault) (l : Reached) → l.args ≡ place.arguments.now → (source : List Bool) (asked : List AskedValue) → BlamesAt e place.accepted.now scene (site_at scene l source asked) c → Blames e place source asked c
+    pub blamed : (e : WriteFault) (l : Reached) → l.args ≡ place.frame.arguments.now → (source : List Bool) (asked : List AskedValue) → BlamesAt e place.accepted.now level_frame (site_at level_frame l source asked) c → Blames e place source asked c
     blamed OutOfMemory l args source asked h = tt
     blamed (Failed m) l args source asked h = record {
       some = h.some;
       within = λ n counted. h.within n (subst (λ k. slice_get place.accepted.now.counts k ≡ Some n) (sym is.method_is) counted);
-      none = moved (λ methods a ctx site. NoneNumbered methods a.certificate.methods a.counts ctx site c m) scene.profile.now.methods p.methods (ap (λ (z : Resolved). z.methods) is.profile_is) place.accepted.now place.accepted.now refl
-          (bits_at scene.context.now) (bits_at place.context.now) (ap bits_at is.context_is) (site_at scene l source asked) (site_of place source asked) (same_site l args source asked) h.none;
+      none = moved (λ methods a ctx site. NoneNumbered methods a.certificate.methods a.counts ctx site c m) level_frame.frame.profile.now.methods p.methods (ap (λ (z : Resolved). z.methods) is.profile_is) place.accepted.now place.accepted.now refl
+          (bits_at level_frame.frame.context.now) (bits_at place.frame.context.now) (ap bits_at is.context_is) (site_at level_frame l source asked) (site_of place source asked) (same_site l args source asked) h.none;
     }
 
-    pub written : (l : Reached) → l.args ≡ place.arguments.now → (source : List Bool) (asked : List AskedValue) (g : Filling) →
-        IsNumbered scene.profile.now.methods place.accepted.now.certificate.methods place.accepted.now.counts (bits_at scene.context.now) (site_at scene l source asked) c g → IsWritten place source asked c g
+    pub written : (l : Reached) → l.args ≡ place.frame.arguments.now → (source : List Bool) (asked : List AskedValue) (g : Filling) →
+        IsNumbered level_frame.frame.profile.now.methods place.accepted.now.certificate.methods place.accepted.now.counts (bits_at level_frame.frame.context.now) (site_at level_frame l source asked) c g → IsWritten place source asked c g
     written l args source asked g h =
-        moved (λ methods a ctx site. IsNumbered methods a.certificate.methods a.counts ctx site c g) scene.profile.now.methods p.methods (ap (λ (z : Resolved). z.methods) is.profile_is) place.accepted.now place.accepted.now refl
-        (bits_at scene.context.now) (bits_at place.context.now) (ap bits_at is.context_is) (site_at scene l source asked) (site_of place source asked) (same_site l args source asked) h
+        moved (λ methods a ctx site. IsNumbered methods a.certificate.methods a.counts ctx site c g) level_frame.frame.profile.now.methods p.methods (ap (λ (z : Resolved). z.methods) is.profile_is) place.accepted.now place.accepted.now refl
+        (bits_at level_frame.frame.context.now) (bits_at place.frame.context.now) (ap bits_at is.context_is) (site_at level_frame l source asked) (site_of place source asked) (same_site l args source asked) h
 
-    module _ (l : Reached) (at : IsAtStart place start.format l) (plans : Plans) (plans_are : write_plan place.accepted.now.certificate.methods place.method start.format ≡ Some plans) where
-      here : Facts place.accepted.now l.format l.sizes l.args plans c start.digits p place.method start.format
+    module _ (l : Reached) (at : IsAtStart place start.format l) (plans : Plans) (plans_are : write_plan place.accepted.now.certificate.methods place.frame.method start.format ≡ Some plans) where
+      here : Facts place.accepted.now l.format l.sizes l.args plans c start.digits p place.frame.method start.format
       here = record {
         sound = b.sound;
         checked = b.checked;
-        lie = subst (ArgumentsLieAt p place.method) (sym at.args_are) stands.lie;
+        lie = subst (ArgumentsLieAt p place.frame.method) (sym at.args_are) stands.lie;
         format_is = at.format_is;
         sizes_are = at.sizes_are;
         plans_are = plans_are;
@@ -125,34 +125,34 @@ module _ (place : Place) (stands : Stands place) (c : ℕ) (start : Start) (b : 
       }
         where
           Both : Format → Plans → Type 0
-          Both format plans = (reading : IsReading p.methods place.accepted.now.certificate.methods place.accepted.now.counts place.method start.format format plans.write c start.digits)
-              × (reading.base ≡ ways_before p.methods place.accepted.now.certificate.methods place.accepted.now.counts place.method start.format)
+          Both format plans = (reading : IsReading p.methods place.accepted.now.certificate.methods place.accepted.now.counts place.frame.method start.format format plans.write c start.digits)
+              × (reading.base ≡ ways_before p.methods place.accepted.now.certificate.methods place.accepted.now.counts place.frame.method start.format)
 
           moved_reading : Both l.format plans
           moved_reading = subst (Both l.format) (same_Some b.plans plans (sym b.plans_are ∙ plans_are)) (subst (λ z. Both z b.plans) (same_Some b.format l.format (sym b.format_is ∙ at.format_is)) (b.reading, b.base_is))
 
-      there : Facts place.accepted.now l.format l.sizes l.args plans c start.digits scene.profile.now scene.method scene.format
+      there : Facts place.accepted.now l.format l.sizes l.args plans c start.digits level_frame.frame.profile.now level_frame.frame.method level_frame.format
       there =
-          subst (Facts place.accepted.now l.format l.sizes l.args plans c start.digits scene.profile.now scene.method) (sym is.format_is)
-          (subst (λ k. Facts place.accepted.now l.format l.sizes l.args plans c start.digits scene.profile.now k start.format) (sym is.method_is)
-          (subst (λ z. Facts place.accepted.now l.format l.sizes l.args plans c start.digits z place.method start.format) (sym is.profile_is) here))
+          subst (Facts place.accepted.now l.format l.sizes l.args plans c start.digits level_frame.frame.profile.now level_frame.frame.method) (sym is.format_is)
+          (subst (λ k. Facts place.accepted.now l.format l.sizes l.args plans c start.digits level_frame.frame.profile.now k start.format) (sym is.method_is)
+          (subst (λ z. Facts place.accepted.now l.format l.sizes l.args plans c start.digits z place.frame.method start.format) (sym is.profile_is) here))
 
-      pub going : (source : List Bool) (asked : List AskedValue) → IsGoing place.accepted.now scene source asked plans.write c start.digits l
+      pub going : (source : List Bool) (asked : List AskedValue) → IsGoing place.accepted.now level_frame source asked plans.write c start.digits l
       going source asked =
           let f = there in
           let a = place.accepted.now in
-          let methods = scene.profile.now.methods in
-          let table = scene.profile.now.sizes in
-          let z = and_then_some (λ (s : MethodSizes). slice_get s.formats scene.format) (slice_get table scene.method) l.sizes f.sizes_are in
-          let w = write_by methods table scene.profile.now.top f.checked.version a.certificate.methods f.checked.are_sizes f.checked.valid scene.method scene.format l.format f.format_is z.0 l.sizes z.1 z.2 in
+          let methods = level_frame.frame.profile.now.methods in
+          let table = level_frame.frame.profile.now.sizes in
+          let z = and_then_some (λ (s : MethodSizes). slice_get s.formats level_frame.format) (slice_get table level_frame.frame.method) l.sizes f.sizes_are in
+          let w = write_by methods table level_frame.frame.profile.now.top f.checked.version a.certificate.methods f.checked.are_sizes f.checked.valid level_frame.frame.method level_frame.format l.format f.format_is z.0 l.sizes z.1 z.2 in
           let one : w.0 ≡ plans = same_Some w.0 plans (sym w.1 ∙ f.plans_are) in
           let plan = subst (λ (z : Plans). IsPlan (way_of Two Write table l.sizes l.format) z.write) one (plans_go_on f.checked.version Write table l.sizes l.format w.0.write w.2) in
-          let starts = writing_starts methods table scene.profile.now.top a.certificate.methods a.counts f.checked (bits_at scene.context.now) (site_at scene l source asked) scene.format l.format plans f.format_is f.plans_are c
+          let starts = writing_starts methods table level_frame.frame.profile.now.top a.certificate.methods a.counts f.checked (bits_at level_frame.frame.context.now) (site_at level_frame l source asked) level_frame.format l.format plans f.format_is f.plans_are c
           start.digits f.reading f.base_is in
           record {
             at = record { format_is = f.format_is; sizes_are = f.sizes_are };
             lie = f.lie;
-            writing = subst (IsWriting methods a.certificate.methods a.counts (bits_at scene.context.now) (site_at scene l source asked) scene.format l.format plans.write c start.digits) (sym at.slots_are) starts;
+            writing = subst (IsWriting methods a.certificate.methods a.counts (bits_at level_frame.frame.context.now) (site_at level_frame l source asked) level_frame.format l.format plans.write c start.digits) (sym at.slots_are) starts;
             known = known_at_start l.format;
             knows = subst (λ z. writer_knows_all l.format z (known_at_start l.format) ≡ true) (sym at.slots_are) (start_known l.format);
             enabled = plan.enabled;

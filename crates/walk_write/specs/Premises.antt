@@ -17,8 +17,8 @@ use Rattle.sem_profile.specs.declared.profile.Field.{Field}
 use Rattle.sem_profile.specs.declared.profile.Format.{Format}
 use Rattle.sem_filling.specs.declared.filling.Filling.{Filling}
 use Rattle.cert_rules.specs.Views.{view, side_at}
-use Rattle.walk_write.specs.declared.told.Chosen.{Chosen}
-use Rattle.walk_write.specs.declared.told.Premises.{Premises}
+use Rattle.walk_write.specs.declared.premises.Chosen.{Chosen}
+use Rattle.walk_write.specs.declared.premises.Premises.{Premises}
 
 -- the number of the uncompressed bits of each of these fields is its digit
 abbrev pub HasChosen : Filling → List Chosen → Type 0

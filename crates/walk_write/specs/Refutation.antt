@@ -34,15 +34,15 @@ use Rattle.sem_filling.specs.Fits.{format_at, reference_of, vals}
 use Rattle.sem_context.specs.Entries.{bits_at}
 use Rattle.cert_rules.specs.Trees.{is_static, referred}
 use Rattle.sem_profile.specs.Resolved.{Resolved}
-use Rattle.cert_accepted.specs.declared.place.Place.{Place}
+use Rattle.cert_accepted.specs.declared.frame.AcceptedFrame.{AcceptedFrame}
 use Rattle.cert_candidates.specs.Writing.{Begins}
 use Rattle.walk_write.specs.Premises.{told_numbers}
 use Rattle.walk_write.specs.Walking.{site_of}
 
 -- ---- the reference of a field of the format
 
-abbrev pub reference_at : Place → Field → Option (List Bool)
-reference_at place d = reference_of d.declared.part (bits_at place.context.now) (below place.path.now d.declared.name) d.initial
+abbrev pub reference_at : AcceptedFrame → Field → Option (List Bool)
+reference_at place d = reference_of d.declared.part (bits_at place.frame.context.now) (below place.frame.path.now d.declared.name) d.initial
 
 -- ---- a constraint is false, whatever the fields hold
 
@@ -59,16 +59,16 @@ valued (subject.Field i) Uncompressed measure.Value = Some i
 valued _ _ _ = None
 
 -- the number of a field that is `static`, which is that of its reference, of at most 64 bits
-abbrev pub kept_number : Place → Field → Option ℤ
+abbrev pub kept_number : AcceptedFrame → Field → Option ℤ
 kept_number place d = if is_static d.encoding then referred (reference_at place d) else None
 
-abbrev pub kept_value : Place → List Field → Subject → Side → Measure → Option ℤ
+abbrev pub kept_value : AcceptedFrame → List Field → Subject → Side → Measure → Option ℤ
 kept_value place fields s side m = option_and_then (λ i. option_and_then (kept_number place) (slice_get fields i)) (valued s side m)
 
 -- the value of a number, a parameter or such a field
-abbrev pub known_operand : Place → List Field → Expr → Option ℤ
+abbrev pub known_operand : AcceptedFrame → List Field → Expr → Option ℤ
 known_operand place fields (Number s n) = Some n
-known_operand place fields (Parameter s i) = slice_get place.arguments.now i
+known_operand place fields (Parameter s i) = slice_get place.frame.arguments.now i
 known_operand place fields (expr.Attribute s t) = kept_value place fields t.subject t.side t.measure
 known_operand place fields (Binary' s op p x q y) = None
 
@@ -146,7 +146,7 @@ pub data IsOther (p : Resolved) (known : Assignment) (c : Encoding) (ref : Optio
   by_lsb : (x y : Span) (k offset : ℤ) → c ≡ encoding.Library (library.Lsb (Number x k) (Number y offset)) → IsElse (lib.lsb k offset) ref bits → IsOther p known c ref bits
 
 -- where that much is known of the fields, a header field holds no bits in front of those where it begins
-pub record Differs (place : Place) (known : Assignment) (fields : List Field) (sizes : List Sizes) (bits : List Bool) : Type 0 where
+pub record Differs (place : AcceptedFrame) (known : Assignment) (fields : List Field) (sizes : List Sizes) (bits : List Bool) : Type 0 where
   pub index : ℕ
   pub offset : ℕ
   pub field : Field
@@ -158,11 +158,11 @@ pub record Differs (place : Place) (known : Assignment) (fields : List Field) (s
 -- ---- a format that is refuted
 
 -- one of its constraints is false by the arguments and the references, or the header differs from it
-pub data IsRefuted (place : Place) (n : ℕ) (bits : List Bool) : Type 0 where
-  by_constraint : (format : Format) → format_at place.accepted.now.profile.methods place.method n ≡ Some format → HasFalse (known_operand place format.fields) format.constraints → IsRefuted place n bits
-  by_header : (format : Format) (sizes : FormatSizes) → format_at place.accepted.now.profile.methods place.method n ≡ Some format → sizes_at place.accepted.now.profile.sizes place.method n ≡ Some sizes →
-      Differs place (told_numbers format place.arguments.now []) format.fields sizes.fields bits → IsRefuted place n bits
+pub data IsRefuted (place : AcceptedFrame) (n : ℕ) (bits : List Bool) : Type 0 where
+  by_constraint : (format : Format) → format_at place.accepted.now.profile.methods place.frame.method n ≡ Some format → HasFalse (known_operand place format.fields) format.constraints → IsRefuted place n bits
+  by_header : (format : Format) (sizes : FormatSizes) → format_at place.accepted.now.profile.methods place.frame.method n ≡ Some format → sizes_at place.accepted.now.profile.sizes place.frame.method n ≡ Some sizes →
+      Differs place (told_numbers format place.frame.arguments.now []) format.fields sizes.fields bits → IsRefuted place n bits
 
 -- no filling of the format begins the bits
-abbrev pub NeverBegins : Place → ℕ → List Bool → Type 0
-NeverBegins place n bits = (asked : List AskedValue) (f : Filling) → Begins place.accepted.now.profile.methods (bits_at place.context.now) (site_of place bits asked) f → (out-Filling f).format ≡ n → ⊥
+abbrev pub NeverBegins : AcceptedFrame → ℕ → List Bool → Type 0
+NeverBegins place n bits = (asked : List AskedValue) (f : Filling) → Begins place.accepted.now.profile.methods (bits_at place.frame.context.now) (site_of place bits asked) f → (out-Filling f).format ≡ n → ⊥

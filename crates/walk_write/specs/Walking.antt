@@ -14,54 +14,54 @@ use Rattle.cert_rules.specs.Views.{view, side_at}
 use Rattle.walk_steps.specs.Partial.{Reached}
 use Rattle.walk_steps.specs.declared.fault.StepFault.{StepFault}
 use Rattle.walk_steps.specs.declared.fault.StepFault.TheVariants as step
-use Rattle.walk_steps.specs.declared.scene.Scene.{Scene}
+use Rattle.walk_steps.specs.declared.level_frame.LevelFrame.{LevelFrame}
 use Rattle.walk_steps.specs.Finding.{HaveSameInners}
-use Rattle.cert_accepted.specs.declared.place.Place.{Place}
+use Rattle.cert_accepted.specs.declared.frame.AcceptedFrame.{AcceptedFrame}
 use Rattle.cert_candidates.specs.Knowing.{writer_knows_all}
 use Rattle.cert_candidates.specs.Writing.{Site, Begins, IsChosen, NoneNumbered, IsNumbered, spot_at}
 use Rattle.walk_write.specs.declared.fault.WriteFault.{WriteFault}
 use Rattle.walk_write.specs.declared.fault.WriteFault.TheVariants.{Failed, OutOfMemory}
 
 -- where the header takes from these bits, and the asked fields have these values
-abbrev pub site_of : Place → List Bool → List AskedValue → Site
-site_of place source asked = record { method = place.method; args = place.arguments.now; path = place.path.now; source = source; asked = asked }
+abbrev pub site_of : AcceptedFrame → List Bool → List AskedValue → Site
+site_of place source asked = record { method = place.frame.method; args = place.frame.arguments.now; path = place.frame.path.now; source = source; asked = asked }
 
 -- the number is one of the method's candidates
-abbrev pub IsBelow : Place → ℕ → Type 0
-IsBelow place c = (n : ℕ) → slice_get place.accepted.now.counts place.method ≡ Some n → c < n
+abbrev pub IsBelow : AcceptedFrame → ℕ → Type 0
+IsBelow place c = (n : ℕ) → slice_get place.accepted.now.counts place.frame.method ≡ Some n → c < n
 
 -- the filling has the number c, and no other that begins the source has it
-abbrev pub IsWritten : Place → List Bool → List AskedValue → ℕ → Filling → Type 0
+abbrev pub IsWritten : AcceptedFrame → List Bool → List AskedValue → ℕ → Filling → Type 0
 IsWritten place source asked c g =
-    IsNumbered place.accepted.now.profile.methods place.accepted.now.certificate.methods place.accepted.now.counts (bits_at place.context.now) (site_of place source asked) c g
+    IsNumbered place.accepted.now.profile.methods place.accepted.now.certificate.methods place.accepted.now.counts (bits_at place.frame.context.now) (site_of place source asked) c g
 
 -- no filling that begins the source has one of so many numbers from c on, of which there are so many
-pub record Fails (place : Place) (source : List Bool) (asked : List AskedValue) (c skipped : ℕ) : Type 0 where
+pub record Fails (place : AcceptedFrame) (source : List Bool) (asked : List AskedValue) (c skipped : ℕ) : Type 0 where
   pub some : 0 < skipped
-  pub within : (n : ℕ) → slice_get place.accepted.now.counts place.method ≡ Some n → c + skipped ≤ n
-  pub none : NoneNumbered place.accepted.now.profile.methods place.accepted.now.certificate.methods place.accepted.now.counts (bits_at place.context.now) (site_of place source asked) c skipped
+  pub within : (n : ℕ) → slice_get place.accepted.now.counts place.frame.method ≡ Some n → c + skipped ≤ n
+  pub none : NoneNumbered place.accepted.now.profile.methods place.accepted.now.certificate.methods place.accepted.now.counts (bits_at place.frame.context.now) (site_of place source asked) c skipped
 
 -- no filling that begins the source has one of the numbers from c on up to this one, all of them numbers of candidates
-pub record Passes (place : Place) (source : List Bool) (asked : List AskedValue) (c next : ℕ) : Type 0 where
+pub record Passes (place : AcceptedFrame) (source : List Bool) (asked : List AskedValue) (c next : ℕ) : Type 0 where
   pub many : ℕ
   pub next_is : c + many ≡ next
   pub fail : 0 < many → Fails place source asked c many
 
 -- what a fault says
-abbrev pub Blames : WriteFault → Place → List Bool → List AskedValue → ℕ → Type 0
+abbrev pub Blames : WriteFault → AcceptedFrame → List Bool → List AskedValue → ℕ → Type 0
 Blames (Failed skipped) place source asked c = Fails place source asked c skipped
 Blames OutOfMemory place source asked c = Unit {0}
 
 -- ---- steps
 
 -- where the level stands, with these bits before its header and these values of its asked fields
-abbrev pub site_at : Scene → Reached → List Bool → List AskedValue → Site
-site_at scene l source asked = record { method = scene.method; args = l.args; path = scene.path.now; source = source; asked = asked }
+abbrev pub site_at : LevelFrame → Reached → List Bool → List AskedValue → Site
+site_at level_frame l source asked = record { method = level_frame.frame.method; args = l.args; path = level_frame.frame.path.now; source = source; asked = asked }
 
 -- a filling that begins the source, of the format, and has what the level knows
-pub record IsHere (scene : Scene) (l : Reached) (source : List Bool) (asked : List AskedValue) (f : Filling) : Type 0 where
-  pub begins : Begins scene.profile.now.methods (bits_at scene.context.now) (site_at scene l source asked) f
-  pub shows : IsLevel scene.profile.now.methods (bits_at scene.context.now) (spot_at (site_at scene l source asked)) scene.format l.format l.slots f
+pub record IsHere (level_frame : LevelFrame) (l : Reached) (source : List Bool) (asked : List AskedValue) (f : Filling) : Type 0 where
+  pub begins : Begins level_frame.frame.profile.now.methods (bits_at level_frame.frame.context.now) (site_at level_frame l source asked) f
+  pub shows : IsLevel level_frame.frame.profile.now.methods (bits_at level_frame.frame.context.now) (spot_at (site_at level_frame l source asked)) level_frame.format l.format l.slots f
 
 -- the step has a rule, and what it needs is known
 abbrev pub IsReadyToWrite : Reached → Option Rule → Type 0
@@ -84,15 +84,15 @@ BlamesStep step.Refused Theirs = (f : Filling) → Theirs f → ⊥
 BlamesStep step.OutOfMemory Theirs = Unit {0}
 
 -- those that are here with these values of their asked fields, whatever bits are before their header
-pub record HasAsked (scene : Scene) (l : Reached) (asked : List AskedValue) (f : Filling) : Type 0 where
+pub record HasAsked (level_frame : LevelFrame) (l : Reached) (asked : List AskedValue) (f : Filling) : Type 0 where
   pub source : List Bool
-  pub here : IsHere scene l source asked f
+  pub here : IsHere level_frame l source asked f
 
 -- those that are here, whatever these are, and have the digit chosen
-pub record HasChosen (scene : Scene) (l : Reached) (i n digit : ℕ) (f : Filling) : Type 0 where
+pub record HasChosen (level_frame : LevelFrame) (l : Reached) (i n digit : ℕ) (f : Filling) : Type 0 where
   pub source : List Bool
   pub asked : List AskedValue
-  pub here : IsHere scene l source asked f
+  pub here : IsHere level_frame l source asked f
   pub chosen : IsChosen n digit (side_at (view f) i Uncompressed)
 
 -- the bits of the digit are known

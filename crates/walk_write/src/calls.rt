@@ -10,35 +10,13 @@ ghost use Rattle.cert_candidates.specs.Writing.{header_offset, known_bits};
 ghost use Rattle.walk_write.specs.Going as spec;
 
 use crate::fault::WriteFault;
-use cert_accepted::{Accepted, Place};
+use cert_accepted::Accepted;
 use cert_candidates::Digits;
 use sem_bits::{Bits, Cursor};
-use sem_context::Context;
 use sem_expr::Side;
 use sem_profile::{Format, Part};
 use std::alloc::{AllocError, Global};
 use walk_steps::{Call, Partial};
-
-/// Where the called method stands.
-pub(crate) fn place_of<'x>(
-    accepted: &'x Accepted,
-    context: &'x Context,
-    call: &'x Call,
-) -> Place<'x>
-    ensures accepted { result.accepted.now ≡ accepted.now }
-    ensures context { result.context.now ≡ context.now }
-    ensures method { result.method ≡ call.now.method }
-    ensures arguments { result.arguments.now ≡ call.now.arguments }
-    ensures path { result.path.now ≡ string_bytes call.now.path }
-{
-    Place {
-        accepted,
-        context,
-        method: call.method,
-        arguments: call.arguments.as_slice(),
-        path: call.path.as_str(),
-    }
-}
 
 /// How many candidates the method has.
 pub(crate) fn radix_of(accepted: &Accepted, method: usize) -> u64

@@ -12,7 +12,7 @@ use cert_types::Plans;
 use sem_filling::Filling;
 use sem_holds::level_fits;
 use std::alloc::Global;
-use walk_steps::{Partial, Scene};
+use walk_steps::{LevelFrame, Partial};
 
 /// The plans of a format of a method.
 pub(crate) fn plans_of(accepted: &Accepted, method: usize, format: usize) -> Option<&Plans>
@@ -27,32 +27,23 @@ pub(crate) fn plans_of(accepted: &Accepted, method: usize, format: usize) -> Opt
 pub(crate) fn finish(
     alloc: Global,
     accepted: &Accepted,
-    scene: &Scene<'_>,
+    level_frame: &LevelFrame<'_>,
     level: Partial<'_>,
-    arguments: &[i128],
     digits: Digits,
 ) -> Result<Filling, WriteFault>
-    requires same { arguments.now ≡ level.args }
-    requires ended { spec.HasEnded accepted.now scene.now digits level }
-    ensures found { IfOk result (spec.Ends accepted.now scene.now digits level.entry) }
-    ensures fault { IfErr result (λ e. spec.BlamesEnd e accepted.now scene.now digits level.entry) }
+    requires same { level_frame.now.frame.arguments.now ≡ level.args }
+    requires ended { spec.HasEnded accepted.now level_frame.now digits level }
+    ensures found { IfOk result (spec.Ends accepted.now level_frame.now digits level.entry) }
+    ensures fault { IfErr result (λ e. spec.BlamesEnd e accepted.now level_frame.now digits level.entry) }
 {
     let failed = WriteFault::Failed(digits.alike());
-    let Some(filling) = level.into_filling(alloc, scene.format)? else {
+    let Some(filling) = level.into_filling(alloc, level_frame.format)? else {
         return Err(failed);
     };
-    if scene.path.is_empty() {
+    if level_frame.frame.path.is_empty() {
         return Ok(filling);
     }
-    if level_fits(
-        alloc,
-        scene.profile,
-        scene.context,
-        scene.method,
-        arguments,
-        scene.path,
-        &filling,
-    )? {
+    if level_fits(alloc, &level_frame.frame, &filling)? {
         Ok(filling)
     } else {
         Err(failed)

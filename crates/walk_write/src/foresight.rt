@@ -12,17 +12,17 @@ ghost use Rattle.walk_write.specs.Walking as walking;
 
 use crate::calls::radix_of;
 use crate::end::plans_of;
+use crate::premises::{Chosen, Premises, Values, tells_values};
 use crate::refutation::{differs, has_false, is_header, is_refuted_else, only_length};
 use crate::source::HeaderSource;
 use crate::start::start_at;
 use crate::take::asked_before;
-use crate::told::{Chosen, Premises, Values, tells_values};
-use cert_accepted::place::{format_of, sizes_of};
-use cert_accepted::{Accepted, Place};
+use cert_accepted::frame::{format_of, sizes_of};
+use cert_accepted::{Accepted, AcceptedFrame};
 use cert_candidates::{Digits, Start};
 use cert_rules::choice_of;
 use cert_types::Step;
-use sem_filling::{AskedValue, FieldPath};
+use sem_filling::{AskedValue, FieldPath, Frame};
 use sem_profile::{Encoding, Field, Format, Sizes};
 use smallvec::SmallVec;
 use sqlite_items::at;
@@ -31,11 +31,30 @@ use std::alloc::{AllocError, Global};
 /// What is chosen and asked for before a step of a plan. Most are few: these take no memory of their own.
 type Choices = SmallVec<Chosen, 8>;
 
+/// A format whose plan is looked through: where it is filled, by its index and as it is, with the bounds of its fields, and what it takes from.
+#[derive(Clone, Copy)]
+struct Outlook<'a> {
+    place: &'a AcceptedFrame<'a>,
+    index: usize,
+    format: &'a Format,
+    sizes: &'a [Sizes],
+    source: &'a HeaderSource<'a>,
+}
+
+/// A field that calls a method: by its index and as it is, with the method and the values of the arguments.
+#[derive(Clone, Copy)]
+struct CalledField<'a> {
+    index: usize,
+    field: &'a Field,
+    method: usize,
+    arguments: &'a [i128],
+}
+
 /// Goes past the candidates from this one on of which the choices, the asked values or the calls of their plan tell that they fail. They don't tell it always.
 /// Whether the next candidate is worth another look: none that share its first digits are left. The error is out of memory.
 pub(crate) fn foreseen(
     alloc: Global,
-    place: &Place<'_>,
+    place: &AcceptedFrame<'_>,
     start: Start,
     source: &HeaderSource<'_>,
     number: &mut u64,
@@ -46,27 +65,30 @@ pub(crate) fn foreseen(
     ensures past { OnOk result (walking.Passes place.now (front source.now) source.now.asked.now number.old number.new) }
     ensures further { IfOk result (λ again. IsTrue again → number.old < number.new) }
 {
-    let Some(plans) = plans_of(place.accepted, place.method, start.format) else {
+    let Some(plans) = plans_of(place.accepted, place.frame.method, start.format) else {
         return Ok(false);
     };
     if start.digits.alike() == 1 && !branches(plans.write.as_slice()) {
         return Ok(false);
     }
-    let Some(format) = format_of(place.accepted, place.method, start.format) else {
+    let Some(format) = format_of(place.accepted, place.frame.method, start.format) else {
         return Ok(false);
     };
-    let Some(sizes) = sizes_of(place.accepted, place.method, start.format) else {
+    let Some(sizes) = sizes_of(place.accepted, place.frame.method, start.format) else {
         return Ok(false);
+    };
+    let outlook = Outlook {
+        place,
+        index: start.format,
+        format,
+        sizes: sizes.fields.as_slice(),
+        source,
     };
     foreseen_in(
         alloc,
-        place,
-        start.format,
-        format,
-        sizes.fields.as_slice(),
+        &outlook,
         plans.write.as_slice(),
         start.digits,
-        source,
         number,
     )
 }
@@ -81,37 +103,22 @@ fn branches(plan: &[Step]) -> bool {
 #[inline(never)]
 fn foreseen_in(
     alloc: Global,
-    place: &Place<'_>,
-    index: usize,
-    format: &Format,
-    sizes: &[Sizes],
+    outlook: &Outlook<'_>,
     plan: &[Step],
     start: Digits,
-    source: &HeaderSource<'_>,
     number: &mut u64,
 ) -> Result<bool, AllocError>
-    requires within { IsWithin source.now }
-    requires counted { spec.IsCounted place.now }
-    requires sized { spec.HasSizes place.now index sizes.now }
-    requires seen { spec.HasSeen place.now index format.now source.now.asked.now plan.now number.old start [] }
-    ensures past { OnOk result (walking.Passes place.now (front source.now) source.now.asked.now number.old number.new) }
+    requires within { IsWithin outlook.now.source.now }
+    requires counted { spec.IsCounted outlook.now.place.now }
+    requires sized { spec.IsSized outlook.now }
+    requires seen { spec.HasSeen outlook.now.place.now outlook.now.index outlook.now.format.now outlook.now.source.now.asked.now plan.now number.old start [] }
+    ensures past { OnOk result (spec.PassesBy outlook.now number.old number.new) }
     ensures further { IfOk result (λ again. IsTrue again → number.old < number.new) }
 {
     let mut digits = start;
     let mut choices = SmallVec::new(alloc);
     for step in plan {
-        let is_over = foreseen_step(
-            alloc,
-            place,
-            index,
-            format,
-            sizes,
-            *step,
-            &mut digits,
-            &mut choices,
-            source,
-            number,
-        )?;
+        let is_over = foreseen_step(alloc, outlook, *step, &mut digits, &mut choices, number)?;
         if is_over {
             return Ok(true);
         }
@@ -123,50 +130,32 @@ fn foreseen_in(
 /// Whether none of those that share the digits are left.
 fn foreseen_step(
     alloc: Global,
-    place: &Place<'_>,
-    index: usize,
-    format: &Format,
-    sizes: &[Sizes],
+    outlook: &Outlook<'_>,
     step: Step,
     digits: &mut Digits,
     choices: &mut Choices,
-    source: &HeaderSource<'_>,
     number: &mut u64,
 ) -> Result<bool, AllocError>
-    requires within { IsWithin source.now }
-    requires counted { spec.IsCounted place.now }
-    requires sized { spec.HasSizes place.now index sizes.now }
-    requires stands { spec.StandsBefore place.now index format.now source.now.asked.now step number.old digits.old choices.old.items }
-    ensures past { OnOk result (walking.Passes place.now (front source.now) source.now.asked.now number.old number.new) }
+    requires within { IsWithin outlook.now.source.now }
+    requires counted { spec.IsCounted outlook.now.place.now }
+    requires sized { spec.IsSized outlook.now }
+    requires stands { spec.StandsAt outlook.now step number.old digits.old choices.old.items }
+    ensures past { OnOk result (spec.PassesBy outlook.now number.old number.new) }
     ensures over { IfOk result (λ is. IsTrue is → number.old < number.new) }
-    ensures on { IfOk result (λ is. is ≡ false → spec.SeesFrom place.now index format.now source.now.asked.now step number.old digits.old choices.old.items number.new digits.new choices.new.items) }
+    ensures on { IfOk result (λ is. is ≡ false → spec.ReadsFrom outlook.now step number.old digits.old choices.old.items number.new digits.new choices.new.items) }
 {
     match step {
         Step::Call(field) => foreseen_call(
             alloc,
-            place,
-            index,
-            format,
+            outlook,
             field,
             digits,
             choices.as_slice(),
-            source,
             number,
         ),
-        Step::Choose(field) => foreseen_choice(
-            alloc, place, index, format, sizes, field, digits, choices, source, number,
-        ),
+        Step::Choose(field) => foreseen_choice(alloc, outlook, field, digits, choices, number),
         Step::Ask(field) => {
-            note_asked(
-                place,
-                index,
-                format,
-                field,
-                *digits,
-                choices,
-                source.asked,
-                *number,
-            )?;
+            note_asked(outlook, field, *digits, choices, *number)?;
             Ok(false)
         }
         _ => Ok(false),
@@ -176,41 +165,36 @@ fn foreseen_step(
 /// The same for a choice.
 fn foreseen_choice(
     alloc: Global,
-    place: &Place<'_>,
-    index: usize,
-    format: &Format,
-    sizes: &[Sizes],
+    outlook: &Outlook<'_>,
     field: usize,
     digits: &mut Digits,
     choices: &mut Choices,
-    source: &HeaderSource<'_>,
     number: &mut u64,
 ) -> Result<bool, AllocError>
-    requires within { IsWithin source.now }
-    requires counted { spec.IsCounted place.now }
-    requires sized { spec.HasSizes place.now index sizes.now }
-    requires stands { spec.StandsBefore place.now index format.now source.now.asked.now (steps.Choose field) number.old digits.old choices.old.items }
-    ensures past { OnOk result (walking.Passes place.now (front source.now) source.now.asked.now number.old number.new) }
+    requires within { IsWithin outlook.now.source.now }
+    requires counted { spec.IsCounted outlook.now.place.now }
+    requires sized { spec.IsSized outlook.now }
+    requires stands { spec.StandsAt outlook.now (steps.Choose field) number.old digits.old choices.old.items }
+    ensures past { OnOk result (spec.PassesBy outlook.now number.old number.new) }
     ensures over { IfOk result (λ is. IsTrue is → number.old < number.new) }
-    ensures on { IfOk result (λ is. is ≡ false → spec.SeesFrom place.now index format.now source.now.asked.now (steps.Choose field) number.old digits.old choices.old.items number.new digits.new choices.new.items) }
+    ensures on { IfOk result (λ is. is ≡ false → spec.ReadsFrom outlook.now (steps.Choose field) number.old digits.old choices.old.items number.new digits.new choices.new.items) }
 {
-    read_choice(
-        alloc,
-        place,
-        index,
-        format,
-        field,
-        digits,
-        choices,
-        source.asked,
-        *number,
-    )?;
+    read_choice(alloc, outlook, field, digits, choices, *number)?;
+    let place = outlook.place;
     let told = Premises {
-        format,
-        arguments: place.arguments,
+        format: outlook.format,
+        arguments: place.frame.arguments,
         choices: choices.as_slice(),
     };
-    let has_other = differs(alloc, place, &told, sizes, source.cursor, source.from)?;
+    let source = outlook.source;
+    let has_other = differs(
+        alloc,
+        outlook.place,
+        &told,
+        outlook.sizes,
+        source.cursor,
+        source.from,
+    )?;
     if has_other {
         *number += digits.alike();
     }
@@ -220,40 +204,25 @@ fn foreseen_choice(
 /// The same for a call.
 fn foreseen_call(
     alloc: Global,
-    place: &Place<'_>,
-    index: usize,
-    format: &Format,
+    outlook: &Outlook<'_>,
     field: usize,
     digits: &mut Digits,
     choices: &[Chosen],
-    source: &HeaderSource<'_>,
     number: &mut u64,
 ) -> Result<bool, AllocError>
-    requires within { IsWithin source.now }
-    requires counted { spec.IsCounted place.now }
-    requires stands { spec.StandsBefore place.now index format.now source.now.asked.now (steps.Call field) number.old digits.old choices.now }
-    ensures past { OnOk result (walking.Passes place.now (front source.now) source.now.asked.now number.old number.new) }
+    requires within { IsWithin outlook.now.source.now }
+    requires counted { spec.IsCounted outlook.now.place.now }
+    requires sized { spec.IsSized outlook.now }
+    requires stands { spec.StandsAt outlook.now (steps.Call field) number.old digits.old choices.now }
+    ensures past { OnOk result (spec.PassesBy outlook.now number.old number.new) }
     ensures over { IfOk result (λ is. IsTrue is → number.old < number.new) }
-    ensures on { IfOk result (λ is. is ≡ false → spec.SeesFrom place.now index format.now source.now.asked.now (steps.Call field) number.old digits.old choices.now number.new digits.new choices.now) }
+    ensures on { IfOk result (λ is. is ≡ false → spec.ReadsFrom outlook.now (steps.Call field) number.old digits.old choices.now number.new digits.new choices.now) }
 {
-    let told = refuted_by_call(
-        alloc, place, index, format, field, *digits, choices, source, *number,
-    )?;
+    let told = refuted_by_call(alloc, outlook, field, *digits, choices, *number)?;
     match told {
-        Some(many) => Ok(goes_past(
-            place, index, format, field, digits, choices, source, number, many,
-        )),
+        Some(many) => Ok(goes_past(outlook, field, digits, choices, number, many)),
         None => {
-            read_call(
-                place,
-                index,
-                format,
-                field,
-                digits,
-                choices,
-                source.asked,
-                *number,
-            );
+            read_call(outlook, field, digits, choices, *number);
             Ok(false)
         }
     }
@@ -261,57 +230,42 @@ fn foreseen_call(
 
 /// The same where so many candidates fail.
 fn goes_past(
-    place: &Place<'_>,
-    index: usize,
-    format: &Format,
+    outlook: &Outlook<'_>,
     field: usize,
     digits: &mut Digits,
     choices: &[Chosen],
-    source: &HeaderSource<'_>,
     number: &mut u64,
     many: u64,
 ) -> bool
-    requires within { IsWithin source.now }
-    requires counted { spec.IsCounted place.now }
-    requires stands { spec.StandsBefore place.now index format.now source.now.asked.now (steps.Call field) number.old digits.old choices.now }
-    requires fail { walking.Fails place.now (front source.now) source.now.asked.now number.old many }
-    ensures past { walking.Passes place.now (front source.now) source.now.asked.now number.old number.new }
+    requires within { IsWithin outlook.now.source.now }
+    requires counted { spec.IsCounted outlook.now.place.now }
+    requires stands { spec.StandsAt outlook.now (steps.Call field) number.old digits.old choices.now }
+    requires fail { spec.FailsFrom outlook.now number.old many }
+    ensures past { spec.PassesBy outlook.now number.old number.new }
     ensures over { IsTrue result → number.old < number.new }
-    ensures on { result ≡ false → spec.SeesFrom place.now index format.now source.now.asked.now (steps.Call field) number.old digits.old choices.now number.new digits.new choices.now }
+    ensures on { result ≡ false → spec.ReadsFrom outlook.now (steps.Call field) number.old digits.old choices.now number.new digits.new choices.now }
 {
     *number += many;
     if many >= digits.alike() {
         return true;
     }
     digits.skip(many);
-    read_call(
-        place,
-        index,
-        format,
-        field,
-        digits,
-        choices,
-        source.asked,
-        *number,
-    );
+    read_call(outlook, field, digits, choices, *number);
     false
 }
 
 /// Notes the number of an asked field's value, where that is told.
 fn note_asked(
-    place: &Place<'_>,
-    index: usize,
-    format: &Format,
+    outlook: &Outlook<'_>,
     field: usize,
     digits: Digits,
     choices: &mut Choices,
-    asked: &[AskedValue],
     number: u64,
 ) -> Result<(), AllocError>
-    requires stands { spec.StandsBefore place.now index format.now asked.now (steps.Ask field) number digits choices.old.items }
-    ensures { OnOk result (spec.SeesOn place.now index format.now asked.now (steps.Ask field) number digits choices.old.items digits choices.new.items) }
+    requires stands { spec.StandsAt outlook.now (steps.Ask field) number digits choices.old.items }
+    ensures { OnOk result (spec.ReadsOn outlook.now (steps.Ask field) number digits choices.old.items digits choices.new.items) }
 {
-    let Some(digit) = asked_digit(format, field, asked) else {
+    let Some(digit) = asked_digit(outlook.format, field, outlook.source.asked) else {
         return Ok(());
     };
     choices.push(Chosen { field, digit })?;
@@ -332,19 +286,16 @@ fn asked_digit(format: &Format, field: usize, asked: &[AskedValue]) -> Option<u6
 /// Reads the digit of a choice.
 fn read_choice(
     alloc: Global,
-    place: &Place<'_>,
-    index: usize,
-    format: &Format,
+    outlook: &Outlook<'_>,
     field: usize,
     digits: &mut Digits,
     choices: &mut Choices,
-    asked: &[AskedValue],
     number: u64,
 ) -> Result<(), AllocError>
-    requires stands { spec.StandsBefore place.now index format.now asked.now (steps.Choose field) number digits.old choices.old.items }
-    ensures { OnOk result (spec.SeesOn place.now index format.now asked.now (steps.Choose field) number digits.old choices.old.items digits.new choices.new.items) }
+    requires stands { spec.StandsAt outlook.now (steps.Choose field) number digits.old choices.old.items }
+    ensures { OnOk result (spec.ReadsOn outlook.now (steps.Choose field) number digits.old choices.old.items digits.new choices.new.items) }
 {
-    let Some(width) = choice_of(alloc, format, field) else {
+    let Some(width) = choice_of(alloc, outlook.format, field) else {
         return Ok(());
     };
     let digit = digits.next(1 << width);
@@ -354,19 +305,16 @@ fn read_choice(
 
 /// Reads the digit of a call.
 fn read_call(
-    place: &Place<'_>,
-    index: usize,
-    format: &Format,
+    outlook: &Outlook<'_>,
     field: usize,
     digits: &mut Digits,
     choices: &[Chosen],
-    asked: &[AskedValue],
     number: u64,
 )
-    requires stands { spec.StandsBefore place.now index format.now asked.now (steps.Call field) number digits.old choices.now }
-    ensures { spec.SeesOn place.now index format.now asked.now (steps.Call field) number digits.old choices.now digits.new choices.now }
+    requires stands { spec.StandsAt outlook.now (steps.Call field) number digits.old choices.now }
+    ensures { spec.ReadsOn outlook.now (steps.Call field) number digits.old choices.now digits.new choices.now }
 {
-    let _digit = digits.next(ways_of(place.accepted, format, field));
+    let _digit = digits.next(ways_of(outlook.place.accepted, outlook.format, field));
 }
 
 /// In how many ways the call of a field goes on, 1 where it calls nothing.
@@ -389,28 +337,27 @@ fn ways_of(accepted: &Accepted, format: &Format, field: usize) -> u64
 /// How many candidates from this one on fail, where the call that comes next tells it.
 fn refuted_by_call(
     alloc: Global,
-    place: &Place<'_>,
-    index: usize,
-    format: &Format,
+    outlook: &Outlook<'_>,
     field: usize,
     before: Digits,
     choices: &[Chosen],
-    source: &HeaderSource<'_>,
     number: u64,
 ) -> Result<Option<u64>, AllocError>
-    requires within { IsWithin source.now }
-    requires stands { spec.StandsBefore place.now index format.now source.now.asked.now (steps.Call field) number before choices.now }
-    ensures { IfOk result (λ o. IfSome o (walking.Fails place.now (front source.now) source.now.asked.now number)) }
+    requires within { IsWithin outlook.now.source.now }
+    requires sized { spec.IsSized outlook.now }
+    requires stands { spec.StandsAt outlook.now (steps.Call field) number before choices.now }
+    ensures { IfOk result (λ o. IfSome o (spec.FailsFrom outlook.now number)) }
 {
-    let Some(called) = at(format.fields.as_slice(), field) else {
+    let Some(found) = at(outlook.format.fields.as_slice(), field) else {
         return Ok(None);
     };
-    let Encoding::Call { method, arguments } = called.encoding.get() else {
+    let Encoding::Call { method, arguments } = found.encoding.get() else {
         return Ok(None);
     };
+    let place = outlook.place;
     let told = Premises {
-        format,
-        arguments: place.arguments,
+        format: outlook.format,
+        arguments: place.frame.arguments,
         choices,
     };
     let mut values = Values::new(alloc);
@@ -418,23 +365,16 @@ fn refuted_by_call(
     if !are_told {
         return Ok(None);
     }
-    let radix = radix_of(place.accepted, *method);
+    let called = CalledField {
+        index: field,
+        field: found,
+        method: *method,
+        arguments: values.as_slice(),
+    };
+    let radix = radix_of(outlook.place.accepted, *method);
     let mut digits = before;
     let digit = digits.next(radix);
-    let Some(many) = refuted_inside(
-        alloc,
-        place,
-        index,
-        format,
-        field,
-        called,
-        *method,
-        values.as_slice(),
-        digit,
-        radix,
-        source,
-    )?
-    else {
+    let Some(many) = refuted_inside(alloc, outlook, &called, digit, radix)? else {
         return Ok(None);
     };
     Ok(Some(digits.alike_up_to(many)))
@@ -443,29 +383,21 @@ fn refuted_by_call(
 /// How many candidates of the called method from this one on are of formats of which no filling is inside the field.
 fn refuted_inside(
     alloc: Global,
-    place: &Place<'_>,
-    index: usize,
-    format: &Format,
-    field: usize,
-    called: &Field,
-    method: usize,
-    arguments: &[i128],
+    outlook: &Outlook<'_>,
+    called: &CalledField<'_>,
     number: u64,
     count: u64,
-    source: &HeaderSource<'_>,
 ) -> Result<Option<u64>, AllocError>
-    requires within { IsWithin source.now }
-    requires there { method < length place.now.accepted.now.profile.methods }
+    requires within { IsWithin outlook.now.source.now }
+    requires sized { spec.IsSized outlook.now }
+    requires there { called.now.method < length outlook.now.place.now.accepted.now.profile.methods }
     requires below { number < count }
-    requires counted { slice_get place.now.accepted.now.counts method ≡ Some count }
-    ensures { IfOk result (λ o. IfSome o (λ many. spec.AreRefutedInside place.now index format.now field called.now method arguments.now number many (front source.now))) }
+    requires counted { slice_get outlook.now.place.now.accepted.now.counts called.now.method ≡ Some count }
+    ensures { IfOk result (λ o. IfSome o (λ many. spec.RefutesAllInside outlook.now called.now number many)) }
 {
     let mut next = number;
     while next < count {
-        let Some(many) = alike_inside(
-            alloc, place, index, format, field, called, method, arguments, next, source,
-        )?
-        else {
+        let Some(many) = alike_inside(alloc, outlook, called, next)? else {
             return Ok(between(number, next));
         };
         next += many;
@@ -488,44 +420,32 @@ pub(crate) fn between(first: u64, next: u64) -> Option<u64>
 /// How many candidates of the called method from this one on are of its format, where no filling of that is inside the field.
 fn alike_inside(
     alloc: Global,
-    place: &Place<'_>,
-    index: usize,
-    format: &Format,
-    field: usize,
-    called: &Field,
-    method: usize,
-    arguments: &[i128],
+    outlook: &Outlook<'_>,
+    called: &CalledField<'_>,
     number: u64,
-    source: &HeaderSource<'_>,
 ) -> Result<Option<u64>, AllocError>
-    requires within { IsWithin source.now }
-    requires there { method < length place.now.accepted.now.profile.methods }
-    requires below { (n : ℕ) → slice_get place.now.accepted.now.counts method ≡ Some n → number < n }
-    ensures { IfOk result (λ o. IfSome o (λ many. spec.AreRefutedInside place.now index format.now field called.now method arguments.now number many (front source.now))) }
+    requires within { IsWithin outlook.now.source.now }
+    requires sized { spec.IsSized outlook.now }
+    requires there { called.now.method < length outlook.now.place.now.accepted.now.profile.methods }
+    requires below { (n : ℕ) → slice_get outlook.now.place.now.accepted.now.counts called.now.method ≡ Some n → number < n }
+    ensures { IfOk result (λ o. IfSome o (λ many. spec.RefutesAllInside outlook.now called.now number many)) }
 {
+    let place = outlook.place;
     // Its path is that of the field, which is made where it is looked at.
-    let inner = Place {
+    let inner = AcceptedFrame {
         accepted: place.accepted,
-        context: place.context,
-        method,
-        arguments,
-        path: place.path,
+        frame: Frame {
+            profile: place.frame.profile,
+            context: place.frame.context,
+            method: called.method,
+            arguments: called.arguments,
+            path: place.frame.path,
+        },
     };
     let Some(start) = start_at(&inner, number) else {
         return Ok(None);
     };
-    let is_told = is_refuted_inside(
-        alloc,
-        place,
-        index,
-        format,
-        field,
-        called,
-        method,
-        arguments,
-        start.format,
-        source,
-    )?;
+    let is_told = is_refuted_inside(alloc, outlook, called, start.format)?;
     if is_told {
         Ok(Some(start.digits.alike()))
     } else {
@@ -536,46 +456,43 @@ fn alike_inside(
 /// Whether the arguments or the header tell that no filling of this format of the called method is inside the field. They don't tell it always.
 fn is_refuted_inside(
     alloc: Global,
-    place: &Place<'_>,
-    index: usize,
-    format: &Format,
-    field: usize,
-    called: &Field,
-    method: usize,
-    arguments: &[i128],
+    outlook: &Outlook<'_>,
+    called: &CalledField<'_>,
     inside: usize,
-    source: &HeaderSource<'_>,
 ) -> Result<bool, AllocError>
-    requires within { IsWithin source.now }
-    ensures { IfOk result (λ told. IsTrue told → spec.IsRefutedInside place.now index format.now field called.now method arguments.now inside (front source.now)) }
+    requires within { IsWithin outlook.now.source.now }
+    requires sized { spec.IsSized outlook.now }
+    ensures { IfOk result (λ told. IsTrue told → spec.RefutesInside outlook.now called.now inside) }
 {
-    let Some(found) = format_of(place.accepted, method, inside) else {
+    let place = outlook.place;
+    let Some(found) = format_of(place.accepted, called.method, inside) else {
         return Ok(false);
     };
-    if has_false(found.constraints.as_slice(), arguments) {
+    if has_false(found.constraints.as_slice(), called.arguments) {
         return Ok(true);
     }
-    if !is_header(called) {
+    if !is_header(called.field) {
         return Ok(false);
     }
-    let Some(sizes) = sizes_of(place.accepted, place.method, index) else {
-        return Ok(false);
-    };
+    let source = outlook.source;
     let Some(offset) = offset_of(
-        format.fields.as_slice(),
-        sizes.fields.as_slice(),
-        field,
+        outlook.format.fields.as_slice(),
+        outlook.sizes,
+        called.index,
         source.cursor.rest() - source.from,
     ) else {
         return Ok(false);
     };
-    let path = FieldPath::of(alloc, place.path, called.declared.name.as_str())?;
-    let there = Place {
+    let path = FieldPath::of(alloc, place.frame.path, called.field.declared.name.as_str())?;
+    let there = AcceptedFrame {
         accepted: place.accepted,
-        context: place.context,
-        method,
-        arguments,
-        path: path.as_str(),
+        frame: Frame {
+            profile: place.frame.profile,
+            context: place.frame.context,
+            method: called.method,
+            arguments: called.arguments,
+            path: path.as_str(),
+        },
     };
     is_refuted_else(
         alloc,

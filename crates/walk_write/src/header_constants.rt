@@ -7,15 +7,22 @@ ghost use Rattle.sem_profile.specs.Resolved.{Resolved};
 ghost use Rattle.walk_write.specs.Refutation as spec;
 ghost use Rattle.walk_write.specs.Premises.{numbers};
 
+use crate::premises::{Premises, Values, tells_values};
 use crate::refutation::{has_false, is_header, only_length};
-use crate::told::{Premises, Values, tells_values};
 use cert_accepted::Accepted;
-use cert_accepted::place::{format_of, sizes_of};
+use cert_accepted::frame::{format_of, sizes_of};
 use sem_bits::Cursor;
 use sem_expr::Expr;
 use sem_profile::{Encoding, Library, Sizes};
 use sqlite_items::at;
 use std::alloc::{AllocError, Global};
+
+/// A call of a method with these arguments.
+#[derive(Clone, Copy)]
+struct MethodCall<'a> {
+    method: usize,
+    arguments: &'a [Expr],
+}
 
 /// Whether a field of this encoding can't hold the bits that come next there: its constant is told and isn't there, or the method that it calls has one format,
 /// one of whose constraints is false by the arguments, or one of whose header fields lacks its constant. Calls without arguments aren't looked into, and no more
@@ -36,21 +43,18 @@ pub(crate) fn lacks(
 {
     match encoding {
         Encoding::Library(library) => Ok(lacks_constant(told, library, source, begin)),
-        Encoding::Call { method, arguments } => lacks_inside(
-            depth,
-            alloc,
-            accepted,
-            told,
-            *method,
-            arguments.as_slice(),
-            source,
-            begin,
-        ),
+        Encoding::Call { method, arguments } => {
+            let call = MethodCall {
+                method: *method,
+                arguments: arguments.as_slice(),
+            };
+            lacks_inside(depth, alloc, accepted, told, &call, source, begin)
+        }
         Encoding::Bare => Ok(false),
     }
 }
 
-/// The same for a call of the method.
+/// The same for a call.
 #[cycle(lacking)]
 #[inline(never)]
 fn lacks_inside(
@@ -58,29 +62,28 @@ fn lacks_inside(
     alloc: Global,
     accepted: &Accepted,
     told: &Premises<'_>,
-    method: usize,
-    arguments: &[Expr],
+    call: &MethodCall<'_>,
     source: &Cursor<'_>,
     begin: usize,
 ) -> Result<bool, AllocError>
     requires within { begin ≤ length source.now.left }
-    ensures { IfOk result (λ is. IsTrue is → spec.Lacks accepted.now.profile (numbers told.now) (Encoding.Call method arguments.now) (drop begin source.now.left)) }
+    ensures { IfOk result (λ is. IsTrue is → spec.Lacks accepted.now.profile (numbers told.now) (Encoding.Call call.now.method call.now.arguments.now) (drop begin source.now.left)) }
 {
-    if depth == 0 || arguments.is_empty() || has_more(accepted, method) {
+    if depth == 0 || call.arguments.is_empty() || has_more(accepted, call.method) {
         return Ok(false);
     }
     let mut values = Values::new(alloc);
-    let are_told = tells_values(told, arguments, &mut values)?;
+    let are_told = tells_values(told, call.arguments, &mut values)?;
     if !are_told {
         return Ok(false);
     }
-    let Some(format) = format_of(accepted, method, 0) else {
+    let Some(format) = format_of(accepted, call.method, 0) else {
         return Ok(false);
     };
     if has_false(format.constraints.as_slice(), values.as_slice()) {
         return Ok(true);
     }
-    let Some(sizes) = sizes_of(accepted, method, 0) else {
+    let Some(sizes) = sizes_of(accepted, call.method, 0) else {
         return Ok(false);
     };
     let inner = Premises {

@@ -11,7 +11,7 @@ use crate::foresight::{between, foreseen};
 use crate::refutation::is_refuted;
 use crate::source::HeaderSource;
 use crate::start::start_at;
-use cert_accepted::Place;
+use cert_accepted::AcceptedFrame;
 use cert_candidates::Start;
 use sqlite_items::at;
 use std::alloc::{AllocError, Global};
@@ -21,7 +21,7 @@ use std::alloc::{AllocError, Global};
 /// one after those that fail nothing was told, if there is one. The error is out of memory.
 pub fn refuted(
     alloc: Global,
-    place: &Place<'_>,
+    place: &AcceptedFrame<'_>,
     source: &HeaderSource<'_>,
     number: u64,
 ) -> Result<Option<u64>, AllocError>
@@ -45,19 +45,19 @@ pub fn refuted(
 }
 
 /// How many candidates the method has.
-fn count_of(place: &Place<'_>) -> u64
+fn count_of(place: &AcceptedFrame<'_>) -> u64
     requires stands { Stands place.now }
-    ensures { slice_get place.now.accepted.now.counts place.now.method ≡ Some result }
+    ensures { slice_get place.now.accepted.now.counts place.now.frame.method ≡ Some result }
 {
     place.accepted.keeps();
     place.accepted.profile().keeps();
-    radix_of(place.accepted, place.method)
+    radix_of(place.accepted, place.frame.method)
 }
 
 /// How many candidates fail from a number on that begins so, where a look at it tells that.
 pub(crate) fn refuted_from(
     alloc: Global,
-    place: &Place<'_>,
+    place: &AcceptedFrame<'_>,
     start: Start,
     source: &HeaderSource<'_>,
     number: u64,
@@ -76,7 +76,7 @@ pub(crate) fn refuted_from(
 #[inline(never)]
 fn look_from(
     alloc: Global,
-    place: &Place<'_>,
+    place: &AcceptedFrame<'_>,
     start: Start,
     source: &HeaderSource<'_>,
     number: &mut u64,
@@ -100,8 +100,8 @@ fn look_from(
 }
 
 /// Whether so many candidates are all of the format. What the arguments, the header and the context tell of a format was looked at for the first of them.
-fn is_first(place: &Place<'_>, format: usize, alike: u64) -> bool {
-    match at(place.accepted.spans(), place.method) {
+fn is_first(place: &AcceptedFrame<'_>, format: usize, alike: u64) -> bool {
+    match at(place.accepted.spans(), place.frame.method) {
         Some(spans) => spans.get(format) == Some(&alike),
         None => true,
     }

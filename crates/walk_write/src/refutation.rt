@@ -10,9 +10,9 @@ ghost use Rattle.walk_write.specs.Refutation as spec;
 ghost use Rattle.walk_write.specs.Premises.{numbers};
 
 use crate::header_constants::{has_more, lacks};
-use crate::told::Premises;
-use cert_accepted::place::{format_of, sizes_of};
-use cert_accepted::{Accepted, Place};
+use crate::premises::Premises;
+use cert_accepted::frame::{format_of, sizes_of};
+use cert_accepted::{Accepted, AcceptedFrame};
 use sem_bits::{Bits, Cursor};
 use sem_expr::{Attribute, Cond, Expr, Measure, Side, Subject, compares};
 use sem_filling::whole_sides::reference_below;
@@ -26,7 +26,7 @@ use std::alloc::{AllocError, Global};
 /// Whether the arguments, or the header and the context, tell that no filling of the format fits. They don't tell it always. The error is out of memory.
 pub(crate) fn is_refuted(
     alloc: Global,
-    place: &Place<'_>,
+    place: &AcceptedFrame<'_>,
     format: usize,
     source: &Cursor<'_>,
     from: usize,
@@ -34,10 +34,10 @@ pub(crate) fn is_refuted(
     requires within { from ≤ length source.now.left }
     ensures { IfOk result (λ is. IsTrue is → spec.IsRefuted place.now format (drop from source.now.left)) }
 {
-    let Some(found) = format_of(place.accepted, place.method, format) else {
+    let Some(found) = format_of(place.accepted, place.frame.method, format) else {
         return Ok(false);
     };
-    if has_false(found.constraints.as_slice(), place.arguments) {
+    if has_false(found.constraints.as_slice(), place.frame.arguments) {
         return Ok(true);
     }
     is_refuted_else(alloc, place, found, format, source, from)
@@ -47,26 +47,26 @@ pub(crate) fn is_refuted(
 #[inline(never)]
 pub(crate) fn is_refuted_else(
     alloc: Global,
-    place: &Place<'_>,
+    place: &AcceptedFrame<'_>,
     found: &Format,
     format: usize,
     source: &Cursor<'_>,
     from: usize,
 ) -> Result<bool, AllocError>
     requires within { from ≤ length source.now.left }
-    requires found { format_at place.now.accepted.now.profile.methods place.now.method format ≡ Some found.now }
+    requires found { format_at place.now.accepted.now.profile.methods place.now.frame.method format ≡ Some found.now }
     ensures { IfOk result (λ is. IsTrue is → spec.IsRefuted place.now format (drop from source.now.left)) }
 {
     let is_contrary = contradicts(alloc, place, found)?;
     if is_contrary {
         return Ok(true);
     }
-    let Some(sizes) = sizes_of(place.accepted, place.method, format) else {
+    let Some(sizes) = sizes_of(place.accepted, place.frame.method, format) else {
         return Ok(false);
     };
     let told = Premises {
         format: found,
-        arguments: place.arguments,
+        arguments: place.frame.arguments,
         choices: &[],
     };
     differs(alloc, place, &told, sizes.fields.as_slice(), source, from)
@@ -74,7 +74,11 @@ pub(crate) fn is_refuted_else(
 
 /// Whether one of the format's constraints is false by the arguments and by the references of `static` fields, whatever the fields hold. Those that have
 /// arguments alone aren't looked at. The error is out of memory.
-fn contradicts(alloc: Global, place: &Place<'_>, format: &Format) -> Result<bool, AllocError>
+fn contradicts(
+    alloc: Global,
+    place: &AcceptedFrame<'_>,
+    format: &Format,
+) -> Result<bool, AllocError>
     ensures { IfOk result (λ is. IsTrue is → spec.HasFalse (spec.known_operand place.now format.now.fields) format.now.constraints) }
 {
     for constraint in format.constraints.as_slice() {
@@ -95,7 +99,7 @@ fn contradicts(alloc: Global, place: &Place<'_>, format: &Format) -> Result<bool
 
 fn is_contradicted(
     alloc: Global,
-    place: &Place<'_>,
+    place: &AcceptedFrame<'_>,
     fields: &[Field],
     condition: &Cond,
 ) -> Result<bool, AllocError>
@@ -129,7 +133,7 @@ fn is_by_arguments(left: &Expr, right: &Expr) -> bool {
 /// The value of a number, a parameter or a `static` field. The error is out of memory.
 fn known_operand(
     alloc: Global,
-    place: &Place<'_>,
+    place: &AcceptedFrame<'_>,
     fields: &[Field],
     expr: &Expr,
 ) -> Result<Option<i128>, AllocError>
@@ -137,7 +141,7 @@ fn known_operand(
 {
     match expr {
         Expr::Number(_, number) => Ok(Some(*number)),
-        Expr::Parameter(_, index) => Ok(place.arguments.get(*index).copied()),
+        Expr::Parameter(_, index) => Ok(place.frame.arguments.get(*index).copied()),
         Expr::Attribute(_, attribute) => kept_value(alloc, place, fields, *attribute),
         Expr::Binary(_, _, _, _) => Ok(None),
     }
@@ -145,7 +149,7 @@ fn known_operand(
 
 fn kept_value(
     alloc: Global,
-    place: &Place<'_>,
+    place: &AcceptedFrame<'_>,
     fields: &[Field],
     attribute: Attribute,
 ) -> Result<Option<i128>, AllocError>
@@ -177,13 +181,17 @@ fn valued(attribute: Attribute) -> Option<usize>
 }
 
 /// The number of a `static` field, by its reference. The error is out of memory.
-fn kept_number(alloc: Global, place: &Place<'_>, field: &Field) -> Result<Option<i128>, AllocError>
+fn kept_number(
+    alloc: Global,
+    place: &AcceptedFrame<'_>,
+    field: &Field,
+) -> Result<Option<i128>, AllocError>
     ensures { IfOk result (λ o. o ≡ spec.kept_number place.now field.now) }
 {
     if !is_static(field.encoding.get()) {
         return Ok(None);
     }
-    match reference_below(alloc, place.context, place.path, field)? {
+    match reference_below(alloc, place.frame.context, place.frame.path, field)? {
         Some(reference) => Ok(number_of(reference)),
         None => Ok(None),
     }
@@ -266,7 +274,7 @@ fn operand(expr: &Expr, arguments: &[i128]) -> Option<i128>
 #[inline(always)]
 pub(crate) fn differs(
     alloc: Global,
-    place: &Place<'_>,
+    place: &AcceptedFrame<'_>,
     told: &Premises<'_>,
     sizes: &[Sizes],
     source: &Cursor<'_>,
@@ -325,7 +333,7 @@ pub(crate) fn only_length(bounds: Bounds, most: usize) -> Option<usize>
 #[inline(always)]
 fn is_other(
     alloc: Global,
-    place: &Place<'_>,
+    place: &AcceptedFrame<'_>,
     told: &Premises<'_>,
     field: &Field,
     source: &Cursor<'_>,
@@ -360,7 +368,7 @@ fn is_telling(accepted: &Accepted, told: &Premises<'_>, encoding: &Encoding) -> 
 #[inline(never)]
 fn is_other_at(
     alloc: Global,
-    place: &Place<'_>,
+    place: &AcceptedFrame<'_>,
     told: &Premises<'_>,
     field: &Field,
     source: &Cursor<'_>,
@@ -392,7 +400,7 @@ fn is_other_at(
 #[inline(always)]
 fn lacks_news(
     alloc: Global,
-    place: &Place<'_>,
+    place: &AcceptedFrame<'_>,
     told: &Premises<'_>,
     encoding: &Encoding,
     source: &Cursor<'_>,
@@ -421,7 +429,7 @@ fn lacks_news(
 #[inline(never)]
 fn is_changed(
     alloc: Global,
-    place: &Place<'_>,
+    place: &AcceptedFrame<'_>,
     field: &Field,
     source: &Cursor<'_>,
     begin: usize,
@@ -429,7 +437,8 @@ fn is_changed(
     requires within { begin ≤ length source.now.left }
     ensures { IfOk result (λ is. IsTrue is → (known : Assignment) → spec.IsOther place.now.accepted.now.profile known (Encoding.Library Library.Static) (spec.reference_at place.now field.now) (drop begin source.now.left)) }
 {
-    let Some(reference) = reference_below(alloc, place.context, place.path, field)? else {
+    let Some(reference) = reference_below(alloc, place.frame.context, place.frame.path, field)?
+    else {
         return Ok(true);
     };
     Ok(!is_there(reference, source, begin))
@@ -453,7 +462,7 @@ fn is_there(bits: &Bits, source: &Cursor<'_>, begin: usize) -> bool
 #[inline(never)]
 fn is_far(
     alloc: Global,
-    place: &Place<'_>,
+    place: &AcceptedFrame<'_>,
     field: &Field,
     bits: &Expr,
     offset: &Expr,
@@ -469,7 +478,8 @@ fn is_far(
     let Expr::Number(_, ahead) = offset else {
         return Ok(false);
     };
-    let Some(reference) = reference_below(alloc, place.context, place.path, field)? else {
+    let Some(reference) = reference_below(alloc, place.frame.context, place.frame.path, field)?
+    else {
         return Ok(true);
     };
     is_beyond(alloc, *count, *ahead, reference, source, begin)

@@ -18,7 +18,7 @@ use cert_candidates::Digits;
 use cert_rules::choice_of;
 use cert_types::Step;
 use std::alloc::Global;
-use walk_steps::{Partial, Scene, StepFault, common_step};
+use walk_steps::{LevelFrame, Partial, StepFault, common_step};
 
 /// The fault of a walk whose step has that fault, where the candidate takes so many with it.
 pub(crate) fn fault_of(fault: StepFault, alike: u64) -> WriteFault
@@ -33,22 +33,22 @@ pub(crate) fn fault_of(fault: StepFault, alike: u64) -> WriteFault
 /// Follows a step that has no digit. The error is Refused or out of memory.
 fn learn_step(
     alloc: Global,
-    scene: &Scene<'_>,
+    level_frame: &LevelFrame<'_>,
     level: &mut Partial<'_>,
     step: Step,
     source: &HeaderSource<'_>,
 ) -> Result<(), StepFault>
-    requires at { IsAt scene.now level.old }
+    requires at { IsAt level_frame.now level.old }
     requires within { IsWithin source.now }
     requires plain { is_plain step ≡ true }
-    requires ready { walking.IsReadyToWrite level.old (write_rule Two scene.now.profile.now.sizes level.old.sizes level.old.format step) }
-    ensures learns { OnOk result (walking.LearnsOf (walking.IsHere scene.now level.old (front source.now) source.now.asked.now) (write_rule Two scene.now.profile.now.sizes level.old.sizes level.old.format step) level.old level.new) }
-    ensures fault { IfErr result (λ e. walking.BlamesStep e (walking.IsHere scene.now level.old (front source.now) source.now.asked.now)) }
+    requires ready { walking.IsReadyToWrite level.old (write_rule Two level_frame.now.frame.profile.now.sizes level.old.sizes level.old.format step) }
+    ensures learns { OnOk result (walking.LearnsOf (walking.IsHere level_frame.now level.old (front source.now) source.now.asked.now) (write_rule Two level_frame.now.frame.profile.now.sizes level.old.sizes level.old.format step) level.old level.new) }
+    ensures fault { IfErr result (λ e. walking.BlamesStep e (walking.IsHere level_frame.now level.old (front source.now) source.now.asked.now)) }
 {
     match step {
-        Step::Take(field) => take(alloc, scene, level, field, source),
-        Step::Ask(field) => ask(alloc, scene, level, field, source.asked),
-        _ => common_step(alloc, scene, level, step),
+        Step::Take(field) => take(alloc, level_frame, level, field, source),
+        Step::Ask(field) => ask(alloc, level_frame, level, field, source.asked),
+        _ => common_step(alloc, level_frame, level, step),
     }
 }
 
@@ -56,7 +56,7 @@ fn learn_step(
 pub(crate) fn plain_step(
     alloc: Global,
     accepted: &Accepted,
-    scene: &Scene<'_>,
+    level_frame: &LevelFrame<'_>,
     level: &mut Partial<'_>,
     step: Step,
     digits: Digits,
@@ -64,13 +64,13 @@ pub(crate) fn plain_step(
 ) -> Result<(), WriteFault>
     requires within { IsWithin source.now }
     requires plain { is_plain step ≡ true }
-    requires goes { spec.Goes accepted.now scene.now (front source.now) source.now.asked.now step digits level.old }
-    ensures on { OnOk result (spec.StepsOn accepted.now scene.now (front source.now) source.now.asked.now step digits level.old digits level.new) }
+    requires goes { spec.Goes accepted.now level_frame.now (front source.now) source.now.asked.now step digits level.old }
+    ensures on { OnOk result (spec.StepsOn accepted.now level_frame.now (front source.now) source.now.asked.now step digits level.old digits level.new) }
     ensures args { OnOk result (level.new.args ≡ level.old.args) }
-    ensures fault { IfErr result (λ e. spec.BlamesGoing e accepted.now scene.now (front source.now) source.now.asked.now step digits level.old) }
+    ensures fault { IfErr result (λ e. spec.BlamesGoing e accepted.now level_frame.now (front source.now) source.now.asked.now step digits level.old) }
 {
     let alike = digits.alike();
-    if let Err(fault) = learn_step(alloc, scene, level, step, source) {
+    if let Err(fault) = learn_step(alloc, level_frame, level, step, source) {
         return Err(fault_of(fault, alike));
     }
     level.keeps();
@@ -81,24 +81,24 @@ pub(crate) fn plain_step(
 pub(crate) fn choose_step(
     alloc: Global,
     accepted: &Accepted,
-    scene: &Scene<'_>,
+    level_frame: &LevelFrame<'_>,
     level: &mut Partial<'_>,
     field: usize,
     digits: &mut Digits,
     source: &HeaderSource<'_>,
 ) -> Result<(), WriteFault>
     requires within { IsWithin source.now }
-    requires goes { spec.Goes accepted.now scene.now (front source.now) source.now.asked.now (steps.Choose field) digits.old level.old }
-    ensures on { OnOk result (spec.StepsOn accepted.now scene.now (front source.now) source.now.asked.now (steps.Choose field) digits.old level.old digits.new level.new) }
+    requires goes { spec.Goes accepted.now level_frame.now (front source.now) source.now.asked.now (steps.Choose field) digits.old level.old }
+    ensures on { OnOk result (spec.StepsOn accepted.now level_frame.now (front source.now) source.now.asked.now (steps.Choose field) digits.old level.old digits.new level.new) }
     ensures args { OnOk result (level.new.args ≡ level.old.args) }
-    ensures fault { IfErr result (λ e. spec.BlamesGoing e accepted.now scene.now (front source.now) source.now.asked.now (steps.Choose field) digits.old level.old) }
+    ensures fault { IfErr result (λ e. spec.BlamesGoing e accepted.now level_frame.now (front source.now) source.now.asked.now (steps.Choose field) digits.old level.old) }
 {
     let Some(width) = choice_of(alloc, level.format(), field) else {
         return Err(WriteFault::Failed(digits.alike()));
     };
     let digit = digits.next(1 << width);
     let alike = digits.alike();
-    if let Err(fault) = choose(alloc, scene, level, field, width, digit) {
+    if let Err(fault) = choose(alloc, level_frame, level, field, width, digit) {
         return Err(fault_of(fault, alike));
     }
     level.keeps();

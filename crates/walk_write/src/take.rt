@@ -20,24 +20,24 @@ use sem_filling::AskedValue;
 use sem_profile::{Field, Format};
 use sqlite_items::at;
 use std::alloc::{AllocError, Global};
-use walk_steps::{Partial, Scene, StepFault};
+use walk_steps::{LevelFrame, Partial, StepFault};
 
 /// Takes the uncompressed side of a header field, of the known length, from the bits so many places after the source's, where the header begins. The error of
 /// this and the next two is Refused or out of memory.
 pub(crate) fn take(
     alloc: Global,
-    scene: &Scene<'_>,
+    level_frame: &LevelFrame<'_>,
     level: &mut Partial<'_>,
     field: usize,
     source: &HeaderSource<'_>,
 ) -> Result<(), StepFault>
-    requires at { IsAt scene.now level.old }
+    requires at { IsAt level_frame.now level.old }
     requires within { IsWithin source.now }
-    requires ready { spec.IsReadyToWrite level.old (write_rule Two scene.now.profile.now.sizes level.old.sizes level.old.format (step.Take field)) }
-    ensures learns { OnOk result (spec.LearnsOf (spec.IsHere scene.now level.old (front source.now) source.now.asked.now) (write_rule Two scene.now.profile.now.sizes level.old.sizes level.old.format (step.Take field)) level.old level.new) }
-    ensures fault { IfErr result (λ e. spec.BlamesStep e (spec.IsHere scene.now level.old (front source.now) source.now.asked.now)) }
+    requires ready { spec.IsReadyToWrite level.old (write_rule Two level_frame.now.frame.profile.now.sizes level.old.sizes level.old.format (step.Take field)) }
+    ensures learns { OnOk result (spec.LearnsOf (spec.IsHere level_frame.now level.old (front source.now) source.now.asked.now) (write_rule Two level_frame.now.frame.profile.now.sizes level.old.sizes level.old.format (step.Take field)) level.old level.new) }
+    ensures fault { IfErr result (λ e. spec.BlamesStep e (spec.IsHere level_frame.now level.old (front source.now) source.now.asked.now)) }
 {
-    scene.profile.keeps();
+    level_frame.frame.profile.keeps();
     level.keeps();
     let Some(count) = level.length(field, Side::Uncompressed) else {
         return Err(StepFault::Refused);
@@ -49,7 +49,7 @@ pub(crate) fn take(
     let Some(bits) = bits_after(alloc, source.cursor, source.from + offset, count)? else {
         return Err(StepFault::Refused);
     };
-    learn(scene, level, field, bits)
+    learn(level_frame, level, field, bits)
 }
 
 /// So many bits, the first of which stands some places after the next one. None where fewer are left. The error is out of memory.
@@ -74,22 +74,22 @@ fn bits_after(
 /// Gives an asked field its value, which stands among these at the place that the field has among the asked fields.
 pub(crate) fn ask(
     alloc: Global,
-    scene: &Scene<'_>,
+    level_frame: &LevelFrame<'_>,
     level: &mut Partial<'_>,
     field: usize,
     asked: &[AskedValue],
 ) -> Result<(), StepFault>
-    requires at { IsAt scene.now level.old }
-    requires ready { spec.IsReadyToWrite level.old (write_rule Two scene.now.profile.now.sizes level.old.sizes level.old.format (step.Ask field)) }
-    ensures learns { OnOk result (spec.LearnsOf (spec.HasAsked scene.now level.old asked.now) (write_rule Two scene.now.profile.now.sizes level.old.sizes level.old.format (step.Ask field)) level.old level.new) }
-    ensures fault { IfErr result (λ e. spec.BlamesStep e (spec.HasAsked scene.now level.old asked.now)) }
+    requires at { IsAt level_frame.now level.old }
+    requires ready { spec.IsReadyToWrite level.old (write_rule Two level_frame.now.frame.profile.now.sizes level.old.sizes level.old.format (step.Ask field)) }
+    ensures learns { OnOk result (spec.LearnsOf (spec.HasAsked level_frame.now level.old asked.now) (write_rule Two level_frame.now.frame.profile.now.sizes level.old.sizes level.old.format (step.Ask field)) level.old level.new) }
+    ensures fault { IfErr result (λ e. spec.BlamesStep e (spec.HasAsked level_frame.now level.old asked.now)) }
 {
     level.keeps();
     let Some(value) = at(asked, asked_before(level.format(), field)) else {
         return Err(StepFault::Refused);
     };
     let bits = value.bits.copy(alloc)?;
-    learn(scene, level, field, bits)
+    learn(level_frame, level, field, bits)
 }
 
 /// How many asked fields stand before the field.
@@ -116,39 +116,39 @@ fn asked_among(fields: &[Field]) -> usize
 /// Gives the field the bits, so many, that a digit chooses.
 pub(crate) fn choose(
     alloc: Global,
-    scene: &Scene<'_>,
+    level_frame: &LevelFrame<'_>,
     level: &mut Partial<'_>,
     field: usize,
     count: usize,
     digit: u64,
 ) -> Result<(), StepFault>
-    requires at { IsAt scene.now level.old }
+    requires at { IsAt level_frame.now level.old }
     requires chosen { option_and_then (choice level.old.format field) (slice_get level.old.format.fields field) ≡ Some count }
     requires below { digit < 2 ^ count }
-    ensures learns { OnOk result (spec.LearnsOf (spec.HasChosen scene.now level.old field count digit) (write_rule Two scene.now.profile.now.sizes level.old.sizes level.old.format (step.Choose field)) level.old level.new) }
+    ensures learns { OnOk result (spec.LearnsOf (spec.HasChosen level_frame.now level.old field count digit) (write_rule Two level_frame.now.frame.profile.now.sizes level.old.sizes level.old.format (step.Choose field)) level.old level.new) }
     ensures known { OnOk result (spec.KnowsChosen level.new.slots field digit) }
-    ensures fault { IfErr result (λ e. spec.BlamesStep e (spec.HasChosen scene.now level.old field count digit)) }
+    ensures fault { IfErr result (λ e. spec.BlamesStep e (spec.HasChosen level_frame.now level.old field count digit)) }
 {
     level.keeps();
     let Some(bits) = Bits::from_value(alloc, count, digit)? else {
         return Err(StepFault::Refused);
     };
-    learn(scene, level, field, bits)
+    learn(level_frame, level, field, bits)
 }
 
 /// Learns these bits as the uncompressed side of the field. The error is Refused.
 fn learn(
-    scene: &Scene<'_>,
+    level_frame: &LevelFrame<'_>,
     level: &mut Partial<'_>,
     field: usize,
     bits: Bits,
 ) -> Result<(), StepFault>
-    requires at { IsAt scene.now level.old }
+    requires at { IsAt level_frame.now level.old }
     requires within { field < length level.old.slots }
     ensures learns { OnOk result (Learns level.old field Side.Uncompressed (Learnt.Whole bits) level.new) }
-    ensures fault { IfErr result (λ e. spec.BlamesStep e (HasBits scene.now level.old field bits)) }
+    ensures fault { IfErr result (λ e. spec.BlamesStep e (HasBits level_frame.now level.old field bits)) }
 {
-    scene.profile.keeps();
+    level_frame.frame.profile.keeps();
     level.keeps();
     if level.learn(field, Side::Uncompressed, Learnt::Whole(bits)) {
         Ok(())

@@ -9,22 +9,29 @@ ghost use Rattle.walk_write.specs.Going as going;
 ghost use Rattle.walk_write.specs.Sources.{IsWithin, front};
 ghost use Rattle.walk_write.specs.Walking as spec;
 
-use crate::calls::{header_from, is_header_at, own_bits, passed_on, place_of, radix_of};
+use crate::calls::{header_from, is_header_at, own_bits, passed_on, radix_of};
 use crate::end::{finish, plans_of};
 use crate::fault::WriteFault;
 use crate::looks::refuted_from;
 use crate::source::HeaderSource;
 use crate::start::start_at;
 use crate::steps::{choose_step, fault_of, plain_step};
-use cert_accepted::{Accepted, Place};
+use cert_accepted::{Accepted, AcceptedFrame};
 use cert_candidates::{Digits, Start};
 use cert_types::Step;
 use sem_bits::Cursor;
-use sem_context::Context;
-use sem_filling::{AskedValue, Filling};
+use sem_filling::{AskedValue, Filling, Frame};
 use sqlite_items::Items;
 use std::alloc::Global;
-use walk_steps::{Call, Partial, Scene, called, fill};
+use walk_steps::{Call, LevelFrame, Partial, called, fill};
+
+/// What the steps of a plan are followed by: what is accepted, where the level stands, and what is written.
+#[derive(Clone, Copy)]
+pub(crate) struct Writing<'a, 'b> {
+    accepted: &'a Accepted,
+    level_frame: LevelFrame<'a>,
+    source: HeaderSource<'b>,
+}
 
 /// Writes the filling of the method's candidate with this number: its header takes from the source, and its asked fields have the source's values.
 ///
@@ -33,7 +40,7 @@ use walk_steps::{Call, Partial, Scene, called, fill};
 pub fn write_method(
     depth: usize,
     alloc: Global,
-    place: &Place<'_>,
+    place: &AcceptedFrame<'_>,
     source: &HeaderSource<'_>,
     number: u64,
 ) -> Result<Filling, WriteFault>
@@ -59,7 +66,7 @@ pub fn write_method(
 fn write_format(
     depth: usize,
     alloc: Global,
-    place: &Place<'_>,
+    place: &AcceptedFrame<'_>,
     start: Start,
     source: &HeaderSource<'_>,
     number: u64,
@@ -75,29 +82,24 @@ fn write_format(
     let Some(mut level) = place.level(alloc, start.format)? else {
         return Err(WriteFault::Failed(digits.alike()));
     };
-    let Some(plans) = plans_of(place.accepted, place.method, start.format) else {
+    let Some(plans) = plans_of(place.accepted, place.frame.method, start.format) else {
         return Err(WriteFault::Failed(1));
     };
-    let scene = place.scene(start.format);
+    let writing = Writing {
+        accepted: place.accepted,
+        level_frame: place.level_frame(start.format),
+        source: *source,
+    };
     follow(
         depth,
         alloc,
-        place.accepted,
-        &scene,
+        &writing,
         &mut level,
         plans.write.as_slice(),
         &mut digits,
-        source,
         number,
     )?;
-    finish(
-        alloc,
-        place.accepted,
-        &scene,
-        level,
-        place.arguments,
-        digits,
-    )
+    finish(alloc, place.accepted, &writing.level_frame, level, digits)
 }
 
 /// Follows the plan from its start, for the number.
@@ -105,26 +107,22 @@ fn write_format(
 fn follow(
     depth: usize,
     alloc: Global,
-    accepted: &Accepted,
-    scene: &Scene<'_>,
+    writing: &Writing<'_, '_>,
     level: &mut Partial<'_>,
     plan: &[Step],
     digits: &mut Digits,
-    source: &HeaderSource<'_>,
     number: u64,
 ) -> Result<(), WriteFault>
-    requires within { IsWithin source.now }
-    requires serves { going.Serves accepted.now scene.now }
-    requires deep { going.IsDeep scene.now depth }
-    requires begins { going.IsGoing accepted.now scene.now (front source.now) source.now.asked.now plan.now number digits.old level.old }
-    ensures ends { OnOk result (going.IsGoing accepted.now scene.now (front source.now) source.now.asked.now [] number digits.new level.new) }
+    requires within { IsWithin writing.now.source }
+    requires serves { going.Serves writing.now.accepted.now writing.now.level_frame }
+    requires deep { going.IsDeep writing.now.level_frame depth }
+    requires begins { going.IsGoing writing.now.accepted.now writing.now.level_frame (front writing.now.source) writing.now.source.asked.now plan.now number digits.old level.old }
+    ensures ends { OnOk result (going.IsGoing writing.now.accepted.now writing.now.level_frame (front writing.now.source) writing.now.source.asked.now [] number digits.new level.new) }
     ensures args { OnOk result (level.new.args ≡ level.old.args) }
-    ensures fault { IfErr result (λ e. going.BlamesAt e accepted.now scene.now (spec.site_at scene.now level.old (front source.now) source.now.asked.now) number) }
+    ensures fault { IfErr result (λ e. going.BlamesAt e writing.now.accepted.now writing.now.level_frame (spec.site_at writing.now.level_frame level.old (front writing.now.source) writing.now.source.asked.now) number) }
 {
     for step in plan {
-        if let Err(fault) = write_step(
-            depth, alloc, accepted, scene, level, *step, digits, source,
-        ) {
+        if let Err(fault) = write_step(depth, alloc, writing, level, *step, digits) {
             return Err(fault);
         }
     }
@@ -136,26 +134,38 @@ fn follow(
 fn write_step(
     depth: usize,
     alloc: Global,
-    accepted: &Accepted,
-    scene: &Scene<'_>,
+    writing: &Writing<'_, '_>,
     level: &mut Partial<'_>,
     step: Step,
     digits: &mut Digits,
-    source: &HeaderSource<'_>,
 ) -> Result<(), WriteFault>
-    requires within { IsWithin source.now }
-    requires deep { going.IsDeep scene.now depth }
-    requires goes { going.Goes accepted.now scene.now (front source.now) source.now.asked.now step digits.old level.old }
-    ensures on { OnOk result (going.StepsOn accepted.now scene.now (front source.now) source.now.asked.now step digits.old level.old digits.new level.new) }
+    requires within { IsWithin writing.now.source }
+    requires deep { going.IsDeep writing.now.level_frame depth }
+    requires goes { going.Goes writing.now.accepted.now writing.now.level_frame (front writing.now.source) writing.now.source.asked.now step digits.old level.old }
+    ensures on { OnOk result (going.StepsOn writing.now.accepted.now writing.now.level_frame (front writing.now.source) writing.now.source.asked.now step digits.old level.old digits.new level.new) }
     ensures args { OnOk result (level.new.args ≡ level.old.args) }
-    ensures fault { IfErr result (λ e. going.BlamesGoing e accepted.now scene.now (front source.now) source.now.asked.now step digits.old level.old) }
+    ensures fault { IfErr result (λ e. going.BlamesGoing e writing.now.accepted.now writing.now.level_frame (front writing.now.source) writing.now.source.asked.now step digits.old level.old) }
 {
     match step {
-        Step::Call(field) => write_call(
-            depth, alloc, accepted, scene, level, field, digits, source,
+        Step::Call(field) => write_call(depth, alloc, writing, level, field, digits),
+        Step::Choose(field) => choose_step(
+            alloc,
+            writing.accepted,
+            &writing.level_frame,
+            level,
+            field,
+            digits,
+            &writing.source,
         ),
-        Step::Choose(field) => choose_step(alloc, accepted, scene, level, field, digits, source),
-        _ => plain_step(alloc, accepted, scene, level, step, *digits, source),
+        _ => plain_step(
+            alloc,
+            writing.accepted,
+            &writing.level_frame,
+            level,
+            step,
+            *digits,
+            &writing.source,
+        ),
     }
 }
 
@@ -164,41 +174,28 @@ fn write_step(
 fn write_call(
     depth: usize,
     alloc: Global,
-    accepted: &Accepted,
-    scene: &Scene<'_>,
+    writing: &Writing<'_, '_>,
     level: &mut Partial<'_>,
     field: usize,
     digits: &mut Digits,
-    source: &HeaderSource<'_>,
 ) -> Result<(), WriteFault>
-    requires within { IsWithin source.now }
-    requires deep { going.IsDeep scene.now depth }
-    requires goes { going.Goes accepted.now scene.now (front source.now) source.now.asked.now (steps.Call field) digits.old level.old }
-    ensures on { OnOk result (going.StepsOn accepted.now scene.now (front source.now) source.now.asked.now (steps.Call field) digits.old level.old digits.new level.new) }
+    requires within { IsWithin writing.now.source }
+    requires deep { going.IsDeep writing.now.level_frame depth }
+    requires goes { going.Goes writing.now.accepted.now writing.now.level_frame (front writing.now.source) writing.now.source.asked.now (steps.Call field) digits.old level.old }
+    ensures on { OnOk result (going.StepsOn writing.now.accepted.now writing.now.level_frame (front writing.now.source) writing.now.source.asked.now (steps.Call field) digits.old level.old digits.new level.new) }
     ensures args { OnOk result (level.new.args ≡ level.old.args) }
-    ensures fault { IfErr result (λ e. going.BlamesGoing e accepted.now scene.now (front source.now) source.now.asked.now (steps.Call field) digits.old level.old) }
+    ensures fault { IfErr result (λ e. going.BlamesGoing e writing.now.accepted.now writing.now.level_frame (front writing.now.source) writing.now.source.asked.now (steps.Call field) digits.old level.old) }
 {
-    let call = match called(alloc, scene, level, field) {
+    let call = match called(alloc, &writing.level_frame, level, field) {
         Ok(call) => call,
         Err(fault) => return Err(fault_of(fault, digits.alike())),
     };
-    let number = digits.next(radix_of(accepted, call.method));
-    let inner = match write_inner(
-        depth,
-        alloc,
-        accepted,
-        scene.context,
-        scene,
-        level,
-        field,
-        &call,
-        number,
-        source,
-    ) {
+    let number = digits.next(radix_of(writing.accepted, call.method));
+    let inner = match write_inner(depth, alloc, writing, level, field, &call, number) {
         Ok(inner) => inner,
         Err(fault) => return Err(passed_on(fault, *digits)),
     };
-    if let Err(fault) = fill(alloc, scene, level, field, inner) {
+    if let Err(fault) = fill(alloc, &writing.level_frame, level, field, inner) {
         return Err(fault_of(fault, digits.alike()));
     }
     level.keeps();
@@ -208,36 +205,42 @@ fn write_call(
 /// Writes the filling with this number of the called method: of a header field its header takes from the source, where the field begins, of another
 /// from the field's own bits.
 #[cycle(writing)]
-fn write_inner<'x>(
+fn write_inner(
     depth: usize,
     alloc: Global,
-    accepted: &'x Accepted,
-    context: &'x Context,
-    scene: &Scene<'_>,
+    writing: &Writing<'_, '_>,
     level: &Partial<'_>,
     field: usize,
-    call: &'x Call,
+    call: &Call,
     number: u64,
-    source: &HeaderSource<'_>,
 ) -> Result<Filling, WriteFault>
-    requires within { IsWithin source.now }
-    requires context { context.now ≡ scene.now.context.now }
-    requires serves { going.Serves accepted.now scene.now }
-    requires deep { going.IsDeep scene.now depth }
-    requires at { IsAt scene.now level.now }
-    requires called { IsCall scene.now level.now field call.now }
+    requires within { IsWithin writing.now.source }
+    requires serves { going.Serves writing.now.accepted.now writing.now.level_frame }
+    requires deep { going.IsDeep writing.now.level_frame depth }
+    requires at { IsAt writing.now.level_frame level.now }
+    requires called { IsCall writing.now.level_frame level.now field call.now }
     requires knows { going.KnowsBefore level.now field }
-    requires below { (n : ℕ) → slice_get accepted.now.counts call.now.method ≡ Some n → number < n }
-    ensures found { IfOk result (going.IsInside accepted.now scene.now level.now (front source.now) field call.now number) }
-    ensures fault { IfErr result (λ e. going.BlamesInside e accepted.now scene.now level.now (front source.now) field call.now number) }
+    requires below { (n : ℕ) → slice_get writing.now.accepted.now.counts call.now.method ≡ Some n → number < n }
+    ensures found { IfOk result (going.IsInside writing.now.accepted.now writing.now.level_frame level.now (front writing.now.source) field call.now number) }
+    ensures fault { IfErr result (λ e. going.BlamesInside e writing.now.accepted.now writing.now.level_frame level.now (front writing.now.source) field call.now number) }
 {
     level.keeps();
-    let place = place_of(accepted, context, call);
+    let frame = &writing.level_frame.frame;
+    let place = AcceptedFrame {
+        accepted: writing.accepted,
+        frame: Frame {
+            profile: frame.profile,
+            context: frame.context,
+            method: call.method,
+            arguments: call.arguments.as_slice(),
+            path: call.path.as_str(),
+        },
+    };
     let none: Items<AskedValue> = Items::new(alloc);
     if is_header_at(level.format(), field) {
-        let from = header_from(level, field, source.cursor, source.from);
+        let from = header_from(level, field, writing.source.cursor, writing.source.from);
         let header = HeaderSource {
-            cursor: source.cursor,
+            cursor: writing.source.cursor,
             from,
             asked: none.as_slice(),
         };

@@ -6,6 +6,6 @@ use Rattle.cert_prove.proofs.possible.push_ruled.Goals as goal
 
 pub returns-then-not-may_have_rule : goal.returns-then-not-may_have_rule
 returns-then-not-may_have_rule c =
-    let format = c.args.format.now in
-    left_out c.args.step (rule_of c.args.version c.args.direction c.args.table.now c.args.sizes.now format c.args.step) (map (ruled format) c.args.possible.now)
-    (c.may_have_rule.ensures c.args.version c.args.direction c.args.table.now c.args.sizes.now (search))
+    let format = c.args.way.now.format.now in
+    left_out c.args.step (rule_of c.args.way.now.version c.args.way.now.direction c.args.way.now.table.now c.args.way.now.sizes.now format c.args.step) (map (ruled format) c.args.possible.now)
+    (c.may_have_rule.ensures c.args.way.now.version c.args.way.now.direction c.args.way.now.table.now c.args.way.now.sizes.now (search))

@@ -23,24 +23,24 @@ pub returns-in_err-node-clause-unparted : goal.returns-in_err-node-clause-unpart
 returns-in_err-node-clause-unparted c =
     let p = err_from_is_err_and c.from_residual-in_err-node.result c.from_residual-in_err-node.ensures.1 in
     let known = known_of c.args.version c.args.formats.now c.args.sizes.now c.in_ok-tolds.tolds.items _ c.in_ok-far.far _ c.as_slice.ensures c.in_ok-tolds.ensures c.as_slice-2.ensures.value c.in_ok-far.ensures in
-    let seen = known_as c.args.version c.args.formats.now c.args.sizes.now c.in_ok-tolds.tolds.items _ c.in_ok-far.far _ known c.as_slice-in-loop-place.ensures.value c.as_slice-in-loop-place-2.ensures in
-    let n = next c.args.version c.args.formats.now c.args.sizes.now c.loop-place.nodes c.loop-place.sets c.pop.new.self c.in-Some.set _ c.in-Some.ensures c.as_slice-in-loop-place-3.ensures c.loop-place.invariant.so_far in
+    let seen = known_as c.args.version c.args.formats.now c.args.sizes.now c.in_ok-tolds.tolds.items _ c.in_ok-far.far _ known c.as_slice-3.ensures.value c.as_slice-4.ensures in
+    let n = next c.args.version c.args.formats.now c.args.sizes.now c.loop-place.nodes c.loop-place.sets c.pop.new.self c.in-Some.set _ c.in-Some.ensures c.as_slice-in-loop-place.ensures c.loop-place.invariant.so_far in
     rw (p.1, p.2)
-    (has_no_node c.args.version c.args.formats.now c.args.sizes.now c.loop-place.nodes c.loop-place.sets c.pop.new.self c.in-Some.set _ c.in-Some.ensures c.as_slice-in-loop-place-3.ensures c.loop-place.invariant.so_far c.in_err-node.field-0.0 (omega (arith, c.loop-place-test.true, c.loop-place.invariant.count))
+    (has_no_node c.args.version c.args.formats.now c.args.sizes.now c.loop-place.nodes c.loop-place.sets c.pop.new.self c.in-Some.set _ c.in-Some.ensures c.as_slice-in-loop-place.ensures c.loop-place.invariant.so_far c.in_err-node.field-0.0 (omega (arith, c.loop-place-test.true, c.loop-place.invariant.count))
     (c.in_err-node.ensures c.args.formats.now n.reach seen
-    (shown_is c.args.version c.args.formats.now c.args.sizes.now c.loop-place.nodes c.loop-place.sets c.pop.new.self c.in-Some.set _ c.in-Some.ensures c.as_slice-in-loop-place-3.ensures c.loop-place.invariant.so_far)))
+    (shown_is c.args.version c.args.formats.now c.args.sizes.now c.loop-place.nodes c.loop-place.sets c.pop.new.self c.in-Some.set _ c.in-Some.ensures c.as_slice-in-loop-place.ensures c.loop-place.invariant.so_far)))
 
 pub loop-place-preserved : goal.loop-place-preserved
 loop-place-preserved c =
     let known = known_of c.args.version c.args.formats.now c.args.sizes.now c.in_ok-tolds.tolds.items _ c.in_ok-far.far _ c.as_slice.ensures c.in_ok-tolds.ensures c.as_slice-2.ensures.value c.in_ok-far.ensures in
-    let seen = known_as c.args.version c.args.formats.now c.args.sizes.now c.in_ok-tolds.tolds.items _ c.in_ok-far.far _ known c.as_slice-in-loop-place.ensures.value c.as_slice-in-loop-place-2.ensures in
-    let n = next c.args.version c.args.formats.now c.args.sizes.now c.loop-place.nodes c.loop-place.sets c.pop.new.self c.in-Some.set _ c.in-Some.ensures c.as_slice-in-loop-place-3.ensures c.loop-place.invariant.so_far in
+    let seen = known_as c.args.version c.args.formats.now c.args.sizes.now c.in_ok-tolds.tolds.items _ c.in_ok-far.far _ known c.as_slice-3.ensures.value c.as_slice-4.ensures in
+    let n = next c.args.version c.args.formats.now c.args.sizes.now c.loop-place.nodes c.loop-place.sets c.pop.new.self c.in-Some.set _ c.in-Some.ensures c.as_slice-in-loop-place.ensures c.loop-place.invariant.so_far in
     let is = c.in_ok-node.ensures c.args.formats.now n.reach seen
-    (shown_is c.args.version c.args.formats.now c.args.sizes.now c.loop-place.nodes c.loop-place.sets c.pop.new.self c.in-Some.set _ c.in-Some.ensures c.as_slice-in-loop-place-3.ensures c.loop-place.invariant.so_far) in
-    let after = c.in_ok-push_subsets.ensures ∙ (λ i. subsets_by (c.as_slice-in-loop-place-4.ensures.value i) (c.as_slice-in-loop-place-5.ensures i) c.in_ok-node.node ++ c.pop.new.self) in
+    (shown_is c.args.version c.args.formats.now c.args.sizes.now c.loop-place.nodes c.loop-place.sets c.pop.new.self c.in-Some.set _ c.in-Some.ensures c.as_slice-in-loop-place.ensures c.loop-place.invariant.so_far) in
+    let after = c.in_ok-push_subsets.ensures ∙ (λ i. subsets_by (c.as_slice-in-loop-place-2.ensures.value i) (c.as_slice-in-loop-place-3.ensures i) c.in_ok-node.node ++ c.pop.new.self) in
     record {
       count = ap length c.in_ok-push-2.ensures.ok ∙ (length_push c.loop-place.nodes c.in_ok-node.node ∙ ap (λ n. n + 1) c.loop-place.invariant.count);
-      so_far = has_node c.args.version c.args.formats.now c.args.sizes.now c.loop-place.nodes c.loop-place.sets c.pop.new.self c.in-Some.set _ c.in-Some.ensures c.as_slice-in-loop-place-3.ensures c.loop-place.invariant.so_far
+      so_far = has_node c.args.version c.args.formats.now c.args.sizes.now c.loop-place.nodes c.loop-place.sets c.pop.new.self c.in-Some.set _ c.in-Some.ensures c.as_slice-in-loop-place.ensures c.loop-place.invariant.so_far
           c.in_ok-tolds.tolds.items c.in_ok-far.far c.push-in-loop-place.new.self c.in_ok-node.node c.push_subsets.new.sets known is c.in_ok-push-2.ensures.ok after;
     }
 

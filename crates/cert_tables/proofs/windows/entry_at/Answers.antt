@@ -10,7 +10,7 @@ loop-at-preserved-then-is_one c =
     let is_one = sym c.seen.ensures ∙ (c.in-Some.is ∙ ap Some c.if-is_one.true) in
     record {
       on_the_way =
-          entry_one c.args.width c.args.offset c.args.number c.args.nodes.now c.loop-at.at c.in-Bit.tested here c.second-at.result is_one c.second-at.ensures.value ∙
+          entry_one c.args.window.width c.args.window.offset c.args.number c.args.nodes.now c.loop-at.at c.in-Bit.tested here c.second-at.result is_one c.second-at.ensures.value ∙
           c.loop-at.invariant.on_the_way;
       within = c.second-at.ensures.within;
     }

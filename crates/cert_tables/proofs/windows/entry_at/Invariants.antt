@@ -5,7 +5,7 @@ use Rattle.cert_tables.proofs.windows.entry_at.Given as goal
 abbrev pub invariant-loop-at : goal.invariant-loop-at
 invariant-loop-at l =
     record {
-      on_the_way : entry l.width l.offset l.at (drop l.at l.nodes) l.number ≡ entry l.width l.offset l.place (drop l.place l.nodes) l.number;
+      on_the_way : entry l.window.width l.window.offset l.at (drop l.at l.nodes) l.number ≡ entry l.window.width l.window.offset l.window.place (drop l.window.place l.nodes) l.number;
       within : l.at ≤ length l.nodes;
     }
 

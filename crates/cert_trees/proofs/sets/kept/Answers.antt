@@ -1,5 +1,5 @@
 use Rattle.std.proofs.Common.{false}
-use Rattle.cert_trees.proofs.ToldPassing.{kept_past, kept_more}
+use Rattle.cert_trees.proofs.SignaturesPassing.{kept_past, kept_more}
 use Rattle.cert_trees.proofs.sets.kept.Goals as goal
 
 pub returns-then-place-set : goal.returns-then-place-set

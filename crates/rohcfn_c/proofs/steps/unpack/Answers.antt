@@ -8,5 +8,5 @@ returns-in-Ok c = unpacked c.in-Ok.taken c.in-Ok.ensures.ok c.counts_of.ensures 
 
 pub returns-in-Err : goal.returns-in-Err
 returns-in-Err c =
-    unpack_refused c.args.opened.now c.unpack.new.self c.args.flow c.args.packed.now c.args.packed_bits c.args.header.now c.unpack.new.header c.args.asked.now c.unpack.new.asked c.args.counts.now c.counts_told.result c.in-Err.refusal
+    unpack_refused c.args.opened.now c.unpack.new.self c.args.flow c.args.packet.now.octets.now c.args.packet.now.bits c.args.header.now c.unpack.new.header c.args.asked.now c.unpack.new.asked c.args.counts.now c.counts_told.result c.in-Err.refusal
     c.of_unpack.result c.of_unpack.ensures c.in-Err.ensures.fault c.in-Err.ensures.stays.0 c.in-Err.ensures.stays.1 c.in-Err.ensures.stays.2 c.counts_told.ensures

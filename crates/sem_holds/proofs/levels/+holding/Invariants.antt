@@ -6,4 +6,4 @@ use Rattle.sem_holds.proofs.levels.+holding.Given as goal
 
 abbrev pub invariant-fields_hold-loop-i : goal.invariant-fields_hold-loop-i
 invariant-fields_hold-loop-i l =
-    Before (FieldFitsAt l.profile.methods (bits_at l.context) l.path l.level.format.now l.level.filling.now (assignment_of l.level.known)) l.filled l.i
+    Before (FieldFitsAt l.frame.profile.now.methods (bits_at l.frame.context.now) l.frame.path.now l.level.format.now l.level.filling.now (assignment_of l.level.known)) l.filled l.i

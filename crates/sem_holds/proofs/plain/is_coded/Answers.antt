@@ -36,18 +36,18 @@ is_summed-requires-clause-ranged c =
 
 pub returns-then-is_empty : goal.returns-then-is_empty
 returns-then-is_empty c =
-    let same = spelled_up (bits_at c.args.context.now) c.args.path.now c.args.level.now.filling.now (assignment_of c.args.level.now.known) c.args.field.now c.args.filled.now
+    let same = spelled_up (bits_at c.args.frame.now.context.now) c.args.frame.now.path.now c.args.level.now.filling.now (assignment_of c.args.level.now.known) c.args.field.now c.args.filled.now
     (search rules) c.in-UncompressedValue.length c.in-UncompressedValue.value in
     rw c.in-UncompressedValue.is (λ t. same.0 (c.is_spelled.ensures.0 t, c.if-is_empty.ensures.0 refl), λ h. c.is_spelled.ensures.1 (same.1 h).0)
 
 pub returns-then-is_empty-2 : goal.returns-then-is_empty-2
 returns-then-is_empty-2 c =
-    let same = spelled_down (bits_at c.args.context.now) c.args.path.now c.args.level.now.filling.now (assignment_of c.args.level.now.known) c.args.field.now c.args.filled.now
+    let same = spelled_down (bits_at c.args.frame.now.context.now) c.args.frame.now.path.now c.args.level.now.filling.now (assignment_of c.args.level.now.known) c.args.field.now c.args.filled.now
     (search rules) c.in-CompressedValue.length c.in-CompressedValue.value in
     rw c.in-CompressedValue.is (λ t. same.0 (c.is_spelled-then-is_empty-2.ensures.0 t, c.if-is_empty-2.ensures.0 refl), λ h. c.is_spelled-then-is_empty-2.ensures.1 (same.1 h).0)
 
 pub returns-in-Irregular : goal.returns-in-Irregular
 returns-in-Irregular c =
-    let same = carried_is (bits_at c.args.context.now) c.args.path.now c.args.level.now.filling.now (assignment_of c.args.level.now.known) c.args.field.now c.args.filled.now
+    let same = carried_is (bits_at c.args.frame.now.context.now) c.args.frame.now.path.now c.args.level.now.filling.now (assignment_of c.args.level.now.known) c.args.field.now c.args.filled.now
     (search rules) c.in-Irregular.length in
     rw c.in-Irregular.is (λ t. same.0 (c.is_carried.ensures.0 t), λ h. c.is_carried.ensures.1 (same.1 h))

@@ -13,7 +13,7 @@ returns c =
     let q = to_z w128 (of_z w128 c.in-Some-number_in.offset) in
     let kept_p : p ≡ c.in-Some.bits = (search rules) in
     let kept_q : q ≡ c.in-Some-number_in.offset = (search rules) in
-    near_is (bits_at c.args.context.now) c.args.path.now c.args.level.now.filling.now (assignment_of c.args.level.now.known) c.args.field.now c.args.filled.now c.requires.outer
+    near_is (bits_at c.args.frame.now.context.now) c.args.frame.now.path.now c.args.level.now.filling.now (assignment_of c.args.level.now.known) c.args.field.now c.args.filled.now c.requires.outer
     c.args.bits.now c.args.offset.now p q (option_copied c.in_ok-reference.reference) _ c.is_found.result
     (sym c.number_in.ensures ∙ c.in-Some.is ∙ ap Some (sym kept_p)) (sym c.number_in-2.ensures ∙ c.in-Some-number_in.is ∙ ap Some (sym kept_q))
     c.in_ok-reference.ensures c.in_ok-low.ensures c.is_found.ensures

@@ -4,5 +4,5 @@ use Rattle.sem_lint.proofs.unnoticed.has_wrong_field.Given as goal
 
 abbrev pub invariant-loop-place : goal.invariant-loop-place
 invariant-loop-place l =
-    spec.any_place (spec.is_wrong_field (spec.loose_by l.reached l.own) l.format) l.place (drop l.place l.format.fields)
-    ≡ spec.any_place (spec.is_wrong_field (spec.loose_by l.reached l.own) l.format) 0 l.format.fields
+    spec.any_place (spec.is_wrong_field (spec.loose_by l.loose.reached.now l.loose.own.now) l.format) l.place (drop l.place l.format.fields)
+    ≡ spec.any_place (spec.is_wrong_field (spec.loose_by l.loose.reached.now l.loose.own.now) l.format) 0 l.format.fields

@@ -5,4 +5,4 @@ use Rattle.sem_lint.specs.Unnoticed as spec
 use Rattle.sem_lint.proofs.unnoticed.reaches_own.Given as goal
 
 abbrev pub invariant-loop-index : goal.invariant-loop-index
-invariant-loop-index l = spec.any_place (λ j is. is && is_marked l.reached l.method j) l.index (drop l.index l.own) ≡ spec.reaches_own l.reached l.own l.method
+invariant-loop-index l = spec.any_place (λ j is. is && is_marked l.loose.reached.now l.method j) l.index (drop l.index l.loose.own.now) ≡ spec.reaches_own l.loose.reached.now l.loose.own.now l.method

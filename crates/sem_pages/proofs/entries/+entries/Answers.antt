@@ -1,4 +1,4 @@
-use Rattle.std.proofs.Common.{rules, ◌≡◌, ◌∙◌, refl, sym, ap}
+use Rattle.std.proofs.Common.{rules, ◌∙◌, refl, sym, ap}
 use Rattle.std.specs.Prelude.{IsTrue, slice_get}
 use Rattle.std.specs.Map.{keys_of}
 use Rattle.std.proofs.lemmas.Option.{slice_get_read}
@@ -10,9 +10,8 @@ use Rattle.sem_filling.specs.FillingLaws.{entries_at}
 use Rattle.sem_filling.proofs.EntriesLevels.{entries_are}
 use Rattle.sem_pages.proofs.InOrder.{begins, turn}
 use Rattle.sem_filling.proofs.Coded.{ok_weaker}
-use Rattle.sem_profile.specs.declared.profile.Encoding.TheVariants as encoding
 use Rattle.sem_pages.specs.Pages.{StandsFor, Shows}
-use Rattle.sem_pages.proofs.Leaving.{field_shown, plain_goes, called_goes, all_gone}
+use Rattle.sem_pages.proofs.Leaving.{field_shown, called_goes, all_gone}
 use Rattle.sem_pages.proofs.entries.+entries.Goals as goal
 
 pub add_field-returns : goal.add_field-returns

@@ -7,4 +7,4 @@ use Rattle.sem_pages.specs.Pages.{HasField}
 use Rattle.sem_pages.proofs.judge.+judging.Given as goal
 
 abbrev pub invariant-fields_fit-loop-i : goal.invariant-fields_fit-loop-i
-invariant-fields_fit-loop-i l = Before (λ j s. (d : Field) → slice_get l.fields j ≡ Some d → HasField l.methods (bits_at l.context) l.path l.view d s) l.shown l.i
+invariant-fields_fit-loop-i l = Before (λ j s. (d : Field) → slice_get l.fields j ≡ Some d → HasField l.frame.methods.now (bits_at l.frame.context.now) l.frame.path.now l.view d s) l.shown l.i

@@ -1,4 +1,4 @@
-use Rattle.std.proofs.Common.{rules, ◌++◌, refl, sym, ap}
+use Rattle.std.proofs.Common.{rules, ◌++◌, refl}
 use Rattle.std.proofs.lemmas.Option.{slice_get_read}
 use Rattle.sem_pages.proofs.Levels.{header_next}
 use Rattle.sem_pages.proofs.sides.header_of.Goals as goal

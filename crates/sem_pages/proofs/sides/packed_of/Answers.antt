@@ -1,4 +1,4 @@
-use Rattle.std.proofs.Common.{rules, ◌++◌, refl}
+use Rattle.std.proofs.Common.{rules, ◌++◌}
 use Rattle.sem_pages.proofs.Levels.{packed_next}
 use Rattle.sem_pages.proofs.sides.packed_of.Goals as goal
 

@@ -4,4 +4,4 @@ use Rattle.sem_reasons.specs.Told.{lengths_from}
 use Rattle.sem_reasons.proofs.lengths.lengths.Given as goal
 
 abbrev pub invariant-loop-index : goal.invariant-loop-index
-invariant-loop-index l = l.found ++ lengths_from (setting_of l.spot) l.base l.sizes l.index (drop l.index l.fields) ≡ lengths_from (setting_of l.spot) l.base l.sizes 0 l.fields
+invariant-loop-index l = l.found ++ lengths_from (setting_of l.question) l.base l.sizes l.index (drop l.index l.fields) ≡ lengths_from (setting_of l.question) l.base l.sizes 0 l.fields

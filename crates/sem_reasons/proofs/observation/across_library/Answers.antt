@@ -10,7 +10,7 @@ use Rattle.sem_reasons.proofs.observation.across_library.Goals as goal
 
 pub returns : goal.returns
 returns c =
-    let s = setting_of c.args.look.now.spot in
+    let s = setting_of c.args.look.now.question in
     let l = c.args.library.now in
     IfOk-weaker c.other_side.result _ _
     (valued_across (bounding_of (base_ranges s c.args.look.now.sizes.now)) l c.args.side c.args.own.now (sym c.is_crc.ensures ∙ c.if-is_crc.false) c.in-Some.method

@@ -27,7 +27,7 @@ abbrev pub decreases-told_by_encoding : goal.decreases-told_by_encoding
 decreases-told_by_encoding l = 7 * l.left + 1
 
 abbrev pub invariant-all_told-loop-format : goal.invariant-all_told-loop-format
-invariant-all_told-loop-format l = AllSoFar (setting_of l.spot) l.depth l.format l.lines
+invariant-all_told-loop-format l = AllSoFar (setting_of l.question) l.depth l.format l.lines
 
 -- those of the order so far
 abbrev pub invariant-told_by_fields-loop-next : goal.invariant-told_by_fields-loop-next

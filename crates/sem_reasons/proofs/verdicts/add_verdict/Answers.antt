@@ -5,4 +5,4 @@ use Rattle.sem_reasons.proofs.verdicts.add_verdict.Goals as goal
 pub returns-in-Some : goal.returns-in-Some
 returns-in-Some c =
     if_ok c.push.result _ _
-    (λ is. verdict_at_once (setting_of c.args.spot.now) c.args.format c.args.lines.now c.push.new.self c.line.result c.in-Some.reason (rw c.in-Some.is at c.in_ok-reason.ensures) c.line.ensures is) c.push.ensures.ok
+    (λ is. verdict_at_once (setting_of c.args.question.now) c.args.format c.args.lines.now c.push.new.self c.line.result c.in-Some.reason (rw c.in-Some.is at c.in_ok-reason.ensures) c.line.ensures is) c.push.ensures.ok

@@ -4,4 +4,4 @@ use Rattle.sem_reasons.proofs.ReasonsMaking.{verdict_alone}
 use Rattle.sem_reasons.proofs.verdicts.reasons_against.Goals as goal
 
 pub returns : goal.returns
-returns c = verdict_alone (setting_of c.args.spot.now) c.args.format _ _ (search rules) c.in_ok-add_verdict.ensures
+returns c = verdict_alone (setting_of c.args.question.now) c.args.format _ _ (search rules) c.in_ok-add_verdict.ensures

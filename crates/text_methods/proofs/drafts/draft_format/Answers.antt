@@ -11,7 +11,7 @@ format_encodings-requires-clause-given c =
     (kept_in_scope x c.new-scope.result _ c.in_ok-fields.fields c.args.kept.now c.new-scope.ensures c.in_ok-fields.ensures c.requires.kept)
 
 pub format_encodings-requires-clause-own : goal.format_encodings-requires-clause-own
-format_encodings-requires-clause-own c = rw c.as_slice-7.ensures (ap (option_map (λ (z : Section). z.items)) c.requires.section)
+format_encodings-requires-clause-own c = rw c.as_slice-items.ensures (ap (option_map (λ (z : Section). z.items)) c.requires.section)
 
 pub format_constraints-requires : goal.format_constraints-requires
 format_constraints-requires c =

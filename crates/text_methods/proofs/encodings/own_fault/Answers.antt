@@ -5,5 +5,5 @@ use Rattle.text_methods.proofs.encodings.own_fault.Goals as goal
 
 pub item_fault-requires : goal.item_fault-requires
 item_fault-requires c = λ is.
-    let here = slice_get_read c.args.items.now _ c.loop-place.place c.index-items-place.result refl c.loop-place-test.true c.index-items-place.is in
-    c.requires c.copied.result c.loop-place.place c.index-items-place.result (sym (c.is_at-is_fine.ensures ∙ ap (is_at c.args.number c.loop-place.place) c.choice_of.ensures) ∙ is) here
+    let here = slice_get_read c.args.own.now.items.now _ c.loop-place.place c.item-item.result refl c.loop-place-test.true c.item-item.is in
+    c.requires c.copied.result c.loop-place.place c.item-item.result (sym (c.is_at-is_fine.ensures ∙ ap (is_at c.args.own.now.number c.loop-place.place) c.choice_of.ensures) ∙ is) here

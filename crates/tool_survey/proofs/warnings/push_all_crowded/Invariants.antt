@@ -5,4 +5,4 @@ use Rattle.tool_survey.proofs.warnings.push_all_crowded.Given as goal
 
 abbrev pub invariant-loop-index : goal.invariant-loop-index
 invariant-loop-index l =
-    Goes (λ m. crowded_lines l.places l.methods l.entries l.counts m.0 m.1) l.methods l.index (string_bytes l.text) (string_bytes l.fn.text ++ candidates_text l.places l.methods l.entries l.counts)
+    Goes (λ m. crowded_lines l.places l.counted.methods.now l.counted.entries.now l.counted.counts.now m.0 m.1) l.counted.methods.now l.index (string_bytes l.text) (string_bytes l.fn.text ++ candidates_text l.places l.counted.methods.now l.counted.entries.now l.counted.counts.now)

@@ -5,5 +5,5 @@ use Rattle.tool_survey.proofs.warnings.push_all_ways.Given as goal
 
 abbrev pub invariant-loop-index : goal.invariant-loop-index
 invariant-loop-index l =
-    Goes (λ f. ways_line l.places l.methods l.entries l.counts l.method f.0 f.1) l.formats l.index (string_bytes l.text)
-    (string_bytes l.fn.text ++ ways_lines l.places l.methods l.entries l.counts l.method l.formats)
+    Goes (λ f. ways_line l.places l.counted.methods.now l.counted.entries.now l.counted.counts.now l.method f.0 f.1) l.formats l.index (string_bytes l.text)
+    (string_bytes l.fn.text ++ ways_lines l.places l.counted.methods.now l.counted.entries.now l.counted.counts.now l.method l.formats)

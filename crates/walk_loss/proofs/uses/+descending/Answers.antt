@@ -19,8 +19,8 @@ use Rattle.walk_loss.proofs.uses.+descending.Goals as goal
 pub call_uses-returns-then-not-branch : goal.call_uses-returns-then-not-branch
 call_uses-returns-then-not-branch t c =
     let none = c.in_ok-add_values.ensures.none c.if-not-branch.true in
-    subst (UsesInside c.args.profile.now.methods c.args.path.now c.args.field.now (assignment_of c.args.known.now) c.args.method c.args.arguments.now c.args.filled.now) (sym c.new.ensures)
-    (none_is_inside c.args.profile.now.methods c.args.path.now c.args.field.now (assignment_of c.args.known.now) c.args.method c.args.arguments.now c.args.filled.now
+    subst (UsesInside c.args.profile.now.methods c.args.path.now c.args.call.now.field.now (assignment_of c.args.known.now) c.args.call.now.method c.args.call.now.arguments.now c.args.filled.now) (sym c.new.ensures)
+    (none_is_inside c.args.profile.now.methods c.args.path.now c.args.call.now.field.now (assignment_of c.args.known.now) c.args.call.now.method c.args.call.now.arguments.now c.args.filled.now
     (λ values inner is inner_is. let wrong : None ≡ Some values = sym none ∙ is in absurd (cc)))
 
 pub call_uses-inner_uses-requires : goal.call_uses-inner_uses-requires
@@ -31,7 +31,7 @@ call_uses-inner_uses-requires t c = (
     (
       λ s at. c.requires.1.1.1.1.0 c.as_slice.result.now (c.in_ok-add_values.ensures.all c.if-not-branch.false ∙ ap Some (sym c.as_slice.ensures)) s at,
       rw (c.as_str-2.ensures ∙ c.in_ok-here.ensures ∙ ap (λ n. below c.args.path.now n) c.as_str.ensures)
-          (within_fits c.args.profile.now.methods c.args.path.now c.args.field.now (assignment_of c.args.known.now) c.args.method c.args.arguments.now c.args.filled.now c.requires.1.1.1.1.1 c.as_slice.result.now
+          (within_fits c.args.profile.now.methods c.args.path.now c.args.call.now.field.now (assignment_of c.args.known.now) c.args.call.now.method c.args.call.now.arguments.now c.args.filled.now c.requires.1.1.1.1.1 c.as_slice.result.now
           (c.in_ok-add_values.ensures.all c.if-not-branch.false ∙ ap Some (sym c.as_slice.ensures)) _ refl),
     ),
   ),
@@ -42,10 +42,10 @@ call_uses-returns t c =
     let values = c.in_ok-add_values.ensures.all c.if-not-branch.false ∙ ap Some (sym c.as_slice.ensures) in
     let here = c.as_str-2.ensures ∙ c.in_ok-here.ensures ∙ ap (λ n. below c.args.path.now n) c.as_str.ensures in
     let methods = c.args.profile.now.methods in
-    ok_weaker (UsesWithin methods c.args.method c.as_slice.result.now c.as_str-2.result.now (inner_of c.args.filled.now))
-    (UsesInside methods c.args.path.now c.args.field.now (assignment_of c.args.known.now) c.args.method c.args.arguments.now c.args.filled.now) c.inner_uses.result
-    (λ xs told. within_uses methods c.args.path.now c.args.field.now (assignment_of c.args.known.now) c.args.method c.args.arguments.now c.args.filled.now c.as_slice.result.now xs values _ refl
-    (subst (λ p. UsesWithin methods c.args.method c.as_slice.result.now p (inner_of c.args.filled.now) xs) here told))
+    ok_weaker (UsesWithin methods c.args.call.now.method c.as_slice.result.now c.as_str-2.result.now (inner_of c.args.filled.now))
+    (UsesInside methods c.args.path.now c.args.call.now.field.now (assignment_of c.args.known.now) c.args.call.now.method c.args.call.now.arguments.now c.args.filled.now) c.inner_uses.result
+    (λ xs told. within_uses methods c.args.path.now c.args.call.now.field.now (assignment_of c.args.known.now) c.args.call.now.method c.args.call.now.arguments.now c.args.filled.now c.as_slice.result.now xs values _ refl
+    (subst (λ p. UsesWithin methods c.args.call.now.method c.as_slice.result.now p (inner_of c.args.filled.now) xs) here told))
     c.inner_uses.ensures
 
 pub field_uses-own_uses-requires : goal.field_uses-own_uses-requires

@@ -1,5 +1,5 @@
 use Rattle.std.proofs.Common.{◌≡◌, drop, ◌+◌, ◌*◌}
-use Rattle.walk_read.specs.Walking.{IsUnderWay}
+use Rattle.walk_read.specs.Walking.{IsUnderWay, bits_of}
 use Rattle.walk_read.proofs.walk.+reading.Given as goal
 
 abbrev pub decreases-read_call : goal.decreases-read_call
@@ -18,4 +18,4 @@ abbrev pub decreases-read_step : goal.decreases-read_step
 decreases-read_step l = 5 * l.depth + 2
 
 abbrev pub invariant-read_plan-loop-step : goal.invariant-read_plan-loop-step
-invariant-read_plan-loop-step l = (l.depth ≡ l.fn.depth) × IsUnderWay l.place l.scene.format (drop l.from l.cursor.left) (drop l.step-index l.plan) l.level
+invariant-read_plan-loop-step l = (l.depth ≡ l.fn.depth) × IsUnderWay l.reading.place l.reading.level_frame.format (bits_of l.reading) (drop l.step-index l.plan) l.level

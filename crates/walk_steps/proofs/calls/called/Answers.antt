@@ -23,7 +23,7 @@ returns-in_default-2-clause-fault c = λ bits f shows.
     let known : knows_all l.format l.slots (inputs_of_all l.format es) ≡ true = call_known l c.args.field c.in-Call.method c.in-Some.coded.now es at (sym c.get-2.ensures ∙ c.in-Call.is) c.requires.ready in
     let found = c.in_ok-values.ensures.shown (subst (λ xs. knows_all l.format l.slots (inputs_of_all l.format xs) ≡ true) (sym c.as_slice.ensures) known) in
     let none : None ≡ vals (shown_numbers l) es = sym c.in_default-2.is ∙ (found ∙ ap (vals (shown_numbers l)) c.as_slice.ensures) in
-    let some = valued l c.args.field c.in-Call.method c.in-Some.coded.now es at (sym c.get-2.ensures ∙ c.in-Call.is) c.args.scene.now c.requires.at known bits f shows in
+    let some = valued l c.args.field c.in-Call.method c.in-Some.coded.now es at (sym c.get-2.ensures ∙ c.in-Call.is) c.args.level_frame.now c.requires.at known bits f shows in
     none-some some.0 (none ∙ some.1)
 
 pub returns-clause-found : goal.returns-clause-found
@@ -40,6 +40,6 @@ returns-clause-found c =
       field_is = at;
       encoding_is = sym c.get-2.ensures ∙ c.in-Call.is;
       args_are = are;
-      path_is = c.in_ok-below.ensures ∙ ap (below c.args.scene.now.path.now) c.as_str.ensures;
-      lie = arguments_lie l c.args.field c.in-Call.method c.in-Some.coded.now es at (sym c.get-2.ensures ∙ c.in-Call.is) c.args.scene.now c.requires.at known c.keeps.ensures c.keeps-2.ensures c.requires.lie c.in-Some-2.values are;
+      path_is = c.in_ok-below.ensures ∙ ap (below c.args.level_frame.now.frame.path.now) c.as_str.ensures;
+      lie = arguments_lie l c.args.field c.in-Call.method c.in-Some.coded.now es at (sym c.get-2.ensures ∙ c.in-Call.is) c.args.level_frame.now c.requires.at known c.keeps.ensures c.keeps-2.ensures c.requires.lie c.in-Some-2.values are;
     }

@@ -10,9 +10,9 @@ pub returns-in_err-fill_side-2-clause-fault : goal.returns-in_err-fill_side-2-cl
 returns-in_err-fill_side-2-clause-fault c =
     let g = c.args.inner in
     let old = c.args.level.now in
-    let blamed = blamed_on c.args.scene.now old c.fill_side.new.level c.args.field Uncompressed g c.in_ok-fill_side.ensures.learns c.in_err-fill_side-2.field-0.0 c.in_err-fill_side-2.ensures.fault in
+    let blamed = blamed_on c.args.level_frame.now old c.fill_side.new.level c.args.field Uncompressed g c.in_ok-fill_side.ensures.learns c.in_err-fill_side-2.field-0.0 c.in_err-fill_side-2.ensures.fault in
     let p = err_from_is_err_and c.from_residual-in_err-fill_side-2.result c.from_residual-in_err-fill_side-2.ensures.1 in
-    subst (λ r. IfErr r (λ e. BlamesFilling e c.args.scene.now old c.args.field g)) (sym p.1) (subst (λ e. BlamesFilling e c.args.scene.now old c.args.field g) (sym p.2) blamed)
+    subst (λ r. IfErr r (λ e. BlamesFilling e c.args.level_frame.now old c.args.field g)) (sym p.1) (subst (λ e. BlamesFilling e c.args.level_frame.now old c.args.field g) (sym p.2) blamed)
 
 pub returns-clause-fills : goal.returns-clause-fills
 returns-clause-fills c =

@@ -11,4 +11,4 @@ method_count-requires-clause-asked c =
 pub learn_count-requires-clause-counts : goal.learn_count-requires-clause-counts
 learn_count-requires-clause-counts c =
     let at = ap (λ z. slice_get z.fields c.args.field) (sym c.format.ensures) ∙ sym c.in-Some.ensures.value in
-    method_counts c.args.scene.now c.args.level.now c.args.field c.args.side c.in-Some.coded.now c.in-Library.library c.in_ok-count.count at (sym c.get-2.ensures ∙ c.in-Library.is) c.requires.ready c.in_ok-count.ensures
+    method_counts c.args.level_frame.now c.args.level.now c.args.field c.args.side c.in-Some.coded.now c.in-Library.library c.in_ok-count.count at (sym c.get-2.ensures ∙ c.in-Library.is) c.requires.ready c.in_ok-count.ensures

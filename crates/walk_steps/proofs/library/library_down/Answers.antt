@@ -12,5 +12,5 @@ downward-requires-clause-asked c =
 pub learn_bits-requires-clause-finds : goal.learn_bits-requires-clause-finds
 learn_bits-requires-clause-finds c =
     let at = ap (λ z. slice_get z.fields c.args.field) (sym c.format.ensures) ∙ sym c.in-Some.ensures.value in
-    down_finds c.args.scene.now c.args.level.now c.args.field c.in-Some.coded.now c.in-Library.library c.in_ok-found.found c.keeps.ensures c.keeps-2.ensures c.requires.at at (sym c.get-2.ensures ∙ c.in-Library.is) c.requires.ready
+    down_finds c.args.level_frame.now c.args.level.now c.args.field c.in-Some.coded.now c.in-Library.library c.in_ok-found.found c.keeps.ensures c.keeps-2.ensures c.requires.at at (sym c.get-2.ensures ∙ c.in-Library.is) c.requires.ready
     c.in_ok-found.ensures

@@ -12,4 +12,4 @@ upward-requires-clause-asked c =
 pub learn_bits-requires-clause-finds : goal.learn_bits-requires-clause-finds
 learn_bits-requires-clause-finds c =
     let at = ap (λ z. slice_get z.fields c.args.field) (sym c.format.ensures) ∙ sym c.in-Some.ensures.value in
-    up_finds c.args.scene.now c.args.level.now c.args.field c.in-Some.coded.now c.in-Library.library c.in_ok-found.found at (sym c.get-2.ensures ∙ c.in-Library.is) c.requires.ready c.in_ok-found.ensures
+    up_finds c.args.level_frame.now c.args.level.now c.args.field c.in-Some.coded.now c.in-Library.library c.in_ok-found.found at (sym c.get-2.ensures ∙ c.in-Library.is) c.requires.ready c.in_ok-found.ensures

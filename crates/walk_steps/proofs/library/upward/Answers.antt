@@ -33,14 +33,14 @@ returns-in-UncompressedValue c =
     let known = subst (λ m. knows_all l.format l.slots (up_needs l.format c.args.field m) ≡ true) c.in-UncompressedValue.is c.requires.known in
     let len = c.value.ensures.shown (knows_left l.format l.slots (inputs l.format c.in-UncompressedValue.length) (inputs l.format c.in-UncompressedValue.value) known) in
     let number = c.value-in-UncompressedValue.ensures.shown (knows_right l.format l.slots (inputs l.format c.in-UncompressedValue.length) (inputs l.format c.in-UncompressedValue.value) known) in
-    subst (λ m. IfOk c.spelled.result (IsOnly (UpIs (shown_numbers l) (reference_at c.args.scene.now c.args.coded.now) (bits_of (learnt_at l.slots c.args.field Compressed)) m))) (sym c.in-UncompressedValue.is)
+    subst (λ m. IfOk c.spelled.result (IsOnly (UpIs (shown_numbers l) (reference_at c.args.level_frame.now c.args.coded.now) (bits_of (learnt_at l.slots c.args.field Compressed)) m))) (sym c.in-UncompressedValue.is)
     (subst (λ x. IfOk c.spelled.result (IsOnly (SpelledBy x (val (shown_numbers l) c.in-UncompressedValue.value)))) len (subst (λ y. IfOk c.spelled.result (IsOnly (SpelledBy c.value.result y))) number c.spelled.ensures))
 
 pub returns-in_ok-reference-in-Lsb : goal.returns-in_ok-reference-in-Lsb
 returns-in_ok-reference-in-Lsb c =
     let l = c.args.level.now in
     let r = c.lsb_found.result in
-    let ref = reference_at c.args.scene.now c.args.coded.now in
+    let ref = reference_at c.args.level_frame.now c.args.coded.now in
     let own = bits_of (learnt_at l.slots c.args.field Compressed) in
     let known = subst (λ m. knows_all l.format l.slots (up_needs l.format c.args.field m) ≡ true) c.in-Lsb.is c.requires.known in
     let later = knows_right l.format l.slots (BitsOf Compressed c.args.field ∷ []) (inputs l.format c.in-Lsb.bits ++ inputs l.format c.in-Lsb.offset) known in

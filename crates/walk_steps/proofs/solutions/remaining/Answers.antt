@@ -2,7 +2,7 @@ use Rattle.std.proofs.Common.{◌≡◌, ◌∙◌, sym, ap, subst, refl, rules,
 use mir.Syntax.{w128}
 use Rattle.sem_expr.specs.Values.{remainder}
 use Rattle.cert_rules.specs.Rules.{remainder_given}
-use Rattle.std.specs.Prelude.{IfSome, slice_get}
+use Rattle.std.specs.Prelude.{IfSome}
 use Rattle.cert_rules.specs.Facts.{inputs}
 use Rattle.cert_rules.proofs.RulesConstraints.{remainder_parts}
 use Rattle.cert_rules.specs.Congruences.{shown}

@@ -1,6 +1,5 @@
-use Rattle.std.proofs.Common.{◌≡◌, ◌∙◌, sym, ap, rules, ◌≤ℤ◌, ◌<ℤ◌, ◌-ℤ◌, ◌+ℤ◌, Some, ℤ, to_z, of_z}
+use Rattle.std.proofs.Common.{◌≡◌, ◌∙◌, rules, ◌≤ℤ◌, ◌<ℤ◌}
 use Rattle.std.specs.Int.{int_rem_euclid}
-use mir.Syntax.{w128}
 use Rattle.cert_rules.proofs.RulesRemainders.{remains}
 use Rattle.walk_steps.proofs.solutions.rest.Goals as goal
 

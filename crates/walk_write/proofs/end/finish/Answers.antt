@@ -9,31 +9,31 @@ use Rattle.walk_write.proofs.end.finish.Goals as goal
 
 pub returns-in_default-clause-fault : goal.returns-in_default-clause-fault
 returns-in_default-clause-fault c = λ source asked n g.
-    lacking_fails c.args.accepted.now c.args.scene.now source asked c.requires.ended.serves n c.args.digits c.args.level g
+    lacking_fails c.args.accepted.now c.args.level_frame.now source asked c.requires.ended.serves n c.args.digits c.args.level g
     (none_made (Lacks c.args.level.slots) c.in_ok-filling.field-0 c.in_default.not-Some c.in_ok-filling.ensures.none) c.alike.result
 
 pub level_fits-requires-clause-within : goal.level_fits-requires-clause-within
 level_fits-requires-clause-within c =
     let g = c.requires.ended.going in
-    method_within c.args.scene.now.profile.now.methods c.args.scene.now.method c.args.scene.now.format c.args.level.format g.at.format_is
+    method_within c.args.level_frame.now.frame.profile.now.methods c.args.level_frame.now.frame.method c.args.level_frame.now.format c.args.level.format g.at.format_is
 
 pub level_fits-requires-clause-arguments : goal.level_fits-requires-clause-arguments
-level_fits-requires-clause-arguments c = subst (ArgumentsLieAt c.args.scene.now.profile.now c.args.scene.now.method) (sym c.requires.same) c.requires.ended.going.lie
+level_fits-requires-clause-arguments c = subst (ArgumentsLieAt c.args.level_frame.now.frame.profile.now c.args.level_frame.now.frame.method) (sym c.requires.same) c.requires.ended.going.lie
 
 pub returns-then-is_empty-clause-found : goal.returns-then-is_empty-clause-found
 returns-then-is_empty-clause-found c = λ source asked n g.
-    ended c.args.accepted.now c.args.scene.now source asked c.requires.ended.serves n c.args.digits c.args.level g c.in-Some.filling
-    (some_made (IsMade c.args.scene.now.format c.args.level.format c.args.level.slots) c.in_ok-filling.field-0 c.in-Some.filling c.in-Some.is c.in_ok-filling.ensures.made)
+    ended c.args.accepted.now c.args.level_frame.now source asked c.requires.ended.serves n c.args.digits c.args.level g c.in-Some.filling
+    (some_made (IsMade c.args.level_frame.now.format c.args.level.format c.args.level.slots) c.in_ok-filling.field-0 c.in-Some.filling c.in-Some.is c.in_ok-filling.ensures.made)
 
 pub returns-then-branch-clause-found : goal.returns-then-branch-clause-found
 returns-then-branch-clause-found c = λ source asked n g.
-    ended c.args.accepted.now c.args.scene.now source asked c.requires.ended.serves n c.args.digits c.args.level g c.in-Some.filling
-    (some_made (IsMade c.args.scene.now.format c.args.level.format c.args.level.slots) c.in_ok-filling.field-0 c.in-Some.filling c.in-Some.is c.in_ok-filling.ensures.made)
+    ended c.args.accepted.now c.args.level_frame.now source asked c.requires.ended.serves n c.args.digits c.args.level g c.in-Some.filling
+    (some_made (IsMade c.args.level_frame.now.format c.args.level.format c.args.level.slots) c.in_ok-filling.field-0 c.in-Some.filling c.in-Some.is c.in_ok-filling.ensures.made)
 
 pub returns-else-branch-clause-fault : goal.returns-else-branch-clause-fault
 returns-else-branch-clause-fault c = λ source asked n g.
-    ended_fails c.args.accepted.now c.args.scene.now source asked c.requires.ended.serves n c.args.digits c.args.level g c.in-Some.filling
-    (some_made (IsMade c.args.scene.now.format c.args.level.format c.args.level.slots) c.in_ok-filling.field-0 c.in-Some.filling c.in-Some.is c.in_ok-filling.ensures.made)
+    ended_fails c.args.accepted.now c.args.level_frame.now source asked c.requires.ended.serves n c.args.digits c.args.level g c.in-Some.filling
+    (some_made (IsMade c.args.level_frame.now.format c.args.level.format c.args.level.slots) c.in_ok-filling.field-0 c.in-Some.filling c.in-Some.is c.in_ok-filling.ensures.made)
     (λ fits. c.in_ok-level_fits.ensures c.if-branch.false
-    (subst (λ z. Fits c.args.scene.now.profile.now.methods (bits_at c.args.scene.now.context.now) c.args.scene.now.method z c.args.scene.now.path.now c.in-Some.filling) (sym c.requires.same) fits))
+    (subst (λ z. Fits c.args.level_frame.now.frame.profile.now.methods (bits_at c.args.level_frame.now.frame.context.now) c.args.level_frame.now.frame.method z c.args.level_frame.now.frame.path.now c.in-Some.filling) (sym c.requires.same) fits))
     c.alike.result c.alike.ensures.count c.alike.ensures.share

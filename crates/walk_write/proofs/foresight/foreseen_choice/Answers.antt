@@ -23,17 +23,17 @@ overflow_add-number c =
 
 pub returns-then-has_other-clause-past : goal.returns-then-has_other-clause-past
 returns-then-has_other-clause-past c =
-    let place = c.args.place.now in
-    let format = c.args.format.now in
-    let bits = drop c.args.source.now.from c.args.source.now.cursor.now.left in
+    let place = c.args.outlook.now.place.now in
+    let format = c.args.outlook.now.format.now in
+    let bits = drop c.args.outlook.now.source.now.from c.args.outlook.now.source.now.cursor.now.left in
     let stands = c.requires.stands in
     let seen = c.in_ok-read_choice.ensures stands.later stands.seen in
     let sized = c.requires.sized in
     let choices = c.read_choice.new.choices.items in
-    let differs = subst (λ z. Differs place (told_numbers format place.arguments.now choices) format.fields z bits) (sym sized.fields_are)
-    (subst (λ z. Differs place (told_numbers format place.arguments.now z) format.fields c.args.sizes.now bits) c.as_slice.ensures (c.in_ok-has_other.ensures c.if-has_other.true)) in
-    passed place bits c.args.source.now.asked.now c.args.number.now c.alike.result
-    (choice_fails place c.args.index format c.args.source.now.asked.now stands.later c.args.number.now c.read_choice.new.digits choices seen sized.whole sized.whole_is bits differs c.alike.result c.alike.ensures.count c.alike.ensures.share)
+    let differs = subst (λ z. Differs place (told_numbers format place.frame.arguments.now choices) format.fields z bits) (sym sized.fields_are)
+    (subst (λ z. Differs place (told_numbers format place.frame.arguments.now z) format.fields c.args.outlook.now.sizes.now bits) c.as_slice.ensures (c.in_ok-has_other.ensures c.if-has_other.true)) in
+    passed place bits c.args.outlook.now.source.now.asked.now c.args.number.now c.alike.result
+    (choice_fails place c.args.outlook.now.index format c.args.outlook.now.source.now.asked.now stands.later c.args.number.now c.read_choice.new.digits choices seen sized.whole sized.whole_is bits differs c.alike.result c.alike.ensures.count c.alike.ensures.share)
 
 pub returns-then-has_other-clause-over : goal.returns-then-has_other-clause-over
 returns-then-has_other-clause-over c = λ is.

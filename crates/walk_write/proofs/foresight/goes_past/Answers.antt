@@ -14,7 +14,7 @@ read_call-requires c =
     record {
       stands = record {
         later = s.later;
-        seen = seen_on c.args.place.now c.args.index c.args.format.now c.args.source.now.asked.now (Call c.args.field ∷ s.later) c.args.number.now c.args.digits.now c.skip.new.self c.args.choices.now s.seen c.args.many rest span
+        seen = seen_on c.args.outlook.now.place.now c.args.outlook.now.index c.args.outlook.now.format.now c.args.outlook.now.source.now.asked.now (Call c.args.field ∷ s.later) c.args.number.now c.args.digits.now c.skip.new.self c.args.choices.now s.seen c.args.many rest span
             (omega (arith, few, alike, rest, span));
       };
     }
@@ -26,5 +26,5 @@ returns-clause-on c = λ e later seen.
     let rest = c.skip.ensures.rest in
     let span = c.skip.ensures.span in
     c.read_call.ensures later
-    (seen_on c.args.place.now c.args.index c.args.format.now c.args.source.now.asked.now (Call c.args.field ∷ later) c.args.number.now c.args.digits.now c.skip.new.self c.args.choices.now seen c.args.many rest span
+    (seen_on c.args.outlook.now.place.now c.args.outlook.now.index c.args.outlook.now.format.now c.args.outlook.now.source.now.asked.now (Call c.args.field ∷ later) c.args.number.now c.args.digits.now c.skip.new.self c.args.choices.now seen c.args.many rest span
     (omega (arith, few, alike, rest, span)))

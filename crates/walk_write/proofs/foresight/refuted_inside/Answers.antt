@@ -6,5 +6,5 @@ pub loop-next-preserved : goal.loop-next-preserved
 loop-next-preserved c =
     let inside = rw c.in-Some.is at c.in_ok-many.ensures in (
       inside.within c.args.count c.requires.counted,
-      more_inside c.args.place.now c.args.index c.args.format.now c.args.field c.args.called.now c.args.method c.args.arguments.now (front c.args.source.now) c.args.number c.loop-next.next c.in-Some.many c.loop-next.invariant.1 inside,
+      more_inside c.args.outlook.now.place.now c.args.outlook.now.index c.args.outlook.now.format.now c.args.called.now.index c.args.called.now.field.now c.args.called.now.method c.args.called.now.arguments.now (front c.args.outlook.now.source.now) c.args.number c.loop-next.next c.in-Some.many c.loop-next.invariant.1 inside,
     )

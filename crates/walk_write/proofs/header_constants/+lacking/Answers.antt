@@ -44,8 +44,8 @@ pub lacks_inside-returns-then-has_false : goal.lacks_inside-returns-then-has_fal
 lacks_inside-returns-then-has_false t c = λ is.
     let format = c.in-Some.format.now in
     let values = c.in_ok-are_told.ensures c.if-not-are_told.false in
-    of_constraint c.args.method c.tells_values.new.values.items format
-    (record { exprs = c.args.arguments.now; encoding_is = refl; args_are = values; format_is = sym c.in-Some.ensures; alone = c.has_more.ensures c.if-has_more.false })
+    of_constraint c.args.call.now.method c.tells_values.new.values.items format
+    (record { exprs = c.args.call.now.arguments.now; encoding_is = refl; args_are = values; format_is = sym c.in-Some.ensures; alone = c.has_more.ensures c.if-has_more.false })
     (subst (λ z. HasFalse (operand z) format.constraints) c.as_slice-2.ensures (subst (HasFalse (operand c.as_slice-2.result.now)) c.as_slice.ensures (c.if-has_false.ensures is)))
 
 pub lacks_inside-returns : goal.lacks_inside-returns
@@ -55,7 +55,7 @@ lacks_inside-returns t c =
     let bits = drop c.args.begin c.args.source.now.left in
     let values = c.in_ok-are_told.ensures c.if-not-are_told.false in
     told c.lacks_field.result
-    (lacks_by p (numbers c.args.told.now) c.args.method c.args.arguments.now bits c.tells_values.new.values.items format c.in-Some-sizes_of.sizes.now
-    (record { exprs = c.args.arguments.now; encoding_is = refl; args_are = values; format_is = sym c.in-Some.ensures; alone = c.has_more.ensures c.if-has_more.false }) (sym c.in-Some-sizes_of.ensures))
+    (lacks_by p (numbers c.args.told.now) c.args.call.now.method c.args.call.now.arguments.now bits c.tells_values.new.values.items format c.in-Some-sizes_of.sizes.now
+    (record { exprs = c.args.call.now.arguments.now; encoding_is = refl; args_are = values; format_is = sym c.in-Some.ensures; alone = c.has_more.ensures c.if-has_more.false }) (sym c.in-Some-sizes_of.ensures))
     (subst (λ z. IfOk c.lacks_field.result (λ is. IsTrue is → FieldLacks p (told_numbers format c.tells_values.new.values.items []) format.fields z bits)) c.as_slice-4.ensures
     (subst (λ z. IfOk c.lacks_field.result (λ is. IsTrue is → FieldLacks p (told_numbers format z []) format.fields c.as_slice-4.result.now bits)) c.as_slice-3.ensures c.lacks_field.ensures))

@@ -7,4 +7,4 @@ pub returns-then-has_false : goal.returns-then-has_false
 returns-then-has_false c = λ t.
     let place = c.args.place.now in
     by_constraint c.in-Some.found.now (sym c.in-Some.ensures)
-    (known_false place c.in-Some.found.now.fields c.in-Some.found.now.constraints (subst (HasFalse (operand place.arguments.now)) c.as_slice.ensures (c.if-has_false.ensures t)))
+    (known_false place c.in-Some.found.now.fields c.in-Some.found.now.constraints (subst (HasFalse (operand place.frame.arguments.now)) c.as_slice.ensures (c.if-has_false.ensures t)))

@@ -13,5 +13,5 @@ returns c =
     let bits = drop c.args.from c.args.source.now.left in
     told c.differs.result
     (λ h. by_header c.args.found.now c.in-Some.sizes.now c.requires.found (sym c.in-Some.ensures)
-    (subst (λ z. Differs place (told_numbers c.args.found.now place.arguments.now []) c.args.found.now.fields z bits) c.as_slice.ensures h))
+    (subst (λ z. Differs place (told_numbers c.args.found.now place.frame.arguments.now []) c.args.found.now.fields z bits) c.as_slice.ensures h))
     c.differs.ensures

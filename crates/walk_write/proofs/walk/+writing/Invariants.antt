@@ -21,4 +21,4 @@ abbrev pub decreases-write_inner : goal.decreases-write_inner
 decreases-write_inner l = 6 * l.depth
 
 abbrev pub invariant-follow-loop-step : goal.invariant-follow-loop-step
-invariant-follow-loop-step l = IsGoing l.accepted l.scene (drop l.source.from l.source.cursor.now.left) l.source.asked.now (drop l.step-index l.plan) l.number l.digits l.level × (l.level.args ≡ l.fn.level.args)
+invariant-follow-loop-step l = IsGoing l.writing.accepted.now l.writing.level_frame (drop l.writing.source.from l.writing.source.cursor.now.left) l.writing.source.asked.now (drop l.step-index l.plan) l.number l.digits l.level × (l.level.args ≡ l.fn.level.args)

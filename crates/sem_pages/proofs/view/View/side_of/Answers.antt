@@ -1,6 +1,5 @@
-use Rattle.std.proofs.Common.{rules, ◌≡◌, ◌∙◌, refl, sym, ap, subst}
+use Rattle.std.proofs.Common.{rules, ◌∙◌, refl, ap}
 use Rattle.std.proofs.lemmas.Option.{slice_get_read}
-use Rattle.sem_expr.specs.declared.expr.Side.{Side}
 use Rattle.sem_filling.specs.Fits.{field_side}
 use Rattle.std.specs.Prelude.{slice_get}
 use Rattle.sem_pages.specs.Pages.{Looked}
