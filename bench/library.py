@@ -1,8 +1,8 @@
 """What a header costs that is packed or unpacked through the library, in instructions, by callgrind, beside an event of `line` and a packet of `line --receive` on the built program.
 
 The headers are those of the longest flow of each kind in examples/data/, in one flow of a session, by clients/c/rounds.c. A header is that of five rounds less that of one. It also prints how much
-of the stack a program takes that opens a session and packs and unpacks. A header that is packed may cost no more than an event of `line`, and one that is unpacked 1.3 times a packet of
-`line --receive`, which reads packets by pages where it can."""
+of the stack a program takes that opens a session and packs and unpacks. A header that is packed may cost no more than an event of `line`, and one that is unpacked a hundredth more than a
+packet of `line --receive`."""
 import pathlib
 import re
 import resource
@@ -18,7 +18,7 @@ from .measure import PROGRAM, report
 FEW, MANY = 1, 5
 STEPS = {"pack": "line", "unpack": "line --receive"}
 # how often the cost by `line` a header may cost
-MOST = {"pack": 1.0, "unpack": 1.0}
+MOST = {"pack": 1.0, "unpack": 1.01}
 SMALLEST = 16
 
 
