@@ -1,6 +1,7 @@
 //! From plans to fewer operations, for who draws fillings up and has them judged.
 
 use crate::operations::{CompiledPlan, Operations};
+use crate::pages::page_operations;
 use crate::steps::OperationsSoFar;
 use cert_types::{Direction, FormatPlans, MethodPlans, Step};
 use sem_profile::{Format, Method};
@@ -44,6 +45,7 @@ fn method_acts(
 
 const NONE: CompiledPlan = CompiledPlan {
     read: None,
+    page: None,
     write: None,
 };
 
@@ -55,6 +57,7 @@ fn format_acts(
     match &entry.plans {
         Some(plans) => Ok(CompiledPlan {
             read: operations(alloc, format, Direction::Read, plans.read.as_slice())?,
+            page: page_operations(alloc, format, plans.read.as_slice())?,
             write: operations(alloc, format, Direction::Write, plans.write.as_slice())?,
         }),
         None => Ok(NONE),

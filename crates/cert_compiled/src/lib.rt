@@ -2,9 +2,11 @@
 #![tactic(auto)]
 
 pub use operations::{Beginning, CompiledPlan, Count, Operation, Operations, ShortBits};
+pub use pages::PageOperation;
 pub use plans::CompiledPlans;
 
 mod compiler;
 pub mod operations;
+mod pages;
 pub mod plans;
 mod steps;

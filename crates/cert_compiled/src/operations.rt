@@ -1,5 +1,6 @@
 //! What is done to draw a filling up.
 
+use crate::pages::PageOperation;
 use cert_types::Step;
 use sem_expr::Side;
 use sqlite_items::Items;
@@ -116,5 +117,7 @@ pub struct Operations {
 #[derive(Drop)]
 pub struct CompiledPlan {
     pub read: Option<Operations>,
+    /// Those by which a page is read.
+    pub page: Option<Items<PageOperation>>,
     pub write: Option<Operations>,
 }

@@ -1,6 +1,6 @@
 -- What the filling of a page leaves in the context, field by field.
 use Rattle.std.proofs.Common.{◌≡◌, ◌∙◌, refl, sym, ap, subst, ℕ, suc, zero, ◌+◌, ◌≤◌, map, length, drop, List, [], ◌∷◌, ◌++◌, append_assoc, append-nil, add-one, Bool, true, false, arith}
-use Rattle.std.specs.Prelude.{slice_get, Option, Some, None, option_and_then}
+use Rattle.std.specs.Prelude.{slice_get, Option, Some, None, option_and_then, unwrap_or}
 use Rattle.sem_expr.specs.declared.expr.Expr.{Expr}
 use Rattle.sem_profile.specs.declared.profile.Encoding.{Encoding}
 use Rattle.sem_profile.specs.declared.profile.Encoding.TheVariants as encoding
@@ -107,13 +107,13 @@ asked_by methods format ds ss values at ds_are ss_are is shown =
 -- ---- entries
 
 -- of a field with these sides
-own_goes : (paths : List Path) (old new : List (List Bool)) (d : Field) (s : Shown) (g : FilledField) (here : Path) → sides_of g ≡ sides_by d s → GoesOn paths old new (own_entry d.declared.part here (out-Shown s).uncompressed)
+own_goes : (paths : List Path) (old new : List (List Bool)) (d : Field) (s : Shown) (g : FilledField) (here : Path) → sides_of g ≡ sides_by d s → GoesOn paths old new (own_entry d.declared.part here (unwrap_or (out-Shown s).uncompressed []))
     → GoesOn paths old new (own_entry (sides_of g).declared.part here (sides_of g).uncompressed)
 own_goes paths old new d s g here is goes = subst (λ (x : Sides). GoesOn paths old new (own_entry x.declared.part here x.uncompressed)) (sym is) goes
 
 -- a field with nothing inside
 pub plain_goes : (methods : List Method) (paths : List Path) (old new : List (List Bool)) (path : Path) (d : Field) (s : Shown) → (out-Shown s).inner ≡ None
-    → GoesOn paths old new (own_entry d.declared.part (below path d.declared.name) (out-Shown s).uncompressed) → (g : FilledField) → StandsFor methods d s g → GoesOn paths old new (entries_at path g)
+    → GoesOn paths old new (own_entry d.declared.part (below path d.declared.name) (unwrap_or (out-Shown s).uncompressed [])) → (g : FilledField) → StandsFor methods d s g → GoesOn paths old new (entries_at path g)
 plain_goes methods paths old new path d s none own g stands =
     let here = below path d.declared.name in
     field_goes paths old new new path here g (ap (λ (x : Sides). below path x.declared.name) (sym stands.sides_are)) (own_goes paths old new d s g here stands.sides_are own)
@@ -121,7 +121,7 @@ plain_goes methods paths old new path d s none own g stands =
 
 -- a field that calls a method
 pub called_goes : (methods : List Method) (paths : List Path) (old mid new : List (List Bool)) (path here : Path) (d : Field) (s : Shown) (k : ℕ) (es : List Expr) (p : Page) → (out-Shown s).inner ≡ Some p → d.encoding ≡ encoding.Call k es
-    → here ≡ below path d.declared.name → GoesOn paths old mid (own_entry d.declared.part here (out-Shown s).uncompressed) → ((f : Filling) → Shows methods k p f → GoesOn paths mid new (entries_below f here))
+    → here ≡ below path d.declared.name → GoesOn paths old mid (own_entry d.declared.part here (unwrap_or (out-Shown s).uncompressed [])) → ((f : Filling) → Shows methods k p f → GoesOn paths mid new (entries_below f here))
     → (g : FilledField) → StandsFor methods d s g → GoesOn paths old new (entries_at path g)
 called_goes methods paths old mid new path here d s k es p is call here_is own inside g stands =
     let q = inside_call methods k es p is call stands.inside in

@@ -1,10 +1,8 @@
 -- A level by a format's fields and what is shown of them.
 use Rattle.std.proofs.Common.{◌≡◌, ◌∙◌, refl, sym, ap, ℕ, suc, zero, ◌+◌, ◌<◌, length, drop, get_or, List, [], ◌∷◌, ◌++◌, append_assoc, append-nil, add-one, drop-cons, Bool, true, false, arith}
-use Rattle.std.specs.Prelude.{slice_get, Some, None, option_map, unwrap_or}
-use Rattle.sem_expr.specs.declared.expr.Side.TheVariants.{Uncompressed, Compressed}
+use Rattle.std.specs.Prelude.{slice_get, Some, None, option_map, option_and_then, unwrap_or}
 use Rattle.sem_profile.specs.declared.profile.Field.{Field}
 use Rattle.sem_filling.specs.Fillings.{Sides, is_header, header_bits, packed_bits}
-use Rattle.sem_filling.specs.Fits.{field_side}
 use Rattle.sem_pages.specs.declared.page.Shown.{Shown, out-Shown}
 use Rattle.sem_pages.specs.Pages.{sides_by, level_by}
 
@@ -16,12 +14,6 @@ level_at (d ∷ ds) [] i s e at = let wrong : None ≡ Some s = at in absurd cc
 level_at (d ∷ ds) (t ∷ ss) zero s e at = let one : Some t ≡ Some s = at in (d, refl, ap (option_map (sides_by d)) one)
 level_at (d ∷ ds) (t ∷ ss) (suc i) s e at = level_at ds ss i s (omega (arith, e)) at
 
-pub up_at : (ds : List Field) (ss : List Shown) (i : ℕ) (s : Shown) → length ss ≡ length ds → slice_get ss i ≡ Some s → (out-Shown s).uncompressed ≡ field_side (slice_get (level_by ds ss) i) Uncompressed
-up_at ds ss i s e at = sym (ap (λ o. field_side o Uncompressed) (level_at ds ss i s e at).2)
-
-pub down_at : (ds : List Field) (ss : List Shown) (i : ℕ) (s : Shown) → length ss ≡ length ds → slice_get ss i ≡ Some s → (out-Shown s).compressed ≡ field_side (slice_get (level_by ds ss) i) Compressed
-down_at ds ss i s e at = sym (ap (λ o. field_side o Compressed) (level_at ds ss i s e at).2)
-
 -- a level has as many fields as what is shown
 pub level_length : (ds : List Field) (ss : List Shown) → length ss ≡ length ds → length (level_by ds ss) ≡ length ss
 level_length [] [] e = refl
@@ -31,7 +23,7 @@ level_length (d ∷ ds) (t ∷ ss) e = ap suc (level_length ds ss (omega (arith,
 
 -- the bits that a place of a listing adds
 pub sent_at : (ds : List Field) (ss : List Shown) (i : ℕ) → length ss ≡ length ds
-    → unwrap_or (option_map (λ (s : Sides). s.compressed) (slice_get (level_by ds ss) i)) [] ≡ unwrap_or (option_map (λ s. (out-Shown s).compressed) (slice_get ss i)) []
+    → unwrap_or (option_map (λ (s : Sides). s.compressed) (slice_get (level_by ds ss) i)) [] ≡ unwrap_or (option_and_then (λ s. (out-Shown s).compressed) (slice_get ss i)) []
 sent_at [] [] i e = refl
 sent_at [] (t ∷ ss) i e = absurd (omega (arith, e))
 sent_at (d ∷ ds) [] i e = absurd (omega (arith, e))
@@ -71,9 +63,9 @@ header_next ds ss i d s front whole here there is =
 -- one more place of the listing
 pub packed_next : (ds : List Field) (ss : List Shown) (items : List ℕ) (k : ℕ) (front whole : List Bool) → length ss ≡ length ds → k < length items
     → front ++ packed_bits (drop k items) (level_by ds ss) ≡ whole
-    → (front ++ unwrap_or (option_map (λ s. (out-Shown s).compressed) (slice_get ss (get_or items k 0))) []) ++ packed_bits (drop (k + 1) items) (level_by ds ss) ≡ whole
+    → (front ++ unwrap_or (option_and_then (λ s. (out-Shown s).compressed) (slice_get ss (get_or items k 0))) []) ++ packed_bits (drop (k + 1) items) (level_by ds ss) ≡ whole
 packed_next ds ss items k front whole e lt is =
-    append_assoc front (unwrap_or (option_map (λ s. (out-Shown s).compressed) (slice_get ss (get_or items k 0))) []) (packed_bits (drop (k + 1) items) (level_by ds ss))
+    append_assoc front (unwrap_or (option_and_then (λ s. (out-Shown s).compressed) (slice_get ss (get_or items k 0))) []) (packed_bits (drop (k + 1) items) (level_by ds ss))
     ∙ ap (λ z. front ++ (z ++ packed_bits (drop (k + 1) items) (level_by ds ss))) (sym (sent_at ds ss (get_or items k 0) e))
     ∙ ap (λ z. front ++ z) (sym (cut items k lt))
     ∙ is

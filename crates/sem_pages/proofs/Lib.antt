@@ -1,6 +1,8 @@
 pub mod Words
+pub mod Seeing
+pub mod Reading
 pub mod Levels
 pub mod Pages
-pub mod Coding
+pub mod CodedSides
 pub mod InOrder
 pub mod Leaving

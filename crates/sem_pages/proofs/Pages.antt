@@ -1,7 +1,11 @@
 -- The filling that a page shows.
 use Rattle.std.proofs.Common.{◌≡◌, ◌∙◌, refl, sym, ap, subst, ℕ, suc, zero, ◌≤◌, map, length, List, [], ◌∷◌, Bool, false, arith}
-use Rattle.std.specs.Prelude.{slice_get, Option, Some, None, option_and_then, ℤ}
+use Rattle.std.specs.Prelude.{slice_get, Option, Some, None, option_and_then, unwrap_or, ℤ}
 use Rattle.sem_expr.specs.declared.expr.Expr.{Expr}
+use Rattle.sem_expr.specs.declared.expr.Side.{Side}
+use Rattle.sem_expr.specs.declared.expr.Side.TheVariants.{Uncompressed, Compressed}
+use Rattle.sem_expr.specs.declared.expr.Subject.{Subject}
+use Rattle.sem_expr.specs.declared.expr.Subject.TheVariants as subject
 use Rattle.sem_profile.specs.Fields.{lists}
 use Rattle.sem_profile.specs.declared.profile.Constraint.{Constraint}
 use Rattle.sem_profile.specs.declared.profile.Encoding.{Encoding}
@@ -16,19 +20,26 @@ use Rattle.sem_filling.specs.Fillings.{Sides, sides_of, inner_of, fields_of, lis
 use Rattle.sem_filling.specs.Entries.{Path, below}
 use Rattle.sem_library.specs.Methods.{Lib}
 use Rattle.sem_filling.proofs.FillingsUnique.{also_at}
-use Rattle.sem_filling.specs.Fits.{Context, Holds, FieldFits, fits, bare, coded, called, side_of, assigned, format_at, reference_of}
+use Rattle.sem_filling.specs.declared.whole_sides.WholeSides.{WholeSides}
+use Rattle.sem_filling.specs.Fits.{Context, Holds, FieldFits, fits, bare, coded, called, side_of, field_side, assigned, format_at, reference_of}
 use Rattle.sem_pages.specs.declared.page.Page.{Page, out-Page}
 use Rattle.sem_pages.specs.declared.page.Shown.{Shown, out-Shown}
-use Rattle.sem_pages.specs.Pages.{sides_by, level_by, Looked, side_in, numbers_in, IsShownBy, HasField, HasFields, IsCodedBy, IsCalledBy, IsPageOf, ShowsInside, nothing, called as shown_called, shows}
+use Rattle.sem_pages.specs.Pages.{sides_by, level_by, Looked, Bears, AreRead, HoldsOn, IsWhole, shown_side, seen_side, side_in, numbers_in, IsShownBy, HasField, HasFields, IsCodedBy, IsCalledBy, IsPageOf, IsPlain, ShowsInside, nothing, called as shown_called, shows}
 
 -- ---- one field
 
+abbrev up : Shown → List Bool
+up s = unwrap_or (out-Shown s).uncompressed []
+
+abbrev down : Shown → List Bool
+down s = unwrap_or (out-Shown s).compressed []
+
 -- the field of a filling with these sides and this filling inside
 abbrev field_by : Field → Shown → Option Filling → FilledField
-field_by d s o = roll-FilledField record { declared = d.declared; uncompressed = (out-Shown s).uncompressed; compressed = (out-Shown s).compressed; inner = o }
+field_by d s o = roll-FilledField record { declared = d.declared; uncompressed = up s; compressed = down s; inner = o }
 
-field_out : (d : Field) (s : Shown) (o : Option Filling) → out-FilledField (field_by d s o) ≡ record { declared = d.declared; uncompressed = (out-Shown s).uncompressed; compressed = (out-Shown s).compressed; inner = o }
-field_out d s o = out-roll-FilledField record { declared = d.declared; uncompressed = (out-Shown s).uncompressed; compressed = (out-Shown s).compressed; inner = o }
+field_out : (d : Field) (s : Shown) (o : Option Filling) → out-FilledField (field_by d s o) ≡ record { declared = d.declared; uncompressed = up s; compressed = down s; inner = o }
+field_out d s o = out-roll-FilledField record { declared = d.declared; uncompressed = up s; compressed = down s; inner = o }
 
 sides_out : (d : Field) (s : Shown) (o : Option Filling) → sides_of (field_by d s o) ≡ sides_by d s
 sides_out d s o = λ i. let x = field_out d s o i in record { declared = x.declared; uncompressed = x.uncompressed; compressed = x.compressed }
@@ -48,14 +59,14 @@ module _ (methods : List Method) (ctx : Context) (path : Path) (l : Looked) (d :
     },
   )
 
-  pub bare_has : d.encoding ≡ encoding.Bare → (length (out-Shown s).uncompressed ≤ 64) × ((out-Shown s).compressed ≡ []) × ((out-Shown s).inner ≡ None) → HasField methods ctx path l d s
+  pub bare_has : d.encoding ≡ encoding.Bare → (length (up s) ≤ 64) × (down s ≡ []) × ((out-Shown s).inner ≡ None) → HasField methods ctx path l d s
   bare_has e h =
       let same = sides_out d s None in
       has_by encoding.Bare None e
       (bare (subst (λ (x : Sides). length x.uncompressed ≤ 64) (sym same) h.0) (ap (λ (x : Sides). x.compressed) same ∙ h.1) (inner_out d s None))
       (subst (λ o. ShowsInside methods d.encoding o None) (sym h.2) nothing)
 
-  pub coded_has : (lib : Library) → d.encoding ≡ encoding.Library lib → ((out-Shown s).inner ≡ None) × IsCodedBy ctx path l d lib (out-Shown s).uncompressed (out-Shown s).compressed → HasField methods ctx path l d s
+  pub coded_has : (lib : Library) → d.encoding ≡ encoding.Library lib → ((out-Shown s).inner ≡ None) × IsCodedBy ctx path l d lib (up s) (down s) → HasField methods ctx path l d s
   coded_has lib e h =
       let same = sides_out d s None in
       has_by (encoding.Library lib) None e
@@ -72,6 +83,19 @@ module _ (methods : List Method) (ctx : Context) (path : Path) (l : Looked) (d :
       has_by (encoding.Call k es) (Some f) e
       (called h.args f h.values_are (inner_out d s (Some f)) page.fits (ap (λ (x : Sides). x.uncompressed) same ∙ page.header_same) (ap (λ (x : Sides). x.compressed) same ∙ page.packed_same))
       (subst (λ o. ShowsInside methods d.encoding o (Some f)) (sym h.inside.page_is) (shown_called e page.shown))
+
+  -- the same of sides that are read
+  pub plain_has : (lib : Library) (u c : List Bool) → d.encoding ≡ encoding.Library lib → IsPlain s u c → IsCodedBy ctx path l d lib u c → HasField methods ctx path l d s
+  plain_has lib u c e plain by =
+      let u_is : u ≡ up s = sym (ap (λ o. unwrap_or o []) plain.sides_are.uncompressed_is) in
+      let c_is : c ≡ down s = sym (ap (λ o. unwrap_or o []) plain.sides_are.compressed_is) in
+      coded_has lib e (plain.inner_is, subst (λ x. IsCodedBy ctx path l d lib x (down s)) u_is (subst (λ y. IsCodedBy ctx path l d lib u y) c_is by))
+
+  pub bare_plain : (u c : List Bool) → d.encoding ≡ encoding.Bare → IsPlain s u c → length u ≤ 64 → c ≡ [] → HasField methods ctx path l d s
+  bare_plain u c e plain short none =
+      let u_is : u ≡ up s = sym (ap (λ o. unwrap_or o []) plain.sides_are.uncompressed_is) in
+      let c_is : c ≡ down s = sym (ap (λ o. unwrap_or o []) plain.sides_are.compressed_is) in
+      bare_has e (subst (λ x. length x ≤ 64) u_is short, sym c_is ∙ none, plain.inner_is)
 
 -- ---- all fields
 
@@ -116,7 +140,7 @@ declared_by (d ∷ ds) [] e = absurd (omega (arith, e))
 declared_by (d ∷ ds) (s ∷ ss) e = λ i. d.declared ∷ declared_by ds ss (omega (arith, e)) i
 
 -- what stands at a place of a level was shown
-shown_at : (ds : List Field) (ss : List Shown) (i : ℕ) (t : Sides) → slice_get (level_by ds ss) i ≡ Some t → (s : Shown) × (slice_get ss i ≡ Some s) × ((out-Shown s).compressed ≡ t.compressed)
+shown_at : (ds : List Field) (ss : List Shown) (i : ℕ) (t : Sides) → slice_get (level_by ds ss) i ≡ Some t → (s : Shown) × (slice_get ss i ≡ Some s) × (down s ≡ t.compressed)
 shown_at [] ss i t at = let wrong : None ≡ Some t = at in absurd cc
 shown_at (d ∷ ds) [] i t at = let wrong : None ≡ Some t = at in absurd cc
 shown_at (d ∷ ds) (s ∷ ss) zero t at = let one : Some (sides_by d s) ≡ Some t = at in let is : sides_by d s ≡ t = cc in (s, refl, ap (λ (x : Sides). x.compressed) is)
@@ -126,7 +150,7 @@ shown_at (d ∷ ds) (s ∷ ss) (suc i) t at = shown_at ds ss i t at
 
 pub page_is : (methods : List Method) (ctx : Context) (k : ℕ) (args : List ℤ) (path : Path) (p : Page) (format : Format) (h q : List Bool)
     → format_at methods k (out-Page p).format ≡ Some format → length (out-Page p).fields ≡ length format.fields
-    → ((i : ℕ) (s : Shown) → slice_get (out-Page p).fields i ≡ Some s → lists format.listing i ≡ false → (out-Shown s).compressed ≡ [])
+    → ((i : ℕ) (s : Shown) → slice_get (out-Page p).fields i ≡ Some s → lists format.listing i ≡ false → unwrap_or (out-Shown s).compressed [] ≡ [])
     → ((j : ℕ) (c : Constraint) → slice_get format.constraints j ≡ Some c → Holds (side_of format.listing (level_by format.fields (out-Page p).fields)) (assigned format.listing (level_by format.fields (out-Page p).fields) args) c)
     → HasFields methods ctx path record { listing = format.listing; sides = level_by format.fields (out-Page p).fields; arguments = args } format.fields (out-Page p).fields
     → h ≡ header_bits (level_by format.fields (out-Page p).fields) → q ≡ packed_bits format.listing (level_by format.fields (out-Page p).fields) → IsPageOf methods ctx k args path p h q
@@ -164,20 +188,36 @@ page_is methods ctx k args path p format h q at count unsent constraints has hea
       packed_same = packed_is ∙ ap (packed_bits format.listing) (sym level_is) ∙ ap (λ z. packed_bits z (level f)) (sym listing_is);
     }
 
--- the same by what the code reads
-pub page_from : (methods : List Method) (ctx : Context) (k : ℕ) (args : List ℤ) (path : Path) (p : Page) (format : Format) (h q : List Bool) (ss : List Shown) (ds : List Field) (ns : List ℕ) (cs : List Constraint) (l : Looked)
-    → format_at methods k (out-Page p).format ≡ Some format → ss ≡ (out-Page p).fields → ds ≡ format.fields → ns ≡ format.listing → cs ≡ format.constraints → length ss ≡ length format.fields
-    → l ≡ record { listing = format.listing; sides = level_by format.fields ss; arguments = args }
-    → ((i : ℕ) (s : Shown) → slice_get ss i ≡ Some s → lists ns i ≡ false → (out-Shown s).compressed ≡ [])
-    → ((j : ℕ) (c : Constraint) → slice_get cs j ≡ Some c → Holds (side_in l) (numbers_in l) c)
-    → HasFields methods ctx path l format.fields (out-Page p).fields
-    → h ≡ header_bits (level_by ds ss) → q ≡ packed_bits format.listing (level_by format.fields ss) → IsPageOf methods ctx k args path p h q
-page_from methods ctx k args path p format h q ss ds ns cs l at ss_are ds_are ns_are cs_are count l_is unsent constraints has h_is q_is =
-    let looked : l ≡ record { listing = format.listing; sides = level_by format.fields (out-Page p).fields; arguments = args } =
-    l_is ∙ ap (λ z. record { listing = format.listing; sides = level_by format.fields z; arguments = args }) ss_are in
-    page_is methods ctx k args path p format h q at (ap length (sym ss_are) ∙ count)
-    (λ i s here out. unsent i s (ap (λ z. slice_get z i) ss_are ∙ here) (ap (λ z. lists z i) ns_are ∙ out))
-    (λ j c here. subst (λ (x : Looked). Holds (side_in x) (numbers_in x) c) looked (constraints j c (ap (λ z. slice_get z j) cs_are ∙ here)))
-    (subst (λ x. HasFields methods ctx path x format.fields (out-Page p).fields) looked has)
-    (h_is ∙ ap (λ z. header_bits (level_by z ss)) ds_are ∙ ap (λ z. header_bits (level_by format.fields z)) ss_are)
-    (q_is ∙ ap (λ z. packed_bits format.listing (level_by format.fields z)) ss_are)
+-- of a level of which each field is read
+pub page_read : (methods : List Method) (ctx : Context) (k : ℕ) (args : List ℤ) (path : Path) (p : Page) (format : Format) (w : WholeSides) (solved : List ℕ)
+    → format_at methods k (out-Page p).format ≡ Some format
+    → AreRead methods ctx path format (record { fields = (out-Page p).fields; arguments = args; whole = Some w }) solved
+    → ((i : ℕ) (s : Shown) → slice_get (out-Page p).fields i ≡ Some s → (u : List Bool) × (c : List Bool) × IsWhole s u c)
+    → ((i : ℕ) (s : Shown) → slice_get (out-Page p).fields i ≡ Some s → lists format.listing i ≡ false → unwrap_or (out-Shown s).compressed [] ≡ [])
+    → ((j : ℕ) (c : Constraint) → slice_get format.constraints j ≡ Some c → HoldsOn (record { fields = (out-Page p).fields; arguments = args; whole = Some w }) c)
+    → w.header ≡ header_bits (level_by format.fields (out-Page p).fields) → w.packed ≡ packed_bits format.listing (level_by format.fields (out-Page p).fields) → IsPageOf methods ctx k args path p w.header w.packed
+page_read methods ctx k args path p format w solved at read whole unsent constraints header_is packed_is =
+    let ss = (out-Page p).fields in
+    let l : Looked = record { listing = format.listing; sides = level_by format.fields ss; arguments = args } in
+    let bears : Bears l (record { fields = ss; arguments = args; whole = Some w }) = bears_end format ss args w read.count header_is packed_is in
+    page_is methods ctx k args path p format w.header w.packed at read.count unsent (λ j c here. constraints j c here l bears)
+    (λ i d s here there. let sides = whole i s there in read.fields i d s sides.0 sides.1 here there sides.2 l bears)
+    header_is packed_is
+  where
+    shown_up : (ds : List Field) (ss : List Shown) (i : ℕ) (side : Side) (b : List Bool) → length ss ≡ length ds → shown_side (slice_get ss i) side ≡ Some b → field_side (slice_get (level_by ds ss) i) side ≡ b
+    shown_up [] [] i side b e at = let wrong : None ≡ Some b = at in absurd cc
+    shown_up [] (s ∷ ss) i side b e at = absurd (omega (arith, e))
+    shown_up (d ∷ ds) [] i side b e at = absurd (omega (arith, e))
+    shown_up (d ∷ ds) (s ∷ ss) zero Uncompressed b e at = ap (λ o. unwrap_or o []) at
+    shown_up (d ∷ ds) (s ∷ ss) zero Compressed b e at = ap (λ o. unwrap_or o []) at
+    shown_up (d ∷ ds) (s ∷ ss) (suc i) side b e at = shown_up ds ss i side b (omega (arith, e)) at
+
+    side_end : (format : Format) (ss : List Shown) (args : List ℤ) (w : WholeSides) → length ss ≡ length format.fields → w.header ≡ header_bits (level_by format.fields ss) → w.packed ≡ packed_bits format.listing (level_by format.fields ss)
+        → (x : Subject) (side : Side) (b : List Bool) → seen_side (record { fields = ss; arguments = args; whole = Some w }) x side ≡ Some b → side_of format.listing (level_by format.fields ss) x side ≡ b
+    side_end format ss args w count h q (subject.Field i) side b at = shown_up format.fields ss i side b count at
+    side_end format ss args w count h q subject.This Uncompressed b at = let one : Some w.header ≡ Some b = at in let same : w.header ≡ b = cc in sym h ∙ same
+    side_end format ss args w count h q subject.This Compressed b at = let one : Some w.packed ≡ Some b = at in let same : w.packed ≡ b = cc in sym q ∙ same
+
+    bears_end : (format : Format) (ss : List Shown) (args : List ℤ) (w : WholeSides) → length ss ≡ length format.fields → w.header ≡ header_bits (level_by format.fields ss) → w.packed ≡ packed_bits format.listing (level_by format.fields ss)
+        → Bears (record { listing = format.listing; sides = level_by format.fields ss; arguments = args }) (record { fields = ss; arguments = args; whole = Some w })
+    bears_end format ss args w count h q = record { arguments_are = refl; sides_are = side_end format ss args w count h q }

@@ -1,6 +1,8 @@
 //! What the filling of a page leaves in the context, and its asked values.
 
-ghost use Rattle.std.specs.Prelude.{◌≡◌, ◌++◌, ◌∷◌, [], false, IfOk, IfSome, IsTrue, OnOk, OnErr};
+ghost use Rattle.std.specs.Prelude.{◌≡◌, ◌++◌, ◌∷◌, [], false, IfOk, IfSome, IsTrue, OnOk, OnErr, unwrap_or};
+ghost use Rattle.std.specs.Option.{option_copied};
+ghost use Rattle.sem_filling.specs.Fits.{format_at};
 ghost use Rattle.std.specs.Map.{keys_of};
 ghost use Rattle.sem_context.specs.Entries.{IsFront};
 ghost use Rattle.sem_filling.specs.declared.filling.Filling as filling;
@@ -10,13 +12,13 @@ ghost use Rattle.sem_filling.specs.Fillings as fillings;
 ghost use Rattle.sem_filling.specs.FillingLaws.{entries_at};
 ghost use Rattle.sem_pages.specs.Pages as spec;
 
-use crate::judge::format_of;
 use crate::page::{Page, Shown};
+use crate::word::Word;
 use sem_bits::Bits;
 use sem_context::Context;
 use sem_context::path::are_same;
 use sem_filling::AskedValue;
-use sem_profile::{Encoding, Field, Method, Part};
+use sem_profile::{Encoding, Field, Format, Method, Part};
 use sqlite_items::Items;
 use std::alloc::{AllocError, Global};
 
@@ -47,6 +49,12 @@ pub fn asked_values(
     Ok(Some(values))
 }
 
+fn format_of(methods: &[Method], method: usize, index: usize) -> Option<&Format>
+    ensures { option_copied result ≡ format_at methods.now method index }
+{
+    methods.get(method)?.formats.get(index)
+}
+
 /// Adds the value of the field, if it is asked.
 fn add_asked(
     alloc: Global,
@@ -57,12 +65,24 @@ fn add_asked(
     ensures { OnOk result (values.new ≡ values.old ++ fillings.asked_values (spec.sides_by field.now shown.now ∷ [])) }
 {
     if field.declared.asked {
+        let bits = bits_of(alloc, &shown.uncompressed)?;
         values.push(AskedValue {
             name: field.declared.name.share()?,
-            bits: shown.uncompressed.copy(alloc)?,
+            bits,
         })?;
     }
     Ok(())
+}
+
+/// The bits, none where they aren't read.
+#[inline(always)]
+fn bits_of(alloc: Global, word: &Option<Word>) -> Result<Bits, AllocError>
+    ensures { IfOk result (λ b. b ≡ unwrap_or word.now []) }
+{
+    match word {
+        Some(word) => word.to_bits(alloc),
+        None => Ok(Bits::new(alloc)),
+    }
 }
 
 /// Puts what the filling of the page leaves into the context. False where the context, which stays then, has not the paths of its entries first, in their order.
@@ -188,9 +208,9 @@ fn add_plain(
     part: Part,
     path: &str,
     name: &str,
-    bits: &Bits,
+    bits: &Option<Word>,
 ) -> Result<bool, AllocError>
-    ensures { IfOk result (λ is. IsTrue is → GoesOn (keys_of context.now) values.old.items values.new.items (own_entry part (below path.now name.now) bits.now)) }
+    ensures { IfOk result (λ is. IsTrue is → GoesOn (keys_of context.now) values.old.items values.new.items (own_entry part (below path.now name.now) (unwrap_or bits.now []))) }
 {
     if let Part::Local = part {
         return Ok(true);
@@ -209,9 +229,9 @@ fn add_next<'a>(
     part: Part,
     path: &str,
     name: &str,
-    bits: &Bits,
+    bits: &Option<Word>,
 ) -> Result<Option<&'a str>, AllocError>
-    ensures { IfOk result (λ o. IfSome o (λ here. (here.now ≡ below path.now name.now) × GoesOn (keys_of context.now) values.old.items values.new.items (own_entry part here.now bits.now))) }
+    ensures { IfOk result (λ o. IfSome o (λ here. (here.now ≡ below path.now name.now) × GoesOn (keys_of context.now) values.old.items values.new.items (own_entry part here.now (unwrap_or bits.now [])))) }
 {
     if let Part::Local = part {
         return Ok(None);
@@ -222,7 +242,7 @@ fn add_next<'a>(
     if !is_below(here, path, name) {
         return Ok(None);
     }
-    values.push(bits.copy(alloc)?)?;
+    values.push(bits_of(alloc, bits)?)?;
     Ok(Some(here))
 }
 

@@ -4,7 +4,7 @@ ghost use Rattle.std.specs.Prelude.{◌≡◌, Some, IfSome, IfOk, IsTrue, []};
 ghost use Rattle.sem_expr.specs.Values.{val, truth};
 ghost use Rattle.sem_expr.specs.Values as values;
 ghost use Rattle.sem_filling.specs.Fits.{vals};
-ghost use Rattle.sem_pages.specs.Pages.{numbers_in};
+ghost use Rattle.sem_pages.specs.Pages.{numbers_seen};
 
 use crate::view::View;
 use sem_expr::short::{calculated, plain, short};
@@ -13,8 +13,8 @@ use smallvec::SmallVec;
 use std::alloc::AllocError;
 
 /// The value of an expression, where it is found.
-pub(crate) fn value(expr: &Expr, view: &View<'_>) -> Option<i64>
-    ensures { IfSome result (λ v. val (numbers_in view.now) expr.now ≡ Some v) }
+pub fn value(expr: &Expr, view: &View<'_>) -> Option<i64>
+    ensures { IfSome result (λ v. val (numbers_seen view.now) expr.now ≡ Some v) }
 {
     match expr {
         Expr::Number(_, number) => short(*number),
@@ -36,8 +36,8 @@ pub(crate) fn value(expr: &Expr, view: &View<'_>) -> Option<i64>
 
 /// Whether the expression has that value, as far as that is found.
 #[inline(always)]
-pub(crate) fn is_number(expr: &Expr, view: &View<'_>, number: i64) -> bool
-    ensures { IsTrue result → val (numbers_in view.now) expr.now ≡ Some number }
+pub fn is_number(expr: &Expr, view: &View<'_>, number: i64) -> bool
+    ensures { IsTrue result → val (numbers_seen view.now) expr.now ≡ Some number }
 {
     match expr {
         Expr::Number(_, own) => *own == number as i128,
@@ -47,7 +47,7 @@ pub(crate) fn is_number(expr: &Expr, view: &View<'_>, number: i64) -> bool
 
 #[inline(never)]
 fn comes_to(expr: &Expr, view: &View<'_>, number: i64) -> bool
-    ensures { IsTrue result → val (numbers_in view.now) expr.now ≡ Some number }
+    ensures { IsTrue result → val (numbers_seen view.now) expr.now ≡ Some number }
 {
     let Some(found) = value(expr, view) else {
         return false;
@@ -57,7 +57,7 @@ fn comes_to(expr: &Expr, view: &View<'_>, number: i64) -> bool
 
 /// Whether a condition holds, where that is found.
 pub(crate) fn decide(cond: &Cond, view: &View<'_>) -> Option<bool>
-    ensures { IfSome result (λ b. truth (numbers_in view.now) cond.now ≡ Some b) }
+    ensures { IfSome result (λ b. truth (numbers_seen view.now) cond.now ≡ Some b) }
 {
     match cond {
         Cond::Constant(_, holds) => Some(*holds),
@@ -98,13 +98,13 @@ fn compares(comparison: Comparison, left: i64, right: i64) -> bool
 }
 
 /// Makes an empty list that of the values of several expressions. Whether each of them is found.
-pub(crate) fn add_values(
+pub fn add_values(
     exprs: &[Expr],
     view: &View<'_>,
     found: &mut SmallVec<i64, 4>,
 ) -> Result<bool, AllocError>
     requires empty { found.old.items ≡ [] }
-    ensures { IfOk result (λ all. IsTrue all → vals (numbers_in view.now) exprs.now ≡ Some found.new.items) }
+    ensures { IfOk result (λ all. IsTrue all → vals (numbers_seen view.now) exprs.now ≡ Some found.new.items) }
 {
     for expr in exprs {
         let Some(number) = value(expr, view) else {

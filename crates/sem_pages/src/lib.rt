@@ -1,24 +1,27 @@
-//! Pages: fillings without what their formats say of them anyhow, and whether a page is that of a filling that fits.
+//! Pages: fillings without what their formats say of them anyhow, and what is read of them.
 //!
-//! A page has the format of a method, by its index, and both sides of each field. It has no names and no listing, so it is made and let go of quickly. Whoever
-//! makes it owes nothing: `page_fits` judges it whole. Where it answers the two sides of the whole, there is a filling that the page shows (`Shows`) and that fits
-//! (`Fits` of sem_filling), and these are its header and its packed bits. The judge asks for no bounds: each value is reckoned within 64 bits, and where one would not
-//! be there, nothing is answered, though a filling may fit.
+//! A page has the format of a method, by its index, and both sides of each field, of at most 64 bits. It has no names and no listing, so it is made and let go of
+//! quickly. While it is read, what is seen of it (`Seen`) are the sides that are there, the values of the parameters, and at the end both sides of the whole. What
+//! is found from that is so on each level that has it (`Bears`): so nothing that was found is tested again. Each value is reckoned within 64 bits, and where one
+//! would not be there, nothing is read, though a filling may fit.
 #![tactic(auto)]
 
+pub use coding::{Source, coded, is_summed, natural};
+pub use constraints::constraint_holds;
 pub use entries::{advance, asked_values};
+pub use expressions::{add_values, is_number, value};
 pub use frame::PageFrame;
-pub use judge::page_fits;
-pub use page::{Page, Shown};
-pub use sides::whole_of;
+pub use page::{BothSides, Page, Shown};
+pub use sides::{are_unsent, whole_of};
+pub use view::View;
+pub use word::Word;
 
+mod coding;
 mod constraints;
 mod entries;
 mod expressions;
 mod frame;
-mod judge;
 mod page;
-mod plain;
 mod sides;
 mod view;
 mod word;

@@ -1,6 +1,6 @@
 //! The types of pages.
 
-use sem_bits::Bits;
+use crate::word::Word;
 use sqlite_items::Items;
 
 /// A format of a method, by its index, with both sides of each of its fields in field order.
@@ -11,11 +11,18 @@ pub struct Page {
     pub fields: Items<Shown>,
 }
 
-/// Both sides of a field, and the page inside it where it calls a method.
+/// Both sides of a field, each once it is read, and the page inside it where it calls a method.
 #[derive(Drop)]
 #[cycle(page)]
 pub struct Shown {
-    pub uncompressed: Bits,
-    pub compressed: Bits,
+    pub uncompressed: Option<Word>,
+    pub compressed: Option<Word>,
     pub inner: Option<Page>,
+}
+
+/// Both sides of a field that is read.
+#[derive(Clone, Copy)]
+pub struct BothSides {
+    pub uncompressed: Word,
+    pub compressed: Word,
 }

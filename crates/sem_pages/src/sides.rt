@@ -1,10 +1,10 @@
-//! The two sides of the whole of a page, and whether what isn't listed is not sent.
+//! The two sides of the whole of a level, and whether what isn't listed is not sent.
 
-ghost use Rattle.std.specs.Prelude.{◌≡◌, ◌++◌, ◌∷◌, ℕ, [], option_map, unwrap_or, true, false, IfOk, IfSome, IsTrue, Some, slice_get, length};
-ghost use Rattle.sem_profile.specs.Fields.{lists};
+ghost use Rattle.std.specs.Prelude.{◌≡◌, ◌++◌, ◌∷◌, [], ℕ, false, true, IsTrue, IfOk, IfSome, length, option_and_then, slice_get, unwrap_or};
 ghost use Rattle.sem_filling.specs.Fillings.{header_bits, packed_bits};
+ghost use Rattle.sem_profile.specs.Fields.{lists};
 ghost use Rattle.sem_pages.specs.declared.page.Shown as page;
-ghost use Rattle.sem_pages.specs.Pages.{level_by, sides_by};
+ghost use Rattle.sem_pages.specs.Pages as spec;
 
 use crate::page::Shown;
 use crate::word::Word;
@@ -13,13 +13,14 @@ use sem_filling::WholeSides;
 use sem_profile::{Field, Format, Part};
 use std::alloc::{AllocError, Global};
 
-/// The header and the packed bits of a level of a format. None where there are more or fewer fields than the format has, and above the limit of `Bits`.
+/// The header and the packed bits of a level of a format. None where there are more or fewer fields than the format has, where a side of them isn't read, and
+/// above the limit of `Bits`.
 pub fn whole_of(
     alloc: Global,
     format: &Format,
     shown: &[Shown],
 ) -> Result<Option<WholeSides>, AllocError>
-    ensures { IfOk result (λ o. IfSome o (λ w. (length shown.now ≡ length format.now.fields) × (w.header ≡ header_bits (level_by format.now.fields shown.now)) × (w.packed ≡ packed_bits format.now.listing (level_by format.now.fields shown.now)))) }
+    ensures { IfOk result (λ o. IfSome o (λ w. (length shown.now ≡ length format.now.fields) × (w.header ≡ header_bits (spec.level_by format.now.fields shown.now)) × (w.packed ≡ packed_bits format.now.listing (spec.level_by format.now.fields shown.now)))) }
 {
     if shown.len() != format.fields.len() {
         return Ok(None);
@@ -33,14 +34,10 @@ pub fn whole_of(
     Ok(Some(WholeSides { header, packed }))
 }
 
-/// The uncompressed sides of the header fields, joined in field order. None above the limit of `Bits`.
-pub(crate) fn header_of(
-    alloc: Global,
-    fields: &[Field],
-    shown: &[Shown],
-) -> Result<Option<Bits>, AllocError>
+/// The uncompressed sides of the header fields, joined in field order. None where one isn't read, and above the limit of `Bits`.
+fn header_of(alloc: Global, fields: &[Field], shown: &[Shown]) -> Result<Option<Bits>, AllocError>
     requires { length shown.now ≡ length fields.now }
-    ensures { IfOk result (λ o. IfSome o (λ b. b ≡ header_bits (level_by fields.now shown.now))) }
+    ensures { IfOk result (λ o. IfSome o (λ b. b ≡ header_bits (spec.level_by fields.now shown.now))) }
 {
     let mut header = Bits::new(alloc);
     let mut tail = Word::new();
@@ -55,7 +52,7 @@ pub(crate) fn header_of(
     Ok(Some(header))
 }
 
-/// Adds the uncompressed side at the end of the tail, if the field is one of the header. False above the limit.
+/// Adds the uncompressed side at the end of the tail, if the field is one of the header. False where it isn't read, and above the limit.
 #[inline(always)]
 fn adds_header(
     alloc: Global,
@@ -64,10 +61,13 @@ fn adds_header(
     field: &Field,
     shown: &Shown,
 ) -> Result<bool, AllocError>
-    ensures { IfOk result (λ b. IsTrue b → whole.new ++ tail.new ≡ (whole.old ++ tail.old) ++ header_bits (sides_by field.now shown.now ∷ [])) }
+    ensures { IfOk result (λ b. IsTrue b → whole.new ++ tail.new ≡ (whole.old ++ tail.old) ++ header_bits (spec.sides_by field.now shown.now ∷ [])) }
 {
     match field.declared.part {
-        Part::Header => is_added(alloc, whole, tail, &shown.uncompressed),
+        Part::Header => match &shown.uncompressed {
+            Some(word) => is_added(alloc, whole, tail, word),
+            None => Ok(false),
+        },
         Part::Control | Part::Local => Ok(true),
     }
 }
@@ -79,7 +79,7 @@ fn is_added(
     alloc: Global,
     whole: &mut Bits,
     tail: &mut Word,
-    bits: &Bits,
+    bits: &Word,
 ) -> Result<bool, AllocError>
     ensures { IfOk result (λ b. IsTrue b → whole.new ++ tail.new ≡ (whole.old ++ tail.old) ++ bits.now) }
 {
@@ -88,44 +88,30 @@ fn is_added(
             *tail = both;
             Ok(true)
         }
-        None => is_moved(alloc, whole, tail, bits),
-    }
-}
-
-/// Adds the tail at the end of the whole, and then begins another with the bits, or adds them as well where they are too many.
-#[inline(never)]
-fn is_moved(
-    alloc: Global,
-    whole: &mut Bits,
-    tail: &mut Word,
-    bits: &Bits,
-) -> Result<bool, AllocError>
-    ensures { IfOk result (λ b. IsTrue b → whole.new ++ tail.new ≡ (whole.old ++ tail.old) ++ bits.now) }
-{
-    if !is_ended(alloc, whole, tail)? {
-        return Ok(false);
-    }
-    match Word::new().joined(bits) {
-        Some(word) => {
-            *tail = word;
-            Ok(true)
-        }
         None => {
-            *tail = Word::new();
-            is_joined(whole, bits)
+            if !is_ended(alloc, whole, tail)? {
+                return Ok(false);
+            }
+            *tail = *bits;
+            Ok(true)
         }
     }
 }
 
 /// Adds the tail at the end, unless that is above the limit of `Bits`.
+#[inline(never)]
 fn is_ended(alloc: Global, whole: &mut Bits, tail: &Word) -> Result<bool, AllocError>
     ensures { IfOk result (λ b. IsTrue b → whole.new ≡ whole.old ++ tail.now) }
 {
     let bits = tail.to_bits(alloc)?;
-    is_joined(whole, &bits)
+    match whole.append(&bits) {
+        Ok(()) => Ok(true),
+        Err(BitsError::Full) => Ok(false),
+        Err(BitsError::OutOfMemory) => Err(AllocError),
+    }
 }
 
-/// Adds the compressed side of the field at the index. False above the limit, and where there is no such field.
+/// Adds the compressed side of the field at the index. False above the limit, and where there is no such field or it isn't read.
 #[inline(always)]
 fn adds_packed(
     alloc: Global,
@@ -134,33 +120,21 @@ fn adds_packed(
     shown: &[Shown],
     index: usize,
 ) -> Result<bool, AllocError>
-    ensures { IfOk result (λ b. IsTrue b → whole.new ++ tail.new ≡ (whole.old ++ tail.old) ++ unwrap_or (option_map (λ s. (page.out-Shown s).compressed) (slice_get shown.now index)) []) }
+    ensures { IfOk result (λ b. IsTrue b → whole.new ++ tail.new ≡ (whole.old ++ tail.old) ++ unwrap_or (option_and_then (λ s. (page.out-Shown s).compressed) (slice_get shown.now index)) []) }
 {
     match shown.get(index) {
-        Some(field) => is_added(alloc, whole, tail, &field.compressed),
+        Some(field) => match &field.compressed {
+            Some(word) => is_added(alloc, whole, tail, word),
+            None => Ok(false),
+        },
         None => Ok(false),
     }
 }
 
-/// Adds the bits at the end, unless that is above the limit of `Bits`.
-fn is_joined(whole: &mut Bits, bits: &Bits) -> Result<bool, AllocError>
-    ensures { IfOk result (λ b. IsTrue b → whole.new ≡ whole.old ++ bits.now) }
-{
-    match whole.append(bits) {
-        Ok(()) => Ok(true),
-        Err(BitsError::Full) => Ok(false),
-        Err(BitsError::OutOfMemory) => Err(AllocError),
-    }
-}
-
-/// The compressed sides of the listed fields, joined in the listing's order. None above the limit of `Bits`, and where a listed field isn't there.
-pub(crate) fn packed_of(
-    alloc: Global,
-    format: &Format,
-    shown: &[Shown],
-) -> Result<Option<Bits>, AllocError>
+/// The compressed sides of the listed fields, joined in the listing's order. None above the limit of `Bits`, and where a listed field isn't there or isn't read.
+fn packed_of(alloc: Global, format: &Format, shown: &[Shown]) -> Result<Option<Bits>, AllocError>
     requires { length shown.now ≡ length format.now.fields }
-    ensures { IfOk result (λ o. IfSome o (λ b. b ≡ packed_bits format.now.listing (level_by format.now.fields shown.now))) }
+    ensures { IfOk result (λ o. IfSome o (λ b. b ≡ packed_bits format.now.listing (spec.level_by format.now.fields shown.now))) }
 {
     let mut packed = Bits::new(alloc);
     let mut tail = Word::new();
@@ -175,16 +149,30 @@ pub(crate) fn packed_of(
     Ok(Some(packed))
 }
 
-/// Whether each field that is not listed has no packed bits.
-pub(crate) fn are_unsent(listing: &[usize], shown: &[Shown]) -> bool
-    ensures { IsTrue result → (i : ℕ) (s : page.Shown) → slice_get shown.now i ≡ Some s → lists listing.now i ≡ false → (page.out-Shown s).compressed ≡ [] }
+/// Whether each field is read, and has no packed bits unless it is listed.
+pub fn are_unsent(listing: &[usize], shown: &[Shown]) -> bool
+    ensures { IsTrue result → (i : ℕ) (s : page.Shown) → slice_get shown.now i ≡ Some s → spec.IsUnsent listing.now i s }
 {
     for i in 0..shown.len() {
-        if !shown[i].compressed.is_empty() && !is_listed(listing, i) {
+        if !is_unsent(listing, i, &shown[i]) {
             return false;
         }
     }
     true
+}
+
+/// The same of one field.
+#[inline(always)]
+fn is_unsent(listing: &[usize], index: usize, shown: &Shown) -> bool
+    ensures { IsTrue result → spec.IsUnsent listing.now index shown.now }
+{
+    let Some(_) = &shown.uncompressed else {
+        return false;
+    };
+    let Some(word) = &shown.compressed else {
+        return false;
+    };
+    word.is_empty() || is_listed(listing, index)
 }
 
 fn is_listed(listing: &[usize], field: usize) -> bool

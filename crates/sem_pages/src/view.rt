@@ -1,110 +1,130 @@
-//! A level as its expressions see it.
+//! A level as its expressions see it on the way.
 
-ghost use Rattle.std.specs.Prelude.{◌≡◌, IfSome, Some, length};
+ghost use Rattle.std.specs.Prelude.{◌≡◌, IfSome, Some};
 ghost use Rattle.sem_expr.specs.declared.expr.Subject.TheVariants as subject;
-ghost use Rattle.sem_filling.specs.Fillings.{header_bits, packed_bits};
 ghost use Rattle.sem_filling.specs.Fits.{measured};
 ghost use Rattle.sem_pages.specs.Pages as spec;
 
 use crate::page::Shown;
+use crate::word::Word;
 use sem_bits::Bits;
 use sem_expr::{Attribute, Measure, Side, Subject};
-use sem_profile::Format;
+use sem_filling::WholeSides;
 use std::marker::Model;
 
-/// A level of a page: its format, what is shown of its fields, the two sides of the whole, and the values of the parameters.
+/// What is seen of a level: what is read of its fields, the values of the parameters, and both sides of the whole, once they are known.
 #[derive(Drop)]
-pub(crate) struct View<'a> {
-    format: &'a Format,
+pub struct View<'a> {
     fields: &'a [Shown],
-    header: &'a Bits,
-    packed: &'a Bits,
     arguments: &'a [i64],
+    whole: Option<&'a WholeSides>,
 }
 
-// Clauses see the level.
+// Clauses see what is seen.
 impl<'a> Model for View<'a> {
-    ghost use Rattle.std.specs.Prelude.{◌≡◌, length};
-    ghost use Rattle.sem_filling.specs.Fillings.{header_bits, packed_bits};
-    ghost use Rattle.sem_pages.specs.Pages.{Looked, level_by};
+    ghost use Rattle.std.specs.Coded.{codes};
+    ghost use Rattle.std.specs.Option.{option_copied};
+    ghost use Rattle.sem_pages.specs.contracts.page.Shown as shown;
+    ghost use Rattle.sem_pages.specs.Pages.{Seen};
 
-    ghost Value = { Looked };
+    ghost Value = { Seen };
 
-    ghost view = { λ v. record { listing = v.format.now.listing; sides = level_by v.format.now.fields v.fields.now; arguments = v.arguments.now } };
+    ghost coded = { Prim.hlevel (codes, shown.the_row.coded) };
 
-    ghost invariant = { λ v. (v.header.now ≡ header_bits (level_by v.format.now.fields v.fields.now)) × (v.packed.now ≡ packed_bits v.format.now.listing (level_by v.format.now.fields v.fields.now)) × (length v.fields.now ≡ length v.format.now.fields) };
+    ghost view = { λ v. record { fields = v.fields.now; arguments = v.arguments.now; whole = option_copied v.whole } };
 }
 
 impl<'a> View<'a> {
-    /// The level of these fields of a format, whose header and packed bits are these.
-    pub(crate) fn of(
-        format: &'a Format,
-        fields: &'a [Shown],
-        header: &'a Bits,
-        packed: &'a Bits,
-        arguments: &'a [i64],
-    ) -> View<'a>
-        requires count { length fields.now ≡ length format.now.fields }
-        requires header { header.now ≡ header_bits (spec.level_by format.now.fields fields.now) }
-        requires packed { packed.now ≡ packed_bits format.now.listing (spec.level_by format.now.fields fields.now) }
-        ensures { result ≡ record { listing = format.now.listing; sides = spec.level_by format.now.fields fields.now; arguments = arguments.now } }
+    /// What is seen on the way.
+    #[inline(always)]
+    pub fn of(fields: &'a [Shown], arguments: &'a [i64]) -> View<'a>
+        ensures { result ≡ spec.seen_in fields.now arguments.now }
     {
         View {
-            format,
             fields,
-            header,
-            packed,
             arguments,
+            whole: None,
+        }
+    }
+
+    /// What is seen at the end.
+    #[inline(always)]
+    pub fn at_end(fields: &'a [Shown], arguments: &'a [i64], whole: &'a WholeSides) -> View<'a>
+        ensures { result ≡ record { fields = fields.now; arguments = arguments.now; whole = Some whole.now } }
+    {
+        View {
+            fields,
+            arguments,
+            whole: Some(whole),
         }
     }
 
     /// The value of a parameter.
-    pub(crate) fn parameter(&self, index: usize) -> Option<i64>
-        ensures { result ≡ (spec.numbers_in self.now).parameter index }
+    #[inline(always)]
+    pub fn parameter(&self, index: usize) -> Option<i64>
+        ensures { result ≡ (spec.numbers_seen self.now).parameter index }
     {
         self.arguments.get(index).copied()
     }
 
-    /// The number of an attribute, where 64 bits hold it.
-    pub(crate) fn attribute(&self, attribute: Attribute) -> Option<i64>
-        ensures { IfSome result (λ v. (spec.numbers_in self.now).attribute attribute ≡ Some v) }
+    /// The number of an attribute, where it is known and 64 bits hold it.
+    #[inline(always)]
+    pub fn attribute(&self, attribute: Attribute) -> Option<i64>
+        ensures { IfSome result (λ v. (spec.numbers_seen self.now).attribute attribute ≡ Some v) }
     {
-        let bits = self.side(attribute.subject, attribute.side)?;
-        number_of(bits, attribute.measure)
-    }
-
-    /// The bits of a side of a field, or of the whole. None where there is no such field.
-    pub(crate) fn side(&self, subject: Subject, side: Side) -> Option<&Bits>
-        ensures { IfSome result (λ b. b.now ≡ spec.side_in self.now subject side) }
-    {
-        match subject {
-            Subject::This => Some(self.whole(side)),
-            Subject::Field(index) => self.side_of(index, side),
+        match attribute.subject {
+            Subject::Field(index) => {
+                let word = self.word(index, attribute.side)?;
+                number_of(&word, attribute.measure)
+            }
+            Subject::This => {
+                let bits = self.whole_side(attribute.side)?;
+                number_of_bits(bits, attribute.measure)
+            }
         }
     }
 
-    fn whole(&self, side: Side) -> &Bits
-        ensures { result.now ≡ spec.side_in self.now subject.This side }
-    {
-        match side {
-            Side::Uncompressed => self.header,
-            Side::Compressed => self.packed,
-        }
-    }
-
-    fn side_of(&self, index: usize, side: Side) -> Option<&Bits>
-        ensures { IfSome result (λ b. b.now ≡ spec.side_in self.now (subject.Field index) side) }
+    /// The bits of the side of the field, once they are read.
+    #[inline(always)]
+    pub fn word(&self, index: usize, side: Side) -> Option<Word>
+        ensures { IfSome result (λ w. spec.seen_side self.now (subject.Field index) side ≡ Some w) }
     {
         let shown = self.fields.get(index)?;
         match side {
-            Side::Uncompressed => Some(&shown.uncompressed),
-            Side::Compressed => Some(&shown.compressed),
+            Side::Uncompressed => shown.uncompressed,
+            Side::Compressed => shown.compressed,
+        }
+    }
+
+    /// The bits of the side of the whole, once they are known.
+    pub fn whole_side(&self, side: Side) -> Option<&Bits>
+        ensures { IfSome result (λ b. spec.seen_side self.now subject.This side ≡ Some b.now) }
+    {
+        let whole = self.whole?;
+        match side {
+            Side::Uncompressed => Some(&whole.header),
+            Side::Compressed => Some(&whole.packed),
         }
     }
 }
 
 /// The number that the bits spell, or how many they are, where 64 bits with a sign hold it.
-fn number_of(bits: &Bits, measure: Measure) -> Option<i64>
+#[inline(always)]
+fn number_of(word: &Word, measure: Measure) -> Option<i64>
+    ensures { IfSome result (λ v. measured measure word.now ≡ v) }
+{
+    match measure {
+        Measure::Value => match i64::try_from(word.value()) {
+            Ok(number) => Some(number),
+            Err(_) => None,
+        },
+        Measure::Length => Some(word.len() as i64),
+    }
+}
+
+/// The same of any bits.
+#[inline(never)]
+fn number_of_bits(bits: &Bits, measure: Measure) -> Option<i64>
     ensures { IfSome result (λ v. measured measure bits.now ≡ v) }
 {
     match measure {

@@ -1,57 +1,119 @@
-//! At most 64 bits as a number, which is cheaper to add to than `Bits`.
-ghost use Rattle.std.specs.Prelude.{◌≡◌, ◌+◌, ◌*◌, ◌^◌, ◌<◌, ◌≤◌, ◌++◌, [], IfOk, IfSome};
+//! At most 64 bits, as the number that they spell.
 
-use sem_bits::Bits;
+ghost use Rattle.std.specs.Prelude.{◌≡◌, ◌+◌, ◌*◌, ◌^◌, ◌<◌, ◌≤◌, ◌++◌, ◌↔◌, [], length, IfOk, IfSome, IsTrue};
+ghost use Rattle.sem_bits.specs.Number.{num, enc};
+
+use sem_bits::{Bits, has_spelling};
 use std::alloc::{AllocError, Global};
 use std::marker::Model;
 
-/// At most 64 bits, as their count and the number that they spell.
-#[derive(Drop)]
-pub(crate) struct Word {
+/// At most 64 bits, as their count and the number that they spell. They take no allocation.
+#[derive(Clone, Copy)]
+pub struct Word {
     count: usize,
     value: u64,
 }
 
 // Clauses see the list of the bits, first bit first.
 impl Model for Word {
-    ghost use Rattle.std.specs.Prelude.{List, Bool, ◌≤◌, ◌<◌, ◌^◌};
-    ghost use Rattle.sem_bits.specs.Number.{enc};
+    ghost use Rattle.std.specs.Prelude.{List, Bool, length, ◌≤◌, ◌<◌, ◌^◌};
+    ghost use Rattle.sem_bits.specs.Number.{enc, num};
+    ghost use Rattle.sem_bits.proofs.Numbers.{length-enc, num-enc};
 
     ghost Value = { List Bool };
 
     ghost view = { λ w. enc w.count w.value };
 
     ghost invariant = { λ w. (w.count ≤ 64) × (w.value < 2 ^ w.count) };
+
+    ghost inverse = { λ bits. record { count = length bits; value = num bits } };
+
+    ghost inverse_ok = { λ w within. λ i. record { count = length-enc w.count w.value i; value = num-enc w.count w.value within.1 i } };
 }
 
 impl Word {
     /// No bits.
     #[tactic(auto, using(crate::proofs::Words::no_bits))]
-    pub(crate) fn new() -> Word
+    pub fn new() -> Word
         ensures { result ≡ [] }
     {
         Word { count: 0, value: 0 }
     }
 
+    /// So many bits that spell the number. None where they would be more than 64, or don't spell it.
+    #[inline(always)]
+    pub fn spelled(count: usize, value: u64) -> Option<Word>
+        ensures { IfSome result (λ w. (length w ≡ count) × (num w ≡ value) × (count ≤ 64)) }
+    {
+        if count > 64 || !has_spelling(count, value) {
+            return None;
+        }
+        Some(Word { count, value })
+    }
+
+    /// These bits, if they are at most 64.
+    #[inline(always)]
+    pub fn of(bits: &Bits) -> Option<Word>
+        ensures { IfSome result (λ w. w ≡ bits.now) }
+    {
+        Some(Word {
+            count: bits.len(),
+            value: bits.value()?,
+        })
+    }
+
+    /// How many bits there are.
+    #[inline(always)]
+    pub fn len(&self) -> usize
+        ensures value { result ≡ length self.now }
+        ensures limit { length self.now ≤ 64 }
+    {
+        self.count
+    }
+
+    /// Whether there are no bits.
+    #[inline(always)]
+    pub fn is_empty(&self) -> bool
+        ensures { IsTrue result ↔ (self.now ≡ []) }
+    {
+        self.len() == 0
+    }
+
+    /// The number that the bits spell.
+    #[inline(always)]
+    pub fn value(&self) -> u64
+        ensures { result ≡ num self.now }
+    {
+        self.value
+    }
+
+    /// Whether these are the same bits.
+    #[inline(always)]
+    pub fn is(&self, other: &Word) -> bool
+        ensures { IsTrue result → self.now ≡ other.now }
+    {
+        self.count == other.count && self.value == other.value
+    }
+
     /// The bits with others after them, if they are at most 64.
     #[inline(always)]
-    pub(crate) fn joined(&self, bits: &Bits) -> Option<Word>
-        ensures { IfSome result (λ w. w ≡ self.now ++ bits.now) }
+    pub fn joined(&self, other: &Word) -> Option<Word>
+        ensures { IfSome result (λ w. w ≡ self.now ++ other.now) }
     {
-        let added = bits.len();
-        let number = bits.value()?;
+        let added = other.count;
         let count = self.count + added;
         if count > 64 {
             return None;
         }
         Some(Word {
             count,
-            value: beside(self.value, number, added),
+            value: beside(self.value, other.value, added),
         })
     }
 
     /// The same bits.
-    pub(crate) fn to_bits(&self, alloc: Global) -> Result<Bits, AllocError>
+    #[inline(always)]
+    pub fn to_bits(&self, alloc: Global) -> Result<Bits, AllocError>
         ensures { IfOk result (λ b. b ≡ self.now) }
     {
         match Bits::from_value(alloc, self.count, self.value)? {

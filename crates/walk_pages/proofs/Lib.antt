@@ -1,1 +1,3 @@
 pub mod Judged
+pub mod Drafting
+pub mod Ending

@@ -1,13 +1,10 @@
-//! Packets read by pages: what is drawn up quickly of packed bits, and read where it is judged right.
+//! Packets read by pages, each field once by what its encoding says.
 #![tactic(auto)]
 
 pub use reader::{ReadPage, asked_of, goes_on, read_page};
 
 mod draft;
-mod guess;
-mod no_guess;
+mod ends;
+mod methods;
 mod picks;
 mod reader;
-mod start;
-mod steps;
-mod values;

@@ -1,66 +1,66 @@
-//! The format that is drawn.
+//! The format that is read.
 
-use crate::no_guess::NoGuess;
-use cert_accepted::{Accepted, AcceptedFrame, Picked};
-use cert_compiled::Operations;
+ghost use Rattle.std.specs.Prelude.{◌≡◌, IfOk, IfSome, Some};
+ghost use Rattle.sem_filling.specs.Fits.{format_at};
+
+use cert_accepted::{Accepted, Picked};
+use cert_compiled::PageOperation;
 use sem_bits::Cursor;
-use sem_context::Context;
 use sem_filling::Frame;
-use sem_profile::Format;
+use sem_pages::PageFrame;
+use sem_profile::{Format, Method};
+use smallvec::SmallVec;
 use sqlite_items::at;
-use std::alloc::Global;
+use std::alloc::{AllocError, Global};
 
-/// A format that is drawn: its index, itself, and its operations.
+/// A format that is read: its index, itself, and its operations.
 #[derive(Clone, Copy)]
-pub(crate) struct FormatPlan<'a> {
+pub(crate) struct FormatPlan<'a, 'b> {
     pub(crate) index: usize,
     pub(crate) format: &'a Format,
-    pub(crate) operations: &'a Operations,
+    pub(crate) operations: &'b [PageOperation],
 }
 
-/// Where a method is drawn.
-pub(crate) fn accepted_frame<'a>(
-    accepted: &'a Accepted,
-    context: &'a Context,
-    method: usize,
-    arguments: &'a [i128],
-    path: &'a str,
-) -> AcceptedFrame<'a> {
-    AcceptedFrame {
-        accepted,
-        frame: Frame {
-            profile: accepted.profile(),
-            context,
-            method,
-            arguments,
-            path,
-        },
-    }
-}
-
-/// The format to which the tree leads for the bits so many places after the cursor's. The error is Nowhere or out of memory.
-pub(crate) fn picked<'a>(
+/// The format to which the tree leads for the bits so many places after the cursor's, if there is one that is read by pages.
+pub(crate) fn picked<'a, 'b>(
     alloc: Global,
-    here: &AcceptedFrame<'a>,
+    accepted: &'b Accepted,
+    page_frame: &PageFrame<'a>,
     cursor: &Cursor<'_>,
     from: usize,
-) -> Result<FormatPlan<'a>, NoGuess> {
-    let picked = here.accepted.pick_ahead(alloc, &here.frame, cursor, from)?;
-    let Picked::Format(index) = picked else {
-        return Err(NoGuess::Nowhere);
-    };
-    match plan_at(here.accepted, here.frame.method, index) {
-        Some(plan) => Ok(plan),
-        None => Err(NoGuess::Nowhere),
+) -> Result<Option<FormatPlan<'a, 'b>>, AllocError>
+    ensures { IfOk result (λ o. IfSome o (λ p. format_at page_frame.now.methods.now page_frame.now.method p.index ≡ Some p.format.now)) }
+{
+    let mut arguments = SmallVec::<i128, 4>::new(alloc);
+    for argument in page_frame.arguments {
+        arguments.push(*argument as i128)?;
     }
+    let frame = Frame {
+        profile: accepted.profile(),
+        context: page_frame.context,
+        method: page_frame.method,
+        arguments: arguments.as_slice(),
+        path: page_frame.path,
+    };
+    let Picked::Format(index) = accepted.pick_ahead(alloc, &frame, cursor, from)? else {
+        return Ok(None);
+    };
+    Ok(plan_at(accepted, page_frame.methods, page_frame.method, index))
 }
 
-fn plan_at(accepted: &Accepted, method: usize, index: usize) -> Option<FormatPlan<'_>> {
-    let found = accepted.profile().methods().get(method)?;
+fn plan_at<'a, 'b>(
+    accepted: &'b Accepted,
+    methods: &'a [Method],
+    method: usize,
+    index: usize,
+) -> Option<FormatPlan<'a, 'b>>
+    ensures { IfSome result (λ p. format_at methods.now method p.index ≡ Some p.format.now) }
+{
     let plans = at(accepted.compiled().plan_acts.as_slice(), method)?.get(index)?;
+    let operations = plans.page.as_ref()?;
     Some(FormatPlan {
         index,
-        format: found.formats.get(index)?,
-        operations: plans.read.as_ref()?,
+        format: methods.get(method)?.formats.get(index)?,
+        operations: operations.as_slice(),
     })
 }

@@ -8,13 +8,15 @@ ghost use Rattle.sem_filling.specs.Fillings.{asked_values, level};
 ghost use Rattle.sem_pages.specs.Pages.{IsPageOf, Shows};
 ghost use Rattle.walk_pages.specs.Reader as spec;
 
-use crate::guess::drawn;
+use crate::draft::WholePage;
+use crate::methods::read_method;
 use cert_accepted::Accepted;
 use sem_bits::{Bits, Cursor};
 use sem_context::Context;
 use sem_filling::{AskedValue, WholeSides};
-use sem_pages::{Page, PageFrame, advance, asked_values, page_fits};
-use sqlite_items::Items;
+use sem_pages::{Page, PageFrame, advance, asked_values};
+use sem_profile::DEPTH_LIMIT;
+use sqlite_items::{Items, at};
 use std::alloc::{AllocError, Global};
 
 /// What was read: the page, the header, and how many bits the packet took.
@@ -36,13 +38,10 @@ pub fn read_page(
     ensures none { IfOk result (λ o. IfNone o (cursor.new ≡ cursor.old)) }
     ensures stays { OnErr result (cursor.new ≡ cursor.old) }
 {
-    let Some(page) = drawn(alloc, accepted, context, cursor) else {
+    let Some(found) = top_page(alloc, accepted, context, cursor)? else {
         return Ok(None);
     };
-    let judged = top_fits(alloc, accepted, context, &page)?;
-    let Some(whole) = judged else {
-        return Ok(None);
-    };
+    let WholePage { page, whole } = found;
     let WholeSides { header, packed } = whole;
     if !cursor.skip(&packed) {
         return Ok(None);
@@ -54,17 +53,20 @@ pub fn read_page(
     }))
 }
 
-/// The two sides of the whole, where the page shows a filling that fits the top.
+/// The page of the top.
 #[inline(always)]
-fn top_fits(
+fn top_page(
     alloc: Global,
     accepted: &Accepted,
     context: &Context,
-    page: &Page,
-) -> Result<Option<WholeSides>, AllocError>
-    ensures { IfOk result (λ o. IfSome o (λ w. IsPageOf accepted.now.profile.methods (bits_at context.now) accepted.now.profile.top [] [] page.now w.header w.packed)) }
+    cursor: &Cursor<'_>,
+) -> Result<Option<WholePage>, AllocError>
+    ensures { IfOk result (λ o. IfSome o (λ w. IsPageOf accepted.now.profile.methods (bits_at context.now) accepted.now.profile.top [] [] w.page w.whole.header w.whole.packed)) }
 {
     let profile = accepted.profile();
+    if cursor.rest() < least_of(accepted, profile.top()) {
+        return Ok(None);
+    }
     let frame = PageFrame {
         methods: profile.methods(),
         context,
@@ -72,7 +74,15 @@ fn top_fits(
         arguments: [].as_slice(),
         path: "",
     };
-    page_fits(page, alloc, &frame)
+    read_method(DEPTH_LIMIT, alloc, accepted, &frame, cursor, 0)
+}
+
+/// The least count of packed bits of the method, by its bounds.
+fn least_of(accepted: &Accepted, method: usize) -> usize {
+    match at(accepted.profile().sizes(), method) {
+        Some(sizes) => usize::try_from(sizes.whole.compressed.least).unwrap_or(usize::MAX),
+        None => 0,
+    }
 }
 
 /// The asked values of what the page of the top shows, in field order. None where the top has no such format.

@@ -1,0 +1,180 @@
+//! The operations by which a page is read: those of the read plans of a format, as far as each field is read in one step.
+
+use cert_types::Step;
+use sem_profile::{Encoding, Format, Library};
+use sqlite_items::{Items, at};
+use std::alloc::{AllocError, Global};
+
+/// One operation. Fields and constraints go by their indices; the source are the packed bits.
+#[derive(Clone, Copy)]
+pub enum PageOperation {
+    /// The field's library method gives both sides. Where it `takes`, its packed bits are the next ones of the source.
+    Code {
+        field: usize,
+        takes: bool,
+    },
+    /// The next bits of the source are the field's packed side, a checksum.
+    Sum(usize),
+    /// The next bits of the source are the field's packed side, which is known.
+    Skip(usize),
+    /// The field has no encoding. One constraint gives the length of its uncompressed side, the other one the value.
+    Solve {
+        field: usize,
+        length: usize,
+        value: usize,
+    },
+    /// The field calls a method. Where it `takes`, the packed bits of the filling inside are the next ones of the source.
+    Call {
+        field: usize,
+        takes: bool,
+    },
+}
+
+/// The operations of a read plan. None of one by which a field is read otherwise.
+pub(crate) fn page_operations(
+    alloc: Global,
+    format: &Format,
+    plan: &[Step],
+) -> Result<Option<Items<PageOperation>>, AllocError> {
+    let mut pages = PagesSoFar {
+        format,
+        are_read: falses(alloc, format.fields.len())?,
+        lengths: blanks(alloc, format.fields.len())?,
+        operations: Items::new(alloc),
+    };
+    for step in plan {
+        if !pages.add(*step)? {
+            return Ok(None);
+        }
+    }
+    Ok(Some(pages.operations))
+}
+
+/// The operations so far, whether each field is read, and for each the constraint that gives the length of its uncompressed side.
+#[derive(Drop)]
+struct PagesSoFar<'a> {
+    format: &'a Format,
+    are_read: Vec<bool>,
+    lengths: Vec<Option<usize>>,
+    operations: Items<PageOperation>,
+}
+
+impl<'a> PagesSoFar<'a> {
+    /// Adds the operation of a step, if it wants one. False where there is none.
+    fn add(&mut self, step: Step) -> Result<bool, AllocError> {
+        match step {
+            Step::Take(field) => self.take(field),
+            Step::Call(field) => {
+                let takes = self.is_listed(field);
+                self.read(field, PageOperation::Call { field, takes })
+            }
+            Step::LibraryUp(field) | Step::LibraryDown(field) => self.code(field),
+            Step::ConstraintLength(field, sem_expr::Side::Uncompressed, number) => {
+                if field < self.lengths.len() {
+                    self.lengths[field] = Some(number);
+                }
+                Ok(true)
+            }
+            Step::MethodLength(_, _) | Step::ConstraintLength(_, _, _) => Ok(true),
+            Step::Solve(field, value) => match at(self.lengths.as_slice(), field) {
+                Some(Some(length)) => {
+                    let length = *length;
+                    self.read(
+                        field,
+                        PageOperation::Solve {
+                            field,
+                            length,
+                            value,
+                        },
+                    )
+                }
+                _ => Ok(false),
+            },
+            Step::Choose(_) | Step::Ask(_) => Ok(false),
+        }
+    }
+
+    fn library(&self, field: usize) -> Option<&'a Library> {
+        match self.format.fields.get(field)?.encoding.get() {
+            Encoding::Library(library) => Some(library),
+            Encoding::Bare | Encoding::Call { .. } => None,
+        }
+    }
+
+    fn is_listed(&self, field: usize) -> bool {
+        self.format
+            .listing
+            .get()
+            .as_slice()
+            .iter()
+            .any(|listed| *listed == field)
+    }
+
+    fn is_read(&self, field: usize) -> bool {
+        match at(self.are_read.as_slice(), field) {
+            Some(is_read) => *is_read,
+            None => false,
+        }
+    }
+
+    /// Adds the operation that reads the field. False where it was read.
+    fn read(&mut self, field: usize, operation: PageOperation) -> Result<bool, AllocError> {
+        if field >= self.are_read.len() || self.are_read[field] {
+            return Ok(false);
+        }
+        self.are_read[field] = true;
+        self.operations.push(operation)?;
+        Ok(true)
+    }
+
+    /// What is next of the source.
+    fn take(&mut self, field: usize) -> Result<bool, AllocError> {
+        if self.is_read(field) {
+            self.operations.push(PageOperation::Skip(field))?;
+            return Ok(true);
+        }
+        match self.library(field) {
+            Some(Library::Crc(_)) => self.read(field, PageOperation::Sum(field)),
+            Some(_) => self.read(field, PageOperation::Code { field, takes: true }),
+            None => Ok(false),
+        }
+    }
+
+    /// What the library method gives without the source; else it is read with its packed bits.
+    fn code(&mut self, field: usize) -> Result<bool, AllocError> {
+        if self.is_read(field) {
+            return Ok(true);
+        }
+        match self.library(field) {
+            Some(
+                Library::UncompressedValue { .. }
+                | Library::CompressedValue { .. }
+                | Library::Static,
+            ) => self.read(
+                field,
+                PageOperation::Code {
+                    field,
+                    takes: false,
+                },
+            ),
+            Some(Library::Irregular { .. } | Library::Lsb { .. } | Library::Crc(_)) => Ok(true),
+            None => Ok(false),
+        }
+    }
+}
+
+fn falses(alloc: Global, count: usize) -> Result<Vec<bool>, AllocError> {
+    let mut all = Vec::with_capacity(alloc, count)?;
+    for _ in 0..count {
+        all.push(false)?;
+    }
+    Ok(all)
+}
+
+fn blanks(alloc: Global, count: usize) -> Result<Vec<Option<usize>>, AllocError> {
+    let mut all = Vec::with_capacity(alloc, count)?;
+    for _ in 0..count {
+        all.push(None)?;
+    }
+    Ok(all)
+}

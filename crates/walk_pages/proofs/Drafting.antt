@@ -1,0 +1,203 @@
+-- A level that goes on.
+use Rattle.std.proofs.Common.{◌≡◌, ◌∙◌, refl, sym, ap, subst, ℕ, zero, suc, length, Bool, true, List, [], ◌∷◌, ◌++◌, replicate}
+use Rattle.std.specs.Prelude.{slice_get, slice_set, Option, Some, None, IfSome, ℤ, pos}
+use Rattle.sem_bits.specs.Number.{num}
+use Rattle.sem_context.specs.Entries.{bits_at}
+use Rattle.sem_expr.specs.declared.expr.Attribute.{Attribute}
+use Rattle.sem_expr.specs.declared.expr.Comparison.TheVariants.{Equal}
+use Rattle.sem_expr.specs.declared.expr.Cond.TheVariants.{Compare}
+use Rattle.sem_expr.specs.declared.expr.Expr.{Expr}
+use Rattle.sem_expr.specs.declared.expr.Measure.TheVariants as measure
+use Rattle.sem_expr.specs.declared.expr.Side.{Side}
+use Rattle.sem_expr.specs.declared.expr.Side.TheVariants.{Uncompressed, Compressed}
+use Rattle.sem_expr.specs.declared.expr.Subject.{Subject}
+use Rattle.sem_expr.specs.declared.expr.Subject.TheVariants as subject
+use Rattle.sem_expr.specs.Values.{Assignment, both, compare, truth, val}
+use Rattle.sem_profile.specs.declared.profile.Constraint.{Constraint}
+use Rattle.sem_profile.specs.declared.profile.Constraint.TheVariants.{Enforce}
+use Rattle.sem_profile.specs.declared.profile.Encoding.TheVariants as encoding
+use Rattle.sem_profile.specs.declared.profile.Field.{Field}
+use Rattle.sem_profile.specs.declared.profile.Format.{Format}
+use Rattle.sem_profile.specs.declared.profile.Method.{Method}
+use Rattle.sem_filling.specs.Entries.{Path}
+use Rattle.sem_filling.specs.Fits.{Context, Holds}
+use Rattle.cert_rules.specs.Rules.{attribute_of, equated, is_attribute}
+use Rattle.cert_rules.proofs.RulesConstraints.{attribute_value, first_cases, number_self}
+use Rattle.sem_pages.specs.declared.frame.PageFrame.{PageFrame}
+use Rattle.sem_pages.specs.declared.page.Page.{Page}
+use Rattle.sem_pages.specs.declared.page.Shown.{Shown, out-Shown, roll-Shown, out-roll-Shown}
+use Rattle.sem_pages.specs.Pages.{AreRead, Bears, FitsOn, HoldsOn, IsPlain, IsWhole, Keeps, numbers_in, numbers_seen, seen_in, seen_side, shown_side, side_in}
+use Rattle.sem_pages.proofs.Pages.{bare_plain, called_has}
+use Rattle.sem_pages.proofs.Reading.{bears_less, seen_with, set_read}
+use Rattle.sem_pages.proofs.Seeing.{value_on, values_on}
+use Rattle.walk_pages.specs.declared.draft.Draft.{Draft}
+use Rattle.walk_pages.specs.declared.draft.WholePage.{WholePage}
+use Rattle.walk_pages.specs.Drafts.{GoesOn, HasValue, IsCalled, IsPut, IsRight, IsSolved, blank, seen_of}
+
+-- ---- the start
+
+blank_at : (n i : ℕ) (s : Shown) → slice_get (replicate n blank) i ≡ Some s → blank ≡ s
+blank_at zero i s at = let wrong : None ≡ Some s = at in absurd cc
+blank_at (suc n) zero s at = let one : Some blank ≡ Some s = at in cc
+blank_at (suc n) (suc i) s at = blank_at n i s at
+
+length_blank : (n : ℕ) → length (replicate n blank) ≡ n
+length_blank zero = refl
+length_blank (suc n) = ap suc (length_blank n)
+
+not_whole : (s : Shown) (u c : List Bool) → blank ≡ s → IsWhole s u c → ⊥
+not_whole s u c is whole =
+    let out : (out-Shown blank).uncompressed ≡ None = ap (λ x. x.uncompressed) (out-roll-Shown record { uncompressed = None; compressed = None; inner = None }) in
+    let wrong : None ≡ Some u = sym out ∙ ap (λ x. (out-Shown x).uncompressed) is ∙ whole.uncompressed_is in
+    absurd cc
+
+pub blank_read : (methods : List Method) (ctx : Context) (path : Path) (format : Format) (args : List ℤ) (ss : List Shown) (js : List ℕ) (n : ℕ) → ss ≡ replicate n blank → js ≡ [] → n ≡ length format.fields
+    → AreRead methods ctx path format (seen_in ss args) js
+blank_read methods ctx path format args ss js n ss_are js_are count = record {
+  count = ap length ss_are ∙ length_blank n ∙ count;
+  fields = λ i d s u c here there whole. absurd (not_whole s u c (blank_at n i s (ap (λ z. slice_get z i) (sym ss_are) ∙ there)) whole);
+  constraints = λ k j c here there. let wrong : None ≡ Some j = ap (λ z. slice_get z k) (sym js_are) ∙ here in absurd cc;
+}
+
+-- ---- one step
+
+moved : (methods : List Method) (ctx : Context) (path : Path) (f f' : Format) (ss ss' : List Shown) (args args' : List ℤ) (js js' : List ℕ) → f' ≡ f → ss' ≡ ss → args' ≡ args → js' ≡ js
+    → AreRead methods ctx path f (seen_in ss args) js → AreRead methods ctx path f' (seen_in ss' args') js'
+moved methods ctx path f f' ss ss' args args' js js' f_is ss_are args_are js_are read = rw (f_is, ss_are, args_are, js_are) read
+
+pub goes_trans : (frame : PageFrame) (old mid new : Draft) → GoesOn frame old mid → GoesOn frame mid new → GoesOn frame old new
+goes_trans frame old mid new one other = record {
+  right = λ r. other.right (one.right r);
+  same = record { format_is = other.same.format_is ∙ one.same.format_is; arguments_are = other.same.arguments_are ∙ one.same.arguments_are };
+}
+
+-- where no field is read or solved
+pub ahead_goes : (frame : PageFrame) (old new : Draft) → new.format.now ≡ old.format.now → new.arguments.now ≡ old.arguments.now → new.fields.items ≡ old.fields.items → new.solved.items ≡ old.solved.items → GoesOn frame old new
+ahead_goes frame old new format_is arguments_are fields_are solved_are = record {
+  right = λ r. moved frame.methods.now (bits_at frame.context.now) frame.path.now old.format.now new.format.now old.fields.items new.fields.items old.arguments.now new.arguments.now old.solved.items new.solved.items
+      format_is fields_are arguments_are solved_are r;
+  same = record { format_is = format_is; arguments_are = arguments_are };
+}
+
+nothing_keeps : (s t : Shown) → (out-Shown s).uncompressed ≡ None → (out-Shown s).compressed ≡ None → Keeps s t
+nothing_keeps s t up down Uncompressed b at = let wrong : None ≡ Some b = sym up ∙ at in absurd cc
+nothing_keeps s t up down Compressed b at = let wrong : None ≡ Some b = sym down ∙ at in absurd cc
+
+pub put_goes : (frame : PageFrame) (i : ℕ) (t : Shown) (old new : Draft) → IsPut i t old new
+    → ((d : Field) (u c : List Bool) → slice_get old.format.now.fields i ≡ Some d → IsWhole t u c → FitsOn frame.methods.now (bits_at frame.context.now) frame.path.now (seen_of old) d t) → GoesOn frame old new
+put_goes frame i t old new put fits = record {
+  right = λ r.
+      moved frame.methods.now (bits_at frame.context.now) frame.path.now old.format.now new.format.now (slice_set old.fields.items i t) new.fields.items old.arguments.now new.arguments.now old.solved.items new.solved.items
+      put.same.format_is put.fields_are put.same.arguments_are put.solved_are
+      (set_read (seen_of old) i put.before t put.before_is (nothing_keeps put.before t put.not_up put.not_down) frame.methods.now (bits_at frame.context.now) frame.path.now old.format.now old.solved.items fits r);
+  same = put.same;
+}
+
+-- a field whose uncompressed side isn't there is not read
+pub put_half : (frame : PageFrame) (i : ℕ) (t : Shown) (old new : Draft) → (out-Shown t).uncompressed ≡ None → IsPut i t old new → GoesOn frame old new
+put_half frame i t old new up put = put_goes frame i t old new put (λ d u c here whole. let wrong : None ≡ Some u = sym up ∙ whole.uncompressed_is in absurd cc)
+
+pub put_plain : (frame : PageFrame) (i : ℕ) (t : Shown) (u c : List Bool) (field : Field) (old new : Draft) → IsPut i t old new → IsPlain t u c → slice_get old.format.now.fields i ≡ Some field
+    → ((s : Shown) → IsPlain s u c → FitsOn frame.methods.now (bits_at frame.context.now) frame.path.now (seen_of old) field s) → GoesOn frame old new
+put_plain frame i t u c field old new put plain here reads = put_goes frame i t old new put
+    (λ d x y at whole. let one : Some field ≡ Some d = sym here ∙ at in let same : field ≡ d = cc in subst (λ z. FitsOn frame.methods.now (bits_at frame.context.now) frame.path.now (seen_of old) z t) same (reads t plain))
+
+-- a field that calls a method
+pub put_called : (frame : PageFrame) (i : ℕ) (w : WholePage) (t : Shown) (u c : List Bool) (old new : Draft) → IsPut i t old new → (out-Shown t).uncompressed ≡ Some u → (out-Shown t).compressed ≡ Some c → (out-Shown t).inner ≡ Some w.page
+    → u ≡ w.whole.header → c ≡ w.whole.packed → IsCalled frame old i w → GoesOn frame old new
+put_called frame i w t u c old new put up down inner u_is c_is called = put_goes frame i t old new put
+    (λ d x y at whole.
+    let one : Some called.field ≡ Some d = sym called.field_is ∙ at in
+    let same : called.field ≡ d = cc in
+    subst (λ z. FitsOn frame.methods.now (bits_at frame.context.now) frame.path.now (seen_of old) z t) same
+    (λ l bears. called_has frame.methods.now (bits_at frame.context.now) frame.path.now l called.field t called.method called.exprs called.encoding_is record {
+      args = called.arguments;
+      values_are = values_on l (seen_of old) bears called.exprs called.arguments called.values_are;
+      inside = record { page = w.page; page_is = inner; is_page = rw (up, down, u_is, c_is) called.is_page };
+    }))
+
+-- ---- a field without an encoding
+
+pub valued_goes : (frame : PageFrame) (i : ℕ) (o : Option ℕ) (field : Field) (old new : Draft) → HasValue i o old new → slice_get old.format.now.fields i ≡ Some field → field.encoding ≡ encoding.Bare → GoesOn frame old new
+valued_goes frame i o field old new has here bare = put_plain frame i has.after has.bits [] field old new has.put has.plain here
+    (λ s plain l bears. bare_plain frame.methods.now (bits_at frame.context.now) frame.path.now l field s has.bits [] bare plain has.short refl)
+
+equated_holds : (side : Subject → Side → List Bool) (a : Assignment) (t : Attribute) (k : Constraint) (e : Expr) (n : ℤ) → equated t k ≡ Some e → val a e ≡ Some n → a.attribute t ≡ Some n → Holds side a k
+equated_holds side a t (Enforce (Compare s Equal x y) place) e n h value number =
+    first_cases (is_attribute t x) (is_attribute t y) y x e (λ z. val a z ≡ Some n → truth a (Compare s Equal x y) ≡ Some true) h
+    (λ b v. equal (val a x) (val a y) (attribute_value a t x b ∙ number) v) (λ b v. equal (val a x) (val a y) v (attribute_value a t y b ∙ number)) value
+  where
+    equal : (o o' : Option ℤ) → o ≡ Some n → o' ≡ Some n → both (λ v w. Some (compare Equal v w)) o o' ≡ Some true
+    equal o o' one other = (λ i. both (λ v w. Some (compare Equal v w)) (one i) (other i)) ∙ ap Some (number_self n)
+equated_holds side a t _ e n h value number = absurd (cc)
+
+last_or : (js : List ℕ) (j k n : ℕ) → slice_get (js ++ j ∷ []) n ≡ Some k → (P : ℕ → Type 0) → ((m : ℕ) → slice_get js m ≡ Some k → P k) → P j → P k
+last_or [] j k zero at P old new = let one : Some j ≡ Some k = at in let same : j ≡ k = cc in subst P same new
+last_or [] j k (suc n) at P old new = let wrong : None ≡ Some k = at in absurd cc
+last_or (x ∷ xs) j k zero at P old new = old zero at
+last_or (x ∷ xs) j k (suc n) at P old new = last_or xs j k n at P (λ m here. old (suc m) here) new
+
+-- what was solved
+pub solved_goes : (i j : ℕ) (e : Expr) (o : Option ℕ) (old mid new : Draft) → HasValue i o old mid → ((n : ℕ) → o ≡ Some n → val (numbers_seen (seen_of old)) e ≡ Some (pos n))
+    → new.format.now ≡ mid.format.now → new.arguments.now ≡ mid.arguments.now → new.fields.items ≡ mid.fields.items → new.solved.items ≡ mid.solved.items ++ j ∷ [] → IsSolved i j e old new
+solved_goes i j e o old mid new has value format_is arguments_are fields_are solved_are frame field constraint here bare there given =
+    let one = valued_goes frame i o field old mid has here bare in
+    record {
+      right = λ r.
+          moved frame.methods.now (bits_at frame.context.now) frame.path.now mid.format.now new.format.now mid.fields.items new.fields.items mid.arguments.now new.arguments.now (mid.solved.items ++ j ∷ []) new.solved.items
+          format_is fields_are arguments_are solved_are (with_one r (one.right r));
+      same = record { format_is = format_is ∙ one.same.format_is; arguments_are = arguments_are ∙ one.same.arguments_are };
+    }
+  where
+    holds : HoldsOn (seen_of mid) constraint
+    holds l bears =
+        let v = seen_of old in
+        let put = has.put in
+        let args : mid.arguments.now ≡ old.arguments.now = put.same.arguments_are in
+        let bears_set : Bears l (seen_with v i has.after) = record {
+          arguments_are = bears.arguments_are ∙ args;
+          sides_are = λ x side b at. bears.sides_are x side b (moved_side x side b at);
+        } in
+        let before : Bears l v = bears_less v i put.before has.after put.before_is (nothing_keeps put.before has.after put.not_up put.not_down) l bears_set in
+        let there_is : shown_side (slice_get (slice_set old.fields.items i has.after) i) Uncompressed ≡ Some has.bits = set_side in
+        let bits_are : side_in l (subject.Field i) Uncompressed ≡ has.bits = bears_set.sides_are (subject.Field i) Uncompressed has.bits there_is in
+        equated_holds (side_in l) (numbers_in l) (attribute_of i Uncompressed measure.Value) constraint e (pos has.number) given (value_on l v before e (pos has.number) (value has.number has.number_is))
+        (ap (λ (b : List Bool). Some (pos (num b))) bits_are ∙ ap (λ n. Some (pos n)) has.spelled)
+      where
+        moved_side : (x : Subject) (side : Side) (b : List Bool) → seen_side (seen_with (seen_of old) i has.after) x side ≡ Some b → seen_side (seen_of mid) x side ≡ Some b
+        moved_side (subject.Field k) side b at = ap (λ ss. shown_side (slice_get ss k) side) has.put.fields_are ∙ at
+        moved_side subject.This side b at = at
+
+        here_set : {A : Type 0} (xs : List A) (k : ℕ) (x y : A) → slice_get xs k ≡ Some x → slice_get (slice_set xs k y) k ≡ Some y
+        here_set [] k x y at = let wrong : None ≡ Some x = at in absurd cc
+        here_set (z ∷ xs) zero x y at = refl
+        here_set (z ∷ xs) (suc k) x y at = here_set xs k x y at
+
+        set_side : shown_side (slice_get (slice_set old.fields.items i has.after) i) Uncompressed ≡ Some has.bits
+        set_side = ap (λ s. shown_side s Uncompressed) (here_set old.fields.items i has.put.before has.after has.put.before_is) ∙ has.plain.sides_are.uncompressed_is
+
+    with_one : IsRight frame old → IsRight frame mid → AreRead frame.methods.now (bits_at frame.context.now) frame.path.now mid.format.now (seen_of mid) (mid.solved.items ++ j ∷ [])
+    with_one old_right r = record {
+      count = r.count;
+      fields = r.fields;
+      constraints = λ n k c at is. last_or mid.solved.items j k n at (λ x. slice_get mid.format.now.constraints x ≡ Some c → HoldsOn (seen_of mid) c) (λ m found. r.constraints m k c found)
+          (λ first. let one : Some constraint ≡ Some c = sym there ∙ ap (λ f. slice_get f.constraints j) (sym has.put.same.format_is) ∙ first in let same : constraint ≡ c = cc in subst (HoldsOn (seen_of mid)) same holds) is;
+    }
+
+pub half_up : (c : Option (List Bool)) (o : Option Page) → (out-Shown (roll-Shown record { uncompressed = None; compressed = c; inner = o })).uncompressed ≡ None
+half_up c o = ap (λ x. x.uncompressed) (out-roll-Shown record { uncompressed = None; compressed = c; inner = o })
+
+pub plain_shown : (u c : List Bool) → u ≡ [] → IsPlain (roll-Shown record { uncompressed = Some u; compressed = Some c; inner = None }) [] c
+plain_shown u c none =
+    let out = out-roll-Shown record { uncompressed = Some u; compressed = Some c; inner = None } in
+    record { sides_are = record { uncompressed_is = ap (λ x. x.uncompressed) out ∙ ap Some none; compressed_is = ap (λ x. x.compressed) out }; inner_is = ap (λ x. x.inner) out }
+
+pub some_says : {A : Type 0} (P : A → Type 0) (o : Option A) → IfSome o P → (x : A) → o ≡ Some x → P x
+some_says P None h x e = absurd (cc)
+some_says P (Some y) h x e = let same : y ≡ x = cc in subst P same h
+
+pub whole_shown : (u c : List Bool) (p : Page)
+    → let s = roll-Shown record { uncompressed = Some u; compressed = Some c; inner = Some p } in ((out-Shown s).uncompressed ≡ Some u) × ((out-Shown s).compressed ≡ Some c) × ((out-Shown s).inner ≡ Some p)
+whole_shown u c p =
+    let out = out-roll-Shown record { uncompressed = Some u; compressed = Some c; inner = Some p } in
+    (ap (λ x. x.uncompressed) out, ap (λ x. x.compressed) out, ap (λ x. x.inner) out)

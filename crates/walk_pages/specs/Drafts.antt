@@ -1,0 +1,95 @@
+-- What is known of a level that is being read.
+use Rattle.std.specs.Prelude.{◌≡◌, ℕ, ◌≤◌, ℤ, Bool, List, [], length, Option, None, Some, slice_get, slice_set}
+use Rattle.sem_bits.specs.Number.{num}
+use Rattle.sem_context.specs.Entries.{bits_at}
+use Rattle.cert_rules.specs.Rules.{value_given}
+use Rattle.sem_expr.specs.declared.expr.Expr.{Expr}
+use Rattle.sem_profile.specs.declared.profile.Encoding.TheVariants as encoding
+use Rattle.sem_profile.specs.declared.profile.Constraint.{Constraint}
+use Rattle.sem_profile.specs.declared.profile.Field.{Field}
+use Rattle.sem_profile.specs.declared.profile.Format.{Format}
+use Rattle.sem_profile.specs.declared.profile.Method.{Method}
+use Rattle.sem_filling.specs.declared.whole_sides.WholeSides.{WholeSides}
+use Rattle.sem_filling.specs.Entries.{Path, below}
+use Rattle.sem_filling.specs.Fits.{Context, vals}
+use Rattle.sem_pages.specs.declared.frame.PageFrame.{PageFrame}
+use Rattle.sem_pages.specs.declared.page.Shown.{Shown, out-Shown, roll-Shown}
+use Rattle.sem_pages.specs.Pages.{AreRead, IsPageOf, IsPlain, ReadsAs, Seen, level_by, numbers_seen, seen_in}
+use Rattle.walk_pages.specs.declared.draft.Draft.{Draft}
+use Rattle.walk_pages.specs.declared.draft.WholePage.{WholePage}
+
+-- a field of which nothing is read
+abbrev pub blank : Shown
+blank = roll-Shown record { uncompressed = None; compressed = None; inner = None }
+
+-- what is seen of it
+abbrev pub seen_of : Draft → Seen
+seen_of d = seen_in d.fields.items d.arguments.now
+
+-- each field that is read fits its encoding in the frame, and each constraint that is solved holds
+abbrev pub IsRight : PageFrame → Draft → Type 0
+IsRight frame d = AreRead frame.methods.now (bits_at frame.context.now) frame.path.now d.format.now (seen_of d) d.solved.items
+
+-- the format and the values of the parameters stay
+pub record IsSame (old new : Draft) : Type 0 where
+  pub format_is : new.format.now ≡ old.format.now
+  pub arguments_are : new.arguments.now ≡ old.arguments.now
+
+-- Of a field nothing was read, and this stands there now; nothing else is read or solved.
+pub record IsPut (i : ℕ) (after : Shown) (old new : Draft) : Type 0 where
+  pub before : Shown
+  pub before_is : slice_get old.fields.items i ≡ Some before
+  pub not_up : (out-Shown before).uncompressed ≡ None
+  pub not_down : (out-Shown before).compressed ≡ None
+  pub fields_are : new.fields.items ≡ slice_set old.fields.items i after
+  pub solved_are : new.solved.items ≡ old.solved.items
+  pub same : IsSame old new
+
+-- the draft goes on: it is right if it was, and of the same format and arguments
+pub record GoesOn (frame : PageFrame) (old new : Draft) : Type 0 where
+  pub right : IsRight frame old → IsRight frame new
+  pub same : IsSame old new
+
+-- Of a field nothing was read; it has bits now that spell the number, and none that are sent.
+pub record HasValue (i : ℕ) (o : Option ℕ) (old new : Draft) : Type 0 where
+  pub number : ℕ
+  pub number_is : o ≡ Some number
+  pub bits : List Bool
+  pub spelled : num bits ≡ number
+  pub short : length bits ≤ 64
+  pub after : Shown
+  pub plain : IsPlain after bits []
+  pub put : IsPut i after old new
+
+-- the constraint of that number, if it says that the field without an encoding has that value, is solved now
+abbrev pub IsSolved : ℕ → ℕ → Expr → Draft → Draft → Type 0
+IsSolved i j e old new = (frame : PageFrame) (d : Field) (c : Constraint) → slice_get old.format.now.fields i ≡ Some d → d.encoding ≡ encoding.Bare →
+    slice_get old.format.now.constraints j ≡ Some c → value_given i c ≡ Some e → GoesOn frame old new
+
+-- the page is that of a filling that fits the frame, with these sides of its whole
+abbrev pub IsRead : PageFrame → WholePage → Type 0
+IsRead frame w = IsPageOf frame.methods.now (bits_at frame.context.now) frame.method frame.arguments.now frame.path.now w.page w.whole.header w.whole.packed
+
+-- the field calls a method, of which the page is one under the values of the arguments, below the path of the field
+pub record IsCalled (frame : PageFrame) (d : Draft) (i : ℕ) (w : WholePage) : Type 0 where
+  pub field : Field
+  pub field_is : slice_get d.format.now.fields i ≡ Some field
+  pub method : ℕ
+  pub exprs : List Expr
+  pub encoding_is : field.encoding ≡ encoding.Call method exprs
+  pub arguments : List ℤ
+  pub values_are : vals (numbers_seen (seen_of d)) exprs ≡ Some arguments
+  pub is_page : IsPageOf frame.methods.now (bits_at frame.context.now) method arguments (below frame.path.now field.declared.name) w.page w.whole.header w.whole.packed
+
+-- the field sends a checksum, and these are its bits on each level that has what is seen
+abbrev pub IsSummed : Seen → Field → List Bool → Type 0
+IsSummed v d c = (methods : List Method) (ctx : Context) (path : Path) → ReadsAs methods ctx path v d [] c
+
+-- what is seen at the end
+abbrev pub seen_at_end : List Shown → List ℤ → WholeSides → Seen
+seen_at_end ss args w = record { fields = ss; arguments = args; whole = Some w }
+
+-- the fields are as right as they were, and the level has the same sides
+pub record AreEnded (format : Format) (args : List ℤ) (w : WholeSides) (old new : List Shown) : Type 0 where
+  pub read : (methods : List Method) (ctx : Context) (path : Path) (solved : List ℕ) → AreRead methods ctx path format (seen_at_end old args w) solved → AreRead methods ctx path format (seen_at_end new args w) solved
+  pub level_is : level_by format.fields new ≡ level_by format.fields old

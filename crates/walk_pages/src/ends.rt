@@ -1,0 +1,153 @@
+//! The end of a level that is read.
+
+ghost use Rattle.std.specs.Prelude.{◌≡◌, ℕ, Some, IfOk, IfSome, IsTrue, slice_get};
+ghost use Rattle.sem_filling.specs.Fits.{format_at};
+ghost use Rattle.sem_pages.specs.Pages as pages;
+ghost use Rattle.sem_profile.specs.declared.profile.Constraint.{Constraint};
+ghost use Rattle.walk_pages.specs.Drafts as spec;
+
+use crate::draft::{Draft, WholePage};
+use sem_filling::WholeSides;
+use sem_pages::{
+    Page, PageFrame, Shown, View, Word, are_unsent, constraint_holds, is_summed, whole_of,
+};
+use sem_profile::{Constraint, CrcArguments, Encoding, Field, Format, Library, Shared};
+use sqlite_items::Items;
+use std::alloc::{AllocError, Global};
+
+/// The page of a draft of the frame's method, where each field of the format is read, and all else holds that the format says.
+pub(crate) fn ended(
+    alloc: Global,
+    frame: &PageFrame<'_>,
+    index: usize,
+    draft: Draft<'_>,
+) -> Result<Option<WholePage>, AllocError>
+    requires right { spec.IsRight frame.now draft }
+    requires format { format_at frame.now.methods.now frame.now.method index ≡ Some draft.format.now }
+    requires arguments { draft.arguments.now ≡ frame.now.arguments.now }
+    ensures { IfOk result (λ o. IfSome o (spec.IsRead frame.now)) }
+{
+    let Draft {
+        format,
+        arguments,
+        fields,
+        ahead: _ahead,
+        solved,
+    } = draft;
+    let mut fields = fields;
+    let Some(whole) = whole_of(alloc, format, fields.as_slice())? else {
+        return Ok(None);
+    };
+    if !end_sums(alloc, format, arguments, &mut fields, &whole)? {
+        return Ok(None);
+    }
+    if !are_unsent(format.listing.get().as_slice(), fields.as_slice()) {
+        return Ok(None);
+    }
+    let view = View::at_end(fields.as_slice(), arguments, &whole);
+    if !constraints_hold(format.constraints.as_slice(), &view, solved.as_slice()) {
+        return Ok(None);
+    }
+    Ok(Some(WholePage {
+        page: Page {
+            format: index,
+            fields: Items::from_vec(fields),
+        },
+        whole,
+    }))
+}
+
+/// Whether each constraint that isn't solved holds.
+fn constraints_hold(constraints: &[Shared<Constraint>], view: &View<'_>, solved: &[usize]) -> bool
+    ensures { IsTrue result → ((n j : ℕ) (c : Constraint) → slice_get solved.now n ≡ Some j → slice_get constraints.now j ≡ Some c → pages.HoldsOn view.now c) → (j : ℕ) (c : Constraint) → slice_get constraints.now j ≡ Some c → pages.HoldsOn view.now c }
+{
+    for j in 0..constraints.len() {
+        if !is_settled(constraints[j].get(), j, view, solved) {
+            return false;
+        }
+    }
+    true
+}
+
+/// Whether the constraint of that index is solved or holds.
+#[inline(always)]
+fn is_settled(constraint: &Constraint, index: usize, view: &View<'_>, solved: &[usize]) -> bool
+    ensures { IsTrue result → ((n : ℕ) → slice_get solved.now n ≡ Some index → pages.HoldsOn view.now constraint.now) → pages.HoldsOn view.now constraint.now }
+{
+    is_solved(solved, index) || constraint_holds(constraint, view)
+}
+
+fn is_solved(solved: &[usize], number: usize) -> bool
+    ensures { IsTrue result → ((n : ℕ) × (slice_get solved.now n ≡ Some number)) }
+{
+    solved.iter().any(|known| *known == number)
+}
+
+/// Whether each field whose uncompressed side isn't read is a checksum, which is right. It has that side, without bits, then.
+fn end_sums(
+    alloc: Global,
+    format: &Format,
+    arguments: &[i64],
+    fields: &mut Vec<Shown>,
+    whole: &WholeSides,
+) -> Result<bool, AllocError>
+    ensures { IfOk result (λ b. IsTrue b → spec.AreEnded format.now arguments.now whole.now fields.old.items fields.new.items) }
+{
+    for i in 0..fields.len() {
+        if !is_ended(alloc, format, arguments, fields, whole, i)? {
+            return Ok(false);
+        }
+    }
+    Ok(true)
+}
+
+/// The same of one field.
+#[inline(always)]
+fn is_ended(
+    alloc: Global,
+    format: &Format,
+    arguments: &[i64],
+    fields: &mut Vec<Shown>,
+    whole: &WholeSides,
+    index: usize,
+) -> Result<bool, AllocError>
+    ensures { IfOk result (λ b. IsTrue b → spec.AreEnded format.now arguments.now whole.now fields.old.items fields.new.items) }
+{
+    let Some(shown) = fields.get(index) else {
+        return Ok(false);
+    };
+    if shown.uncompressed.is_some() {
+        return Ok(true);
+    }
+    let Some(packed) = shown.compressed else {
+        return Ok(false);
+    };
+    let Some(field) = format.fields.get(index) else {
+        return Ok(false);
+    };
+    let view = View::at_end(fields.as_slice(), arguments, whole);
+    if !is_right_sum(alloc, &view, field, &packed)? {
+        return Ok(false);
+    }
+    fields[index] = Shown {
+        uncompressed: Some(Word::new()),
+        compressed: Some(packed),
+        inner: None,
+    };
+    Ok(true)
+}
+
+/// Whether the field is a checksum, and these are its bits.
+fn is_right_sum(
+    alloc: Global,
+    view: &View<'_>,
+    field: &Field,
+    packed: &Word,
+) -> Result<bool, AllocError>
+    ensures { IfOk result (λ b. IsTrue b → spec.IsSummed view.now field.now packed.now) }
+{
+    match field.encoding.get() {
+        Encoding::Library(Library::Crc(crc)) => is_summed(alloc, view, crc.get(), packed),
+        _ => Ok(false),
+    }
+}
