@@ -12,7 +12,7 @@ again: such a run may end as ever, with the whole text. These are counted apart.
 
 A drawing (walk_guess) can't answer want of memory: where a growth is refused to it alone, the walk answers, and the row's own output must come. Each level that is
 drawn up grows one list, that of its fields, and nothing else in the rows of `rohcfn`. So each of these says how many levels are drawn up for it, and just so many
-growths may end so. In the rows of calls that draw, two growths in a row are refused as well: that of a drawing and the first one of the walk after it."""
+growths may end so. A page (walk_pages) is no drawing: it answers that memory is out. In the rows of calls that draw, two growths in a row are refused as well: that of a drawing and the first one of the walk after it."""
 import concurrent.futures
 import json
 import os
@@ -188,16 +188,16 @@ def of_seq():
 
 
 def of_flows():
-    """Rows of lines of flows."""
+    """Rows of lines of flows. A receiver draws up the first packet of a flow, whose context is empty, and one that is refused; another one it reads by a page."""
     events, items = "send 0 8:01\nsend 1 8:01\nsend 0 8:02\n", "0 8:01\n1 8:01\n0 8:02\n"
     yield "two flows", bundle("line --top tick", TICK, events=events), "0080800180800014\n" + items, 0, 5
-    yield "two flows received", bundle("line --receive --top tick", TICK, octets="0080800180800014\n"), items, 0, 3
+    yield "two flows received", bundle("line --receive --top tick", TICK, octets="0080800180800014\n"), items, 0, 2
     yield "a flow that is reset", bundle("line --top tick", TICK, events="send 0 8:01\nreset 0\nsend 0 8:01\n"), "00808010008080\n0 8:01\n0 8:01\n", 0, 4
     events, items = "send 40 8:01\nreset 40\nsend 63 8:01\n", "40 8:01\n63 8:01\n"
     yield "two flows of 64", bundle("line --wide --top tick", TICK, events=events), "288080683f8080\n" + items, 0, 4
     yield "two flows of 64 received", bundle("line --wide --receive --top tick", TICK, octets="288080683f8080\n"), items, 0, 2
     yield "frames", bundle("line --frames --top tick", TICK, events="send 0 8:01\nsend 1 8:01\nsend 0 8:02\n"), "0002808001028080000114\n0 8:01\n1 8:01\n0 8:02\n", 0, 5
-    yield "frames received", bundle("line --frames --receive --top tick", TICK, octets="0002808001020000000114\n"), "0 8:01\n1 refused U2 Refused tick.short\n0 8:02\n", 0, 3
+    yield "frames received", bundle("line --frames --receive --top tick", TICK, octets="0002808001020000000114\n"), "0 8:01\n1 refused U2 Refused tick.short\n0 8:02\n", 0, 2
     yield "frames for a loss", bundle("line --frames --robust 1 --top tick", TICK, events="send 0 8:01\nreset 0\nsend 0 8:02\n"), "000280808000028100\n0 8:01\n0 8:02\n", 0, 4
 
 
