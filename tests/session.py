@@ -309,7 +309,6 @@ def unbuilt(folder):
     made.give_compiler()
     made.tell("program", MADE)
     (made.tools / "python3").symlink_to(sys.executable)
-    (made.tools / "ls").symlink_to("/bin/ls")
     editor = Editor(made.program, **made.how)
     editor.begin()
     editor.open(URI, "a ; b")

@@ -1,5 +1,5 @@
 //! Fillings: a format with both sides of each of its fields, and what fills the methods that they call; and when a filling fits, which is the meaning of the
-//! notation.
+//! notation. And the types of what may keep a filling from a format, which sem_lint and sem_reasons find.
 #![tactic(auto)]
 
 pub use entries::{FieldPath, advance, below};
@@ -12,5 +12,7 @@ pub mod filling;
 pub mod filling_laws;
 pub mod frame;
 pub mod laws;
+pub mod obstacle;
+pub mod reason;
 pub mod sides;
 pub mod whole_sides;

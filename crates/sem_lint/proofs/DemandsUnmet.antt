@@ -29,7 +29,7 @@ use Rattle.sem_filling.proofs.FitsValues.{vals_at}
 use Rattle.sem_lint.specs.Attributes.{length_range, value_range}
 use Rattle.sem_lint.specs.Demands.{crc_bits, missed, unmet_by, place_of}
 use Rattle.sem_lint.specs.Never.{are_apart}
-use Rattle.sem_lint.specs.declared.demands.Unmet.{Unmet}
+use Rattle.sem_filling.specs.declared.obstacle.Unmet.{Unmet}
 use Rattle.sem_lint.proofs.NeverApart.{ranges_of, apart, is_equal}
 
 chosen : (b : Bool) (x u : Unmet) → (if b then Some x else None) ≡ Some u → b ≡ true

@@ -4,8 +4,8 @@ use Rattle.std.specs.Prelude.{Some, slice_get}
 use Rattle.std.proofs.lemmas.List.{append-nil}
 use Rattle.sem_profile.specs.declared.profile.Method.{Method}
 use Rattle.sem_profile.specs.Resolved.{Resolved}
-use Rattle.sem_lint.specs.declared.formats.DeadFormat.{DeadFormat}
-use Rattle.sem_lint.specs.declared.obstacle.Obstacle.{Obstacle}
+use Rattle.sem_filling.specs.declared.obstacle.DeadFormat.{DeadFormat}
+use Rattle.sem_filling.specs.declared.obstacle.Obstacle.{Obstacle}
 use Rattle.sem_lint.specs.Obstacles.{Hinders}
 use Rattle.sem_lint.specs.Listing.{AreDead, ends as dead_ends, next_method as dead_next, finds as dead_finds, passes as dead_passes, SoFar, IsNoted, added as noted_added, unchanged as noted_unchanged}
 

@@ -14,8 +14,8 @@ use Rattle.sem_profile.specs.declared.profile.Method.{Method}
 use Rattle.sem_profile.specs.Resolved.{Resolved}
 use Rattle.sem_filling.specs.Fits.{format_at}
 use Rattle.sem_filling.proofs.FitsSized.{one_value, and_then_some}
-use Rattle.sem_lint.specs.declared.obstacle.Obstacle.{Obstacle}
-use Rattle.sem_lint.specs.declared.obstacle.Obstacle.TheVariants as obstacle
+use Rattle.sem_filling.specs.declared.obstacle.Obstacle.{Obstacle}
+use Rattle.sem_filling.specs.declared.obstacle.Obstacle.TheVariants as obstacle
 use Rattle.sem_lint.specs.Obstacles.{Stands, CallsAt, Hinders, by_itself, by_call, IsLifeless, lifeless, IsHindered, hindered}
 use Rattle.sem_lint.specs.Marks.{marked_at, AreMarked, CallsMarked, own_at, IsOwn, IsRow, AreOwn, IsHeld, AreHeldIn, AreHeld, IsNext, SomeMarked}
 

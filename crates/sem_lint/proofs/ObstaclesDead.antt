@@ -51,11 +51,11 @@ use Rattle.sem_filling.proofs.FitsInverted.{parts}
 use Rattle.sem_filling.proofs.FitsSized.{one_value, and_then_some, two_parts, crc_parts, some_and}
 use Rattle.sem_filling.proofs.FitsValues.{vals_same}
 use Rattle.sem_filling.proofs.Readying.{call_lies}
-use Rattle.sem_lint.specs.declared.obstacle.Obstacle.{Obstacle}
-use Rattle.sem_lint.specs.declared.obstacle.Obstacle.TheVariants as obstacle
+use Rattle.sem_filling.specs.declared.obstacle.Obstacle.{Obstacle}
+use Rattle.sem_filling.specs.declared.obstacle.Obstacle.TheVariants as obstacle
 use Rattle.sem_lint.specs.Attributes.{length_range}
 use Rattle.sem_lint.specs.Demands.{IsUnmetAt, unmet_by, unmet_in}
-use Rattle.sem_lint.specs.declared.demands.Unmet.{Unmet}
+use Rattle.sem_filling.specs.declared.obstacle.Unmet.{Unmet}
 use Rattle.sem_lint.specs.Obstacles.{HasNoLength, SendsMore, SplitsOctets, LacksAt, HasNoValue, of_argument, of_condition, StandsIn, Stands, CallsAt, Hinders, by_itself, by_call, IsLifeless, lifeless, IsHindered, hindered, IsDead, is_lsb, crc_in}
 use Rattle.sem_lint.specs.Never.{is_untrue}
 use Rattle.sem_lint.specs.Laws.{ObstaclesKill}

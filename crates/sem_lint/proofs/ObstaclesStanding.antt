@@ -14,13 +14,13 @@ use Rattle.sem_profile.specs.declared.profile.Format.{Format}
 use Rattle.sem_profile.specs.Resolved.{Resolved}
 use Rattle.sem_filling.specs.Fits.{format_at}
 use Rattle.sem_filling.proofs.FitsSized.{one_value}
-use Rattle.sem_lint.specs.declared.obstacle.Obstacle.{Obstacle}
-use Rattle.sem_lint.specs.declared.obstacle.Obstacle.TheVariants as obstacle
+use Rattle.sem_filling.specs.declared.obstacle.Obstacle.{Obstacle}
+use Rattle.sem_filling.specs.declared.obstacle.Obstacle.TheVariants as obstacle
 use Rattle.sem_lint.specs.Never.{IsUntrue}
 use Rattle.sem_lint.specs.Demands.{HasUnmet}
 use Rattle.sem_lint.specs.Marks.{CallsMarked, marked_at}
 use Rattle.sem_lint.specs.Undefined.{undefined_condition}
-use Rattle.sem_lint.specs.declared.demands.Unmet.{Unmet}
+use Rattle.sem_filling.specs.declared.obstacle.Unmet.{Unmet}
 use Rattle.sem_lint.specs.Obstacles.{HasNoLength, SendsMore, SplitsOctets, LacksValue, HasNoValue, of_argument, of_condition, StandsUnder, StandsIn, Stands, CallsAt, Hinders, by_itself, by_call, IsLifeless}
 
 pub there_is : {A : Type 0} (B : Type 0) (o : Option A) → true ≡ is_some o → IfNone o B

@@ -19,7 +19,7 @@ use Rattle.sem_profile.specs.declared.profile.Library.{Library}
 use Rattle.sem_profile.specs.declared.profile.Library.TheVariants as library
 use Rattle.sem_lint.specs.Attributes.{length_range, value_range}
 use Rattle.sem_lint.specs.Never.{are_apart}
-use Rattle.sem_lint.specs.declared.demands.Unmet.{Unmet}
+use Rattle.sem_filling.specs.declared.obstacle.Unmet.{Unmet}
 
 abbrev pub place_of : Expr → Span
 place_of (Number s n) = s

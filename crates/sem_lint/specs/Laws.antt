@@ -1,7 +1,7 @@
 -- What an obstacle says.
 use Rattle.std.specs.Prelude.{ℕ}
 use Rattle.sem_profile.specs.Resolved.{Resolved, IsSound}
-use Rattle.sem_lint.specs.declared.obstacle.Obstacle.{Obstacle}
+use Rattle.sem_filling.specs.declared.obstacle.Obstacle.{Obstacle}
 use Rattle.sem_lint.specs.Obstacles.{Hinders, IsDead}
 
 -- a format with an obstacle is dead

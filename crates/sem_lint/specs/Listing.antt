@@ -2,8 +2,8 @@
 use Rattle.std.specs.Prelude.{◌≡◌, ℕ, ◌+◌, ◌<◌, ◌≤◌, List, [], ◌∷◌, ◌++◌, length, slice_get, Some}
 use Rattle.sem_profile.specs.declared.profile.Method.{Method}
 use Rattle.sem_profile.specs.Resolved.{Resolved}
-use Rattle.sem_lint.specs.declared.formats.DeadFormat.{DeadFormat}
-use Rattle.sem_lint.specs.declared.obstacle.Obstacle.{Obstacle}
+use Rattle.sem_filling.specs.declared.obstacle.DeadFormat.{DeadFormat}
+use Rattle.sem_filling.specs.declared.obstacle.Obstacle.{Obstacle}
 use Rattle.sem_lint.specs.Obstacles.{Hinders}
 
 -- those from the format n of the method k on

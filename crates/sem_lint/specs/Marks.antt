@@ -8,7 +8,7 @@ use Rattle.sem_profile.specs.declared.profile.Method.{Method}
 use Rattle.sem_graph.specs.Calls.{marked}
 use Rattle.sem_profile.specs.Resolved.{Resolved}
 use Rattle.sem_lint.specs.Obstacles.{Stands, IsLifeless}
-use Rattle.sem_lint.specs.declared.obstacle.Obstacle.{Obstacle}
+use Rattle.sem_filling.specs.declared.obstacle.Obstacle.{Obstacle}
 
 abbrev pub marked_at : List Bool → ℕ → Bool
 marked_at marks k = unwrap_or (slice_get marks k) false

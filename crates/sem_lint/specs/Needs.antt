@@ -13,7 +13,7 @@ use Rattle.sem_lint.specs.Sites.{AreMore, format_in, inner_path}
 use Rattle.sem_profile.specs.Resolved.{Resolved}
 use Rattle.sem_lint.specs.Obstacles.{Hinders}
 use Rattle.sem_lint.specs.declared.needs.Needing.{Needing}
-use Rattle.sem_lint.specs.declared.obstacle.Obstacle.{Obstacle}
+use Rattle.sem_filling.specs.declared.obstacle.Obstacle.{Obstacle}
 
 -- ---- what a field needs
 

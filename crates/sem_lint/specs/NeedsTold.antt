@@ -10,7 +10,7 @@ use Rattle.sem_lint.specs.declared.growth.Flags.{Flags}
 use Rattle.sem_lint.specs.declared.growth.Ground.{Ground}
 use Rattle.sem_lint.specs.declared.sites.Site.{Site}
 use Rattle.sem_lint.specs.declared.needs.Needing.{Needing}
-use Rattle.sem_lint.specs.declared.obstacle.Obstacle.{Obstacle}
+use Rattle.sem_filling.specs.declared.obstacle.Obstacle.{Obstacle}
 
 -- ---- obstacles
 

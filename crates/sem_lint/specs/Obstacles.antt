@@ -29,8 +29,8 @@ use Rattle.sem_filling.specs.Bounded.{ArgumentsLie}
 use Rattle.sem_lint.specs.Demands.{HasUnmet}
 use Rattle.sem_lint.specs.Never.{IsUntrue}
 use Rattle.sem_lint.specs.Undefined.{first_undefined, undefined_condition}
-use Rattle.sem_lint.specs.declared.obstacle.Obstacle.{Obstacle}
-use Rattle.sem_lint.specs.declared.obstacle.Obstacle.TheVariants as obstacle
+use Rattle.sem_filling.specs.declared.obstacle.Obstacle.{Obstacle}
+use Rattle.sem_filling.specs.declared.obstacle.Obstacle.TheVariants as obstacle
 
 -- the side of the field i has no length: the least is above the greatest
 abbrev pub HasNoLength : List Sizes → ℕ → Side → Type 0

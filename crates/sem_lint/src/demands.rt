@@ -9,16 +9,10 @@ ghost use Rattle.sem_lint.specs.Demands as spec;
 
 use crate::never::misses;
 use sem_expr::{Attribute, Expr, Interval, Measure, Ranges, Side, Subject};
+use sem_filling::obstacle::Unmet;
 use sem_profile::{CrcArguments, Encoding, Field, Library};
 use sqlite_items::at;
 use text_source::Span;
-
-/// An argument that its method never takes, by its place, and the numbers between which it is due.
-#[derive(Clone, Copy, PartialEq, Eq)]
-pub struct Unmet {
-    pub at: Span,
-    pub due: Interval,
-}
 
 /// How many bits a `crc` has.
 const CRC_BITS: Interval = Interval { from: 1, to: 64 };

@@ -4,18 +4,11 @@ ghost use Rattle.std.specs.Prelude.{◌≡◌, ◌+◌, IfOk, OnOk, Some, slice_
 ghost use Rattle.sem_lint.specs.Listing as spec;
 
 use crate::marks::Judged;
-use crate::obstacle::{Obstacle, obstacle_of};
+use crate::obstacle::obstacle_of;
+use sem_filling::obstacle::DeadFormat;
 use sem_profile::{Method, Profile};
 use sqlite_items::Items;
 use std::alloc::{AllocError, Global};
-
-/// A format by which nothing can be packed, and why: the format and its method by their indices.
-#[derive(Clone, Copy, PartialEq, Eq)]
-pub struct DeadFormat {
-    pub method: usize,
-    pub format: usize,
-    pub obstacle: Obstacle,
-}
 
 /// For each format that has an obstacle one of its obstacles, in the order of the text. No header can ever be packed by such a format, in any context. The error is
 /// out of memory.

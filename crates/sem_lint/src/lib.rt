@@ -4,12 +4,11 @@
 #![tactic(auto)]
 
 pub use columns::{Column, columns_at};
-pub use demands::Unmet;
-pub use formats::{DeadFormat, dead_formats};
+pub use formats::dead_formats;
 pub use marks::Judged;
 pub use needs::{Needing, needing_formats};
 pub use never::first_untrue;
-pub use obstacle::{Obstacle, obstacle_of};
+pub use obstacle::obstacle_of;
 pub use paths::unknown_paths;
 pub use spelled::{Misspelled, misspelled_names};
 pub use unlike::{UnlikeCall, unlike_calls};

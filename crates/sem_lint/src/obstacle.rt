@@ -7,38 +7,19 @@ ghost use Rattle.sem_filling.specs.Fits.{format_at};
 ghost use Rattle.sem_lint.specs.Marks.{CallsMarked, marked_at};
 ghost use Rattle.sem_lint.specs.Obstacles as spec;
 
-use crate::demands::{Unmet, first_unmet};
+use crate::demands::first_unmet;
 use crate::lengths::no_length;
 use crate::marks::Judged;
 use crate::never::first_untrue;
 use crate::undefined::{undefined_argument, undefined_condition};
 use crate::unfit::{sends_more, splits_octets};
 use sem_bounds::ranges::format_ranges;
-use sem_expr::{Interval, Ranges, Side};
+use sem_expr::{Interval, Ranges};
+use sem_filling::obstacle::Obstacle;
 use sem_profile::{Constraint, Encoding, Field, Format, FormatSizes, MethodSizes, Profile, Shared};
 use sqlite_items::at;
 use std::alloc::{AllocError, Global};
 use text_source::Span;
-
-/// What keeps every filling from a format, whatever the context holds and whatever the values of its method's arguments are (docs/NOTATION.md).
-#[derive(Clone, Copy, PartialEq, Eq)]
-pub enum Obstacle {
-    /// The side of the field has no length: the least is above the greatest.
-    NoLength { field: usize, side: Side },
-    /// The field is encoded by `lsb` with more bits than it has in the header.
-    SendsMore { field: usize },
-    /// The field is a `crc` over bits that are never whole octets.
-    SplitsOctets { field: usize },
-    /// An argument or a condition has no value: the part of it at this place divides by 0, or has an exponent below 0.
-    NoValue { at: Span },
-    /// An argument is never one that its method takes.
-    OutOfRange(Unmet),
-    /// The constraint, by its number, is a condition that is never true, whatever lengths and values its fields have, or a bracket with none of the lengths that its
-    /// side may have.
-    NeverTrue { constraint: usize },
-    /// The field calls a method of which each format has an obstacle.
-    CallsDead { field: usize },
-}
 
 /// An obstacle of a format of a method, both by their indices. None where it has none of these. The error is out of memory.
 pub fn obstacle_of(

@@ -123,7 +123,7 @@ pub record StandsFor (methods : List profile.Method) (d : Field) (s : Shown) (g 
   pub sides_are : sides_of g ≡ sides_by d s
   pub inside : ShowsInside methods d.encoding (out-Shown s).inner (inner_of g)
 
--- ---- what is judged of a page
+-- ---- what a page is of: its fields, its filling, what is called
 
 -- a field of a filling that fits its encoding among these numbers, and that stands on the page
 pub record IsShownBy (methods : List profile.Method) (ctx : Context) (path : Path) (l : Looked) (d : Field) (s : Shown) (g : FilledField) : Type 0 where

@@ -34,7 +34,7 @@ use Rattle.sem_reasons.specs.Settings.{Setting, setting_of}
 use Rattle.sem_reasons.specs.Told.{Covers, Related, length_of, method_in, opposite, seen_at}
 use Rattle.sem_reasons.specs.declared.conflict.Coded.{Coded}
 use Rattle.sem_reasons.specs.declared.conflict.Sighted.{Sighted}
-use Rattle.sem_reasons.specs.declared.reason.Reason.{Reason}
+use Rattle.sem_filling.specs.declared.reason.Reason.{Reason}
 use Rattle.sem_reasons.specs.declared.sight.Observed.{Observed}
 use Rattle.sem_reasons.proofs.FullSeen.{of_each}
 use Rattle.sem_reasons.proofs.MethodsValued.{no_method}

@@ -24,7 +24,7 @@ use Rattle.sem_filling.specs.Bounded.{sizes_at}
 use Rattle.sem_filling.proofs.FitsSized.{one_value}
 use Rattle.sem_lint.specs.Obstacles.{Hinders}
 use Rattle.sem_lint.specs.Never.{IsUntrue}
-use Rattle.sem_lint.specs.declared.obstacle.Obstacle.{Obstacle}
+use Rattle.sem_filling.specs.declared.obstacle.Obstacle.{Obstacle}
 use Rattle.sem_reasons.specs.Across.{with_values, method_of}
 use Rattle.sem_reasons.specs.Conflicts.{IsSighted, IsCoded, StandsIn, reference_of}
 use Rattle.sem_reasons.specs.Full.{AreInFull, IsFullView}
@@ -38,11 +38,11 @@ use Rattle.sem_lint.specs.Undefined.{first_undefined}
 use Rattle.sem_reasons.specs.Listing as listing
 use Rattle.sem_reasons.specs.declared.conflict.Coded.{Coded}
 use Rattle.sem_reasons.specs.declared.conflict.Sighted.{Sighted}
-use Rattle.sem_reasons.specs.declared.figures.Figure.{Figure}
-use Rattle.sem_reasons.specs.declared.line.Line.{Line}
-use Rattle.sem_reasons.specs.declared.reason.Reason.{Reason}
-use Rattle.sem_reasons.specs.declared.reason.Reason.TheVariants as reason
-use Rattle.sem_reasons.specs.declared.reason.Within.TheVariants as part
+use Rattle.sem_filling.specs.declared.reason.Figure.{Figure}
+use Rattle.sem_filling.specs.declared.reason.Line.{Line}
+use Rattle.sem_filling.specs.declared.reason.Reason.{Reason}
+use Rattle.sem_filling.specs.declared.reason.Reason.TheVariants as reason
+use Rattle.sem_filling.specs.declared.reason.Within.TheVariants as part
 use Rattle.sem_reasons.specs.declared.observation.Look.{Look}
 use Rattle.sem_reasons.specs.declared.sight.ObservedSides.{ObservedSides}
 use Rattle.sem_reasons.proofs.MethodsValued.{method_is}

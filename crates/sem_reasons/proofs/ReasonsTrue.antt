@@ -54,8 +54,8 @@ use Rattle.sem_reasons.specs.Laws.{ReasonsAreTrue}
 use Rattle.sem_reasons.specs.Settings.{Setting, IsSought, IsOut, whole_side}
 use Rattle.sem_reasons.specs.Told.{Covers, Related, length_of, opposite, reference_in, seen_at, seen_subject}
 use Rattle.sem_reasons.specs.Reasons.{HasMethod, Stands, dead, short, long, cut, no_reference, differs, no_side, untrue, no_argument, no_truth, Tells, by_reason, by_call, TellAll, ends, next, all_ranged, formats_of, inside, ranges_in, range_of, undefined_at, wants_reference}
-use Rattle.sem_reasons.specs.declared.line.Line.{Line}
-use Rattle.sem_reasons.specs.declared.reason.Reason.{Reason}
+use Rattle.sem_filling.specs.declared.reason.Line.{Line}
+use Rattle.sem_filling.specs.declared.reason.Reason.{Reason}
 use Rattle.sem_reasons.specs.declared.sight.Observed.{Observed}
 use Rattle.sem_reasons.proofs.FullSeen.{full_told}
 use Rattle.sem_reasons.proofs.ToldKnown as known

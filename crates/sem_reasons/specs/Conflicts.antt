@@ -18,8 +18,8 @@ use Rattle.sem_reasons.specs.Settings.{Setting, setting_of}
 use Rattle.sem_reasons.specs.Told.{Covers, Related, base_ranges, opposite, ranges_seen, reference_in, seen_at}
 use Rattle.sem_reasons.specs.declared.conflict.Coded.{Coded}
 use Rattle.sem_reasons.specs.declared.conflict.Sighted.{Sighted}
-use Rattle.sem_reasons.specs.declared.reason.Reason.{Reason}
-use Rattle.sem_reasons.specs.declared.reason.Reason.TheVariants.{Dead, Short, Long, Cut, NoReference, Differs, NoSide, Untrue, Undefined, Inside, Nothing}
+use Rattle.sem_filling.specs.declared.reason.Reason.{Reason}
+use Rattle.sem_filling.specs.declared.reason.Reason.TheVariants.{Dead, Short, Long, Cut, NoReference, Differs, NoSide, Untrue, Undefined, Inside, Nothing}
 
 -- all that is seen of the look's format, and the ranges by that
 pub record IsSighted (k : Sighted) : Type 0 where

@@ -17,7 +17,7 @@ use Rattle.sem_expr.specs.Inputs.{condition_inputs_of}
 use Rattle.sem_expr.specs.Ranged.{Bounding}
 use Rattle.sem_profile.specs.declared.profile.Constraint.{Constraint}
 use Rattle.sem_profile.specs.declared.profile.Constraint.TheVariants.{Bracket, Enforce}
-use Rattle.sem_reasons.specs.declared.figures.Figure.{Figure}
+use Rattle.sem_filling.specs.declared.reason.Figure.{Figure}
 
 -- the only number of an interval
 abbrev pub lone : Interval → Option ℤ

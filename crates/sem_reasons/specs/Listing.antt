@@ -3,7 +3,7 @@ pub use Rattle.sem_reasons.specs.Looks.{IsLook}
 use Rattle.std.specs.Prelude.{◌≡◌, ℕ, List, ◌++◌}
 use Rattle.sem_reasons.specs.Settings.{Setting}
 use Rattle.sem_reasons.specs.Reasons.{IsVerdict, Verdicts}
-use Rattle.sem_reasons.specs.declared.line.Line.{Line}
+use Rattle.sem_filling.specs.declared.reason.Line.{Line}
 
 -- whatever is told from this format on, it and what was told so far are told of all
 abbrev pub SoFar : Setting → ℕ → List Line → Type 0

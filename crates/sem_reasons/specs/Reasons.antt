@@ -26,17 +26,17 @@ use Rattle.sem_filling.specs.Bounded.{sizes_at}
 use Rattle.sem_filling.specs.Fits.{format_at}
 use Rattle.sem_lint.specs.Never.{IsUntrue}
 use Rattle.sem_lint.specs.Obstacles.{Hinders}
-use Rattle.sem_lint.specs.declared.obstacle.Obstacle.{Obstacle}
+use Rattle.sem_filling.specs.declared.obstacle.Obstacle.{Obstacle}
 use Rattle.sem_reasons.specs.Figures.{figures_at}
 use Rattle.sem_reasons.specs.Full.{IsFullView}
 use Rattle.sem_reasons.specs.Settings.{Setting}
 use Rattle.sem_reasons.specs.Places.{BeginsAt, order_of}
 use Rattle.sem_reasons.specs.Told.{Covers, Related, base_ranges, length_of, method_in, opposite, ranges_seen, reference_in, seen_at}
 use Rattle.sem_lint.specs.Undefined.{first_undefined, undefined_constraint}
-use Rattle.sem_reasons.specs.declared.line.Line.{Line}
-use Rattle.sem_reasons.specs.declared.reason.Reason.{Reason}
-use Rattle.sem_reasons.specs.declared.reason.Reason.TheVariants as reason
-use Rattle.sem_reasons.specs.declared.reason.Within.TheVariants as part
+use Rattle.sem_filling.specs.declared.reason.Line.{Line}
+use Rattle.sem_filling.specs.declared.reason.Reason.{Reason}
+use Rattle.sem_filling.specs.declared.reason.Reason.TheVariants as reason
+use Rattle.sem_filling.specs.declared.reason.Within.TheVariants as part
 use Rattle.sem_reasons.specs.declared.sight.Observed.{Observed}
 
 -- the ranges of a format's numbers, by what is seen

@@ -12,12 +12,12 @@ ghost use Rattle.sem_reasons.specs.Told as told;
 
 use crate::across::{Valued, other_side, with_values};
 use crate::observation::Look;
-use crate::reason::Reason;
 use crate::sight::Observed;
 use crate::subjects::{seen_at, seen_subject};
 use sem_bits::Bits;
 use sem_expr::{Ranges, Side};
 use sem_filling::below;
+use sem_filling::reason::Reason;
 use sem_filling::whole_sides::reference_below;
 use sem_profile::{Encoding, Field, Library};
 use std::alloc::{AllocError, Global};

@@ -7,16 +7,10 @@ ghost use Rattle.sem_reasons.specs.Figures as spec;
 use sem_expr::{
     Attribute, Cond, Input, Interval, Measure, Ranges, Side, Subject, condition_inputs,
 };
+use sem_filling::reason::Figure;
 use sem_profile::{Constraint, Shared};
 use sqlite_items::Items;
 use std::alloc::{AllocError, Global};
-
-/// An attribute or a parameter, and the number that it has.
-#[derive(Clone, Copy)]
-pub struct Figure {
-    pub input: Input,
-    pub value: i128,
-}
 
 /// The attributes and parameters of a constraint that is a condition, in the order of the text: each that can have one number alone by the ranges, once, with that
 /// number. The error is out of memory.

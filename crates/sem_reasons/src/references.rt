@@ -8,8 +8,8 @@ ghost use Rattle.sem_reasons.specs.Settings.{setting_of};
 
 use crate::conflict::wants_reference;
 use crate::question::Question;
-use crate::reason::Reason;
 use sem_filling::below;
+use sem_filling::reason::Reason;
 use sem_filling::whole_sides::reference_below;
 use sem_profile::{Field, Format};
 use sqlite_items::at;

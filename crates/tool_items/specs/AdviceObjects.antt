@@ -15,7 +15,7 @@ use Rattle.tool_items.specs.declared.advice.StepRange.{StepRange}
 use Rattle.tool_items.specs.declared.advice.Taken.{Taken}
 use Rattle.tool_items.specs.declared.advice.Way.{Way}
 use Rattle.tool_items.specs.declared.advice.Way.TheVariants as way
-use Rattle.tool_json.specs.Objects.{array_closed, array_opened, bits, closed, figure, line, member_opened, null_member, number, opened, optional_text, text}
+use Rattle.tool_names.specs.Objects.{array_closed, array_opened, bits, closed, figure, line, member_opened, null_member, number, opened, optional_text, text}
 
 abbrev pub all_line : ℕ → ℕ → List ℕ
 all_line items lost = line (opened ++ text (codes "kind") (codes "all") ++ number (codes "items") items ++ number (codes "lost") lost)

@@ -19,10 +19,10 @@ use Rattle.sem_profile.specs.declared.profile.Encoding.TheVariants as encoding
 use Rattle.sem_profile.specs.declared.profile.Library.{Library}
 use Rattle.sem_profile.specs.declared.profile.Library.TheVariants as library
 use Rattle.sem_profile.specs.declared.profile.Method.{Method}
-use Rattle.sem_reasons.specs.declared.reason.Reason.{Reason}
-use Rattle.sem_reasons.specs.declared.reason.Reason.TheVariants.{Dead, Short, Long, Cut, NoReference, Differs, NoSide, Untrue, Undefined, Inside, Nothing}
-use Rattle.sem_reasons.specs.declared.reason.Within.{Within}
-use Rattle.sem_reasons.specs.declared.reason.Within.TheVariants.{Argument, Condition}
+use Rattle.sem_filling.specs.declared.reason.Reason.{Reason}
+use Rattle.sem_filling.specs.declared.reason.Reason.TheVariants.{Dead, Short, Long, Cut, NoReference, Differs, NoSide, Untrue, Undefined, Inside, Nothing}
+use Rattle.sem_filling.specs.declared.reason.Within.{Within}
+use Rattle.sem_filling.specs.declared.reason.Within.TheVariants.{Argument, Condition}
 use Rattle.tool_input.specs.BitTexts.{bits_text}
 use Rattle.tool_names.specs.Names.{encoding_at, constraints_at, field_name}
 

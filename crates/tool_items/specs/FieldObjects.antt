@@ -11,7 +11,7 @@ use Rattle.sem_profile.specs.declared.profile.Encoding.TheVariants as encoding
 use Rattle.sem_profile.specs.declared.profile.Method.{Method}
 use Rattle.tool_items.specs.Fields.{library_word, part_word}
 use Rattle.tool_names.specs.Names.{callee, encoding_at, format_name, method_name}
-use Rattle.tool_json.specs.Objects.{array_closed, array_opened, bits, closed, line, null_member, number, opened, text}
+use Rattle.tool_names.specs.Objects.{array_closed, array_opened, bits, closed, line, null_member, number, opened, text}
 
 abbrev pub none_members : List Token
 none_members = null_member (codes "method") ++ null_member (codes "format")

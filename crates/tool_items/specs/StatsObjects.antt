@@ -9,7 +9,7 @@ use Rattle.tool_items.specs.Counted.{Counted}
 use Rattle.tool_items.specs.Stats.{mean_text, rows}
 use Rattle.tool_items.specs.declared.stats.RowOf.{RowOf}
 use Rattle.tool_items.specs.declared.stats.RowOf.TheVariants as part
-use Rattle.tool_json.specs.Objects.{figure, line, null_member, number, opened, text}
+use Rattle.tool_names.specs.Objects.{figure, line, null_member, number, opened, text}
 
 -- the mean with one decimal; of no items there is none
 abbrev pub mean_member : Tally → List Token

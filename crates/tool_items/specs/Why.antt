@@ -15,14 +15,14 @@ use Rattle.sem_expr.specs.declared.inputs.Input.TheVariants as input
 use Rattle.sem_profile.specs.declared.profile.Constraint.{Constraint}
 use Rattle.sem_profile.specs.declared.profile.Constraint.TheVariants.{Bracket, Enforce}
 use Rattle.sem_profile.specs.declared.profile.Method.{Method}
-use Rattle.sem_lint.specs.declared.obstacle.Obstacle.TheVariants as obstacle
+use Rattle.sem_filling.specs.declared.obstacle.Obstacle.TheVariants as obstacle
 use Rattle.sem_filling.specs.declared.filling.AskedValue.{AskedValue}
 use Rattle.sem_profile.specs.Resolved.{Resolved}
 use Rattle.cert_text.specs.Text.{name_of}
-use Rattle.sem_reasons.specs.declared.figures.Figure.{Figure}
-use Rattle.sem_reasons.specs.declared.line.Line.{Line}
-use Rattle.sem_reasons.specs.declared.reason.Reason.{Reason}
-use Rattle.sem_reasons.specs.declared.reason.Reason.TheVariants.{Dead, Short, Long, Cut, NoReference, Differs, NoSide, Untrue, Undefined, Inside, Nothing}
+use Rattle.sem_filling.specs.declared.reason.Figure.{Figure}
+use Rattle.sem_filling.specs.declared.reason.Line.{Line}
+use Rattle.sem_filling.specs.declared.reason.Reason.{Reason}
+use Rattle.sem_filling.specs.declared.reason.Reason.TheVariants.{Dead, Short, Long, Cut, NoReference, Differs, NoSide, Untrue, Undefined, Inside, Nothing}
 use Rattle.tool_items.specs.Asked.{front_words}
 use Rattle.tool_input.specs.BitTexts.{bits_text}
 use Rattle.tool_items.specs.Fields.{method_word}

@@ -6,7 +6,7 @@ ghost use Rattle.tool_items.specs.AdviceObjects as spec;
 use crate::advice::{Advice, FieldAdvice, NearAdvice, Nearest, OwnAdvice, StepRange, Taken, Way};
 use crate::{FewValues, Lengths, ValueCount};
 use std::alloc::{AllocError, Global};
-use tool_json::objects::Object;
+use tool_names::objects::Object;
 
 /// An object for all items, one for how each field goes on, one for each that has `lsb` or goes on by steps of the `lsb` that takes these, and one for what each `lsb`
 /// takes. The error is out of memory.

@@ -6,9 +6,9 @@ ghost use Rattle.tool_names.specs.Names.{format_name as name_of};
 
 use crate::why::push_reasons;
 use sem_expr::Side;
+use sem_filling::reason::{Line, Reason};
 use sem_filling::{AskedValue, Item};
 use sem_profile::Profile;
-use sem_reasons::{Line, Reason};
 use sqlite_items::Items;
 use std::alloc::{AllocError, Global};
 use std::collections::BTreeMap;

@@ -10,8 +10,8 @@ use crate::fields::{HeadLine, library_word, part_word};
 use sem_filling::{FilledField, Filling};
 use sem_profile::{Encoding, Method};
 use std::alloc::{AllocError, Global};
-use tool_json::objects::Object;
 use tool_names::names::{callee, encoding_at, format_name, method_name};
+use tool_names::objects::Object;
 
 /// The object of a filling of the top, as a line: what it is of, its number, its format, how many bits the packet has, and its fields, each with its part, its two
 /// sides and what encodes it. Behind a field stand those of the filling inside it, deeper by one. The error is out of memory.

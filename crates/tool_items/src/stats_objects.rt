@@ -9,7 +9,7 @@ use crate::stats::{Counted, RowOf, counted_rows, mean_text};
 use crate::{Sums, Tally};
 use sem_profile::Method;
 use std::alloc::{AllocError, Global};
-use tool_json::objects::Object;
+use tool_names::objects::Object;
 
 /// An object for all items that are counted, and one for each row of the table of `stats`. The error is out of memory.
 pub fn stats_objects(

@@ -1,4 +1,3 @@
-pub mod OctetsHeld
 pub mod MessagesCut
 pub mod MessagesWhole
 pub mod EntriesParted

@@ -13,7 +13,7 @@ use Rattle.sem_profile.specs.declared.profile.Method.{Method}
 use Rattle.sem_profile.specs.declared.profile.MethodSizes.{MethodSizes}
 use Rattle.sem_profile.specs.Resolved.{Resolved}
 use Rattle.tool_names.specs.Names.{callee, encoding_at, field_name, format_name, formats_of, method_name}
-use Rattle.tool_json.specs.Objects.{array_closed, array_opened, closed, figure, line, null_member, opened, text}
+use Rattle.tool_names.specs.Objects.{array_closed, array_opened, closed, figure, line, null_member, opened, text}
 
 abbrev pub bounds_members : List ℕ → List ℕ → Bounds → List Token
 bounds_members least most b = figure least (decimal b.least) ++ figure most (decimal b.most)

@@ -5,7 +5,7 @@ use Rattle.std.specs.Str.{bytes_eq}
 use Rattle.json.specs.Token.{Token}
 use Rattle.tool_json.specs.Messages.{cut, number_of}
 use Rattle.tool_json.specs.MessageObjects.{of_kind}
-use Rattle.tool_json.specs.Objects as json
+use Rattle.tool_names.specs.Objects as json
 
 abbrev pub is_heading : List ℕ → Bool
 is_heading line = bytes_eq line (codes "=== context")

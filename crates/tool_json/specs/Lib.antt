@@ -1,4 +1,3 @@
-pub mod Objects
 pub mod Messages
 pub mod MessageObjects
 pub mod Entries

@@ -7,7 +7,7 @@ use Rattle.tool_words.specs.declared.words.Command.TheVariants as command
 use Rattle.tool_json.specs.Entries.{after_heading, before_heading, context, has_heading}
 use Rattle.tool_json.specs.MessageObjects.{certificate_json, lines_of, object}
 use Rattle.tool_json.specs.Messages.{told_of}
-use Rattle.tool_json.specs.Objects as json
+use Rattle.tool_names.specs.Objects as json
 use Rattle.tool_json.specs.declared.message.Telling.{Telling}
 use Rattle.tool_json.specs.declared.message.Telling.TheVariants as telling
 

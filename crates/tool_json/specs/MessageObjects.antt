@@ -5,7 +5,7 @@ use Rattle.std.specs.Str.{bytes_eq}
 use Rattle.json.specs.Token.{Token}
 use Rattle.tool_json.specs.declared.message.Telling.{Telling}
 use Rattle.tool_json.specs.Messages.{Spot, at, in_text, in_line, numbered, in_part, Topic, no_topic, named, that, Told, accepted, fault, note, warning, head, reason, avoided, against, remark, cut, number_of, told_of}
-use Rattle.tool_json.specs.Objects as json
+use Rattle.tool_names.specs.Objects as json
 
 -- ---- the members of a place and of a topic
 

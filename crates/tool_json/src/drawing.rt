@@ -6,12 +6,12 @@ ghost use Rattle.std.specs.Option.{option_copied};
 ghost use Rattle.sem_filling.specs.Bounded.{sizes_at};
 ghost use Rattle.tool_json.specs.Drawing as spec;
 
-use crate::objects::Object;
 use itoa::Buffer;
 use sem_lint::{Column, columns_at};
 use sem_profile::{Bounds, Format, FormatSizes, Method, Profile};
 use std::alloc::{AllocError, Global};
 use tool_names::names::{callee, encoding_at, field_name, format_name, formats_of, method_name};
+use tool_names::objects::Object;
 
 /// An object for each format, those of the top first and then those of the other methods: its names, the bounds of its packed bits, and where the bits of each listed
 /// field stand. The error is out of memory.

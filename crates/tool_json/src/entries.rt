@@ -3,12 +3,12 @@
 ghost use Rattle.std.specs.Prelude.{◌≡◌, ◌||◌, ◌++◌, IfOk, IfSome, OnOk, flat_map, option_map, string_bytes};
 ghost use Rattle.tool_json.specs.Entries as spec;
 ghost use Rattle.tool_json.specs.MessageObjects.{lines_of};
-ghost use Rattle.tool_json.specs.Objects as json_spec;
+ghost use Rattle.tool_names.specs.Objects as json_spec;
 
 use crate::message::{cut_at_blank, cut_at_colon, number_of};
 use crate::messages::of_kind;
-use crate::objects::Object;
 use std::alloc::{AllocError, Global};
+use tool_names::objects::Object;
 
 pub(crate) fn is_heading(line: &str) -> bool
     ensures { result ≡ spec.is_heading line.now }

@@ -6,6 +6,3 @@ pub mod entries;
 pub mod lines;
 pub mod message;
 pub mod messages;
-pub mod objects;
-#[cfg(test)]
-mod tests;

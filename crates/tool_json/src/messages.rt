@@ -3,13 +3,13 @@
 ghost use Rattle.std.specs.Prelude.{◌≡◌, ◌++◌, IfOk, OnOk, flat_map, option_map, string_bytes};
 ghost use Rattle.tool_json.specs.Messages.{cut, spot, told, topic};
 ghost use Rattle.tool_json.specs.MessageObjects as spec;
-ghost use Rattle.tool_json.specs.Objects as json_spec;
+ghost use Rattle.tool_names.specs.Objects as json_spec;
 
 use crate::message::{
     Message, MessagePlace, Subject, Telling, cut_at_blank, number_of, read_message,
 };
-use crate::objects::Object;
 use std::alloc::{AllocError, Global};
+use tool_names::objects::Object;
 
 /// An object for each line of a text, but for the empty ones.
 pub fn messages_json(alloc: Global, telling: Telling, text: &str) -> Result<String, AllocError>

@@ -23,7 +23,7 @@ use Rattle.tool_loss.specs.Step.{step_of}
 use Rattle.tool_loss.specs.Told.{told_case, told_format}
 use Rattle.tool_loss.specs.declared.step.Step.{Step}
 use Rattle.tool_names.specs.Names.{format_name, formats_of, method_name}
-use Rattle.tool_json.specs.Objects.{array_closed, array_opened, bits, closed, figure, line, null_member, number, opened, optional_bits, text}
+use Rattle.tool_names.specs.Objects.{array_closed, array_opened, bits, closed, figure, line, null_member, number, opened, optional_bits, text}
 use Rattle.tool_items.specs.StatsObjects.{all_line}
 
 -- ---- how many are read right

@@ -1,3 +1,4 @@
+pub mod OctetsHeld
 pub mod CandidatesCapped
 pub mod TableLists
 pub mod TableBlanks

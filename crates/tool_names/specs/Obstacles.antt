@@ -16,9 +16,9 @@ use Rattle.sem_profile.specs.declared.profile.FormatSizes.{FormatSizes}
 use Rattle.sem_profile.specs.declared.profile.MethodSizes.{MethodSizes}
 use Rattle.sem_profile.specs.Resolved.{Resolved}
 use Rattle.cert_rules.specs.Facts.{same_side}
-use Rattle.sem_lint.specs.declared.formats.DeadFormat.{DeadFormat}
-use Rattle.sem_lint.specs.declared.obstacle.Obstacle.{Obstacle}
-use Rattle.sem_lint.specs.declared.obstacle.Obstacle.TheVariants as obstacle
+use Rattle.sem_filling.specs.declared.obstacle.DeadFormat.{DeadFormat}
+use Rattle.sem_filling.specs.declared.obstacle.Obstacle.{Obstacle}
+use Rattle.sem_filling.specs.declared.obstacle.Obstacle.TheVariants as obstacle
 use Rattle.sem_profile.specs.BoundsFaults.{side_bounds}
 use Rattle.sem_filling.specs.Bounded.{sizes_at}
 use Rattle.tool_names.specs.Names.{constraints_at, field_at, field_name, method_name, method_place}

@@ -9,7 +9,7 @@ ghost use Rattle.tool_names.specs.Obstacles as spec;
 use crate::names::{constraints_at, field_at, field_name, method_name, method_place};
 use itoa::Buffer;
 use sem_expr::{Interval, Side};
-use sem_lint::{DeadFormat, Obstacle};
+use sem_filling::obstacle::{DeadFormat, Obstacle};
 use sem_profile::{Bounds, Constraint, Encoding, Method, Profile, Shared, Sizes};
 use std::alloc::{AllocError, Global};
 use text_source::Span;

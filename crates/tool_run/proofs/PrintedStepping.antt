@@ -21,7 +21,7 @@ use Rattle.tool_input.specs.ItemTexts.{HasMore, IsItemText}
 use Rattle.tool_run.proofs.PacketLines.{packet_faults}
 use Rattle.tool_input.specs.OneLine.{IsLine}
 use Rattle.sem_reasons.specs.Reasons.{Verdicts}
-use Rattle.sem_reasons.specs.declared.line.Line as reasons
+use Rattle.sem_filling.specs.declared.reason.Line as reasons
 use Rattle.tool_items.specs.Why.{reasons_text}
 use Rattle.tool_run.specs.Printed.{ExplainsItem, ExplainsPacket, Follows, HasLine, IsItemFault, RefusesItem, RefusesPacket, head_of, packet_setting, IsFoundText, IsItemStep, IsPacketFault, IsPacketStep, IsReadLine, IsRefusedItem, IsRefusedPacket, IsTaken, IsWrittenText, SaysItem, SaysPacket, tree_text}
 use Rattle.tool_run.specs.declared.packets.Shape.{Shape}

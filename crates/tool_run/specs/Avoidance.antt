@@ -16,7 +16,7 @@ use Rattle.sem_filling.specs.Bounded.{ArgumentsLie}
 use Rattle.sem_profile.specs.Resolved.{Resolved}
 use Rattle.sem_reasons.specs.Reasons.{IsVerdict}
 use Rattle.sem_reasons.specs.Settings.{Setting}
-use Rattle.sem_reasons.specs.declared.line.Line.{Line}
+use Rattle.sem_filling.specs.declared.reason.Line.{Line}
 use Rattle.tool_input.specs.Refusals.{Holds}
 use Rattle.tool_input.specs.declared.status.Answer.{Answer}
 use Rattle.tool_input.specs.declared.status.Status.{Status}

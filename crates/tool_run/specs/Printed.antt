@@ -54,7 +54,7 @@ use Rattle.tool_run.specs.declared.packets.Shape.TheVariants.{Line, Tree, Why}
 use Rattle.sem_expr.specs.declared.expr.Side.TheVariants.{Compressed}
 use Rattle.sem_reasons.specs.Reasons.{Verdicts}
 use Rattle.sem_reasons.specs.Settings.{Setting}
-use Rattle.sem_reasons.specs.declared.line.Line as reasons
+use Rattle.sem_filling.specs.declared.reason.Line as reasons
 use Rattle.tool_items.specs.Fields.{fields_text, head_text}
 use Rattle.tool_loss.specs.Reach.{lacks_text}
 use Rattle.tool_items.specs.Why.{reasons_text}

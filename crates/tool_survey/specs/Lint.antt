@@ -4,7 +4,7 @@ use Rattle.std.specs.Map.{keys_of}
 use Rattle.text_source.specs.Places.{line_of, column_of}
 use Rattle.sem_context.specs.Entries.{Entries}
 use Rattle.sem_profile.specs.Resolved.{Resolved}
-use Rattle.sem_lint.specs.declared.formats.DeadFormat.{DeadFormat}
+use Rattle.sem_filling.specs.declared.obstacle.DeadFormat.{DeadFormat}
 use Rattle.sem_lint.specs.Listing.{AreDead}
 use Rattle.tool_input.specs.declared.status.Answer.{Answer}
 use Rattle.tool_input.specs.declared.status.Status.TheVariants as status

@@ -1,9 +1,12 @@
 -- What the words of a call ask for, by what clap's contracts say of a command and words.
-use Rattle.std.specs.Prelude.{◌≡◌, ◌≢◌, ◌↔◌, ◌<◌, ◌&&◌, ℕ, Bool, true, false, List, [], ◌∷◌, Option, None, Some, if◌then◌else◌, codes, decimal, nat_lt, option_map, option_and_then}
+use Rattle.std.specs.Prelude.{◌≡◌, ◌≢◌, ◌↔◌, ◌<◌, ◌&&◌, ℕ, Bool, true, false, List, [], ◌∷◌, Option, None, Some, if◌then◌else◌, codes, decimal, nat_lt, option_map, option_and_then, IfOk, Result}
 use Rattle.std.specs.Str.{bytes_eq}
+use Rattle.std.specs.declared.alloc.AllocError.{AllocError}
 use Rattle.std.specs.Str.Parse.{digits_value}
-use Rattle.clap.specs.Words.{App, IsAmong, Kinds, Row, Rule, fault_of, first_of, new_app, new_rule, subcommand_of, with_rule, with_subcommand}
+use Rattle.clap.specs.Words.{App, IsAmong, Kinds, Row, Rule, app_of, fault_of, first_of, new_app, new_rule, subcommand_of, with_rule, with_subcommand}
 use Rattle.clap.specs.Simple.{on_top}
+use Rattle.clap.specs.declared.builder.command.Command.{Command as ClapCommand}
+use Rattle.clap.specs.declared.builder.command.Command.TheViews.{out-Command as fields_of}
 use Rattle.clap.specs.declared.builder.action.ArgAction.TheVariants.{SetTrue}
 use Rattle.clap.specs.declared.error.kind.ErrorKind.{ErrorKind}
 use Rattle.clap.specs.declared.error.kind.ErrorKind.TheVariants.{DisplayHelp, OutOfMemory}
@@ -201,10 +204,20 @@ abbrev pub bare_program : App
 bare_program = on_top (λ top. record top { no_binary_name = true; subcommand_required = true })
     (new_app (codes "rohcfn"))
 
--- with its commands
+-- where there is a command, and one that has no flags for those below it, the second stands below the first
+abbrev pub IsAdded : Result ClapCommand AllocError → Result ClapCommand AllocError → Result ClapCommand AllocError → Type 0
+IsAdded command below result = (a s : App) → IfOk command (λ c. app_of c ≡ a) → IfOk below (λ c. app_of c ≡ s) → IfOk below (λ c. (fields_of c).has_globals ≡ false) →
+    IfOk result (λ c. app_of c ≡ with_subcommand a s.top)
+
+-- with the commands that take items or packets
+abbrev pub header_program : App
+header_program = with_subcommand (with_subcommand (with_subcommand (with_subcommand (with_subcommand (with_subcommand (with_subcommand bare_program (with_sending (codes "pack")).top)
+    (with_flags (codes "unpack")).top) (with_items (codes "fields")).top) (with_reasons (codes "why")).top) (with_checks (codes "stats")).top) (with_losses (codes "loss")).top) (with_lost (codes "advise")).top
+
+-- with all commands
 unfoldable pub program : App
-program = with_subcommand (with_subcommand (with_subcommand (with_subcommand (with_subcommand (with_subcommand (with_subcommand (with_subcommand (with_subcommand (with_subcommand (with_subcommand (with_subcommand (with_subcommand bare_program (with_sending (codes "pack")).top)
-    (with_flags (codes "unpack")).top) (with_items (codes "fields")).top) (with_reasons (codes "why")).top) (with_checks (codes "stats")).top) (with_losses (codes "loss")).top) (with_lost (codes "advise")).top) (with_top (codes "show")).top) (with_strict (codes "lint")).top) (with_drawing (codes "draw")).top) (with_explain (codes "check")).top) (with_explain (codes "prove")).top) (with_line (codes "line")).top
+program = with_subcommand (with_subcommand (with_subcommand (with_subcommand (with_subcommand (with_subcommand header_program (with_top (codes "show")).top)
+    (with_strict (codes "lint")).top) (with_drawing (codes "draw")).top) (with_explain (codes "check")).top) (with_explain (codes "prove")).top) (with_line (codes "line")).top
 
 -- a command, the name of a method, whether the last context is printed, the version of a certificate that is made, whether the line is the wide one and whether a
 -- warning ends with status 1, the form of the answer, and the format of `--not`, which is empty where none is given

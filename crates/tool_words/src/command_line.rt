@@ -2,7 +2,7 @@
 ghost use Rattle.std.specs.Prelude.{◌≡◌, false, IfOk};
 ghost use Rattle.clap.specs.Words.{app_of};
 ghost use Rattle.clap.specs.declared.builder.command.Command.TheViews.{out-Command as fields_of};
-ghost use Rattle.tool_words.specs.Words.{program, with_all, with_avoided, with_checks, with_drawing, with_explain, with_flags, with_items, with_json, with_list, with_listed, with_losses, with_lost, with_reasons, with_receive, with_robust, with_sending, with_strict, with_top, with_version, with_wide, with_frames, with_line};
+ghost use Rattle.tool_words.specs.Words.{IsAdded, bare_program, header_program, program, with_all, with_avoided, with_checks, with_drawing, with_explain, with_flags, with_items, with_json, with_list, with_listed, with_losses, with_lost, with_reasons, with_receive, with_robust, with_sending, with_strict, with_top, with_version, with_wide, with_frames, with_line};
 
 use clap::{Arg, ArgAction};
 use std::alloc::{AllocError, Global};
@@ -55,63 +55,88 @@ takes those of the part words. Each format, and the lines of faults: docs/FORMAT
 pub(crate) fn program<'a>(alloc: Global) -> Result<clap::Command<'a>, AllocError>
     ensures { IfOk result (λ command. app_of command ≡ program) }
 {
-    // (each command is made just before it is added: what is held across a `?` costs the proof minutes)
-    let bare = clap::Command::new(alloc, "rohcfn")
-        .about("Packs and unpacks headers by a profile in the ROHC formal notation")
-        .after_help(INPUT)
-        .bin_name("rohcfn")?
-        .no_binary_name(true)
-        .subcommand_required(true);
-    let pack = with_sending(alloc, "pack", "Packs the part items")?;
-    let one = bare.subcommand(pack)?;
-    let unpack = with_flags(alloc, "unpack", "Unpacks the part packets")?;
-    let two = one.subcommand(unpack)?;
-    let fields = with_items(alloc, "fields", "Lists the fields of the part packets")?;
-    let three = two.subcommand(fields)?;
-    let why = with_reasons(alloc, "why", "Tells why one of the part packets is refused")?;
-    let reasons = three.subcommand(why)?;
-    let stats = with_checks(alloc, "stats", "Counts the packed bits of the part items")?;
-    let counted = reasons.subcommand(stats)?;
-    let loss = with_losses(
-        alloc,
-        "loss",
-        "Tells what is read of the part items after lost packets",
-    )?;
-    let judged = counted.subcommand(loss)?;
-    let advise = with_lost(
-        alloc,
-        "advise",
-        "Tells what the fields of the part items are like",
-    )?;
-    let advised = judged.subcommand(advise)?;
     let show = with_top(
         alloc,
         "show",
         "Shows the methods, bounds and constraints of the part profile",
-    )?;
-    let four = advised.subcommand(show)?;
+    );
+    let one = added(header_program(alloc), show);
     let lint = with_strict(
         alloc,
         "lint",
         "Tells by which formats of the part profile nothing can be packed",
-    )?;
-    let five = four.subcommand(lint)?;
+    );
+    let two = added(one, lint);
     let draw = with_drawing(
         alloc,
         "draw",
         "Draws the packed bits of each format of the part profile",
-    )?;
-    let drawn = five.subcommand(draw)?;
+    );
+    let three = added(two, draw);
     let check = with_explain(
         alloc,
         "check",
         "Checks the part certificate against the part profile",
-    )?;
-    let six = drawn.subcommand(check)?;
-    let prove = with_explain(alloc, "prove", "Makes a certificate for the part profile")?;
-    let seven = six.subcommand(prove)?;
-    let line = with_line(alloc, "line", "Sends the part events on a line of flows")?;
-    seven.subcommand(line)
+    );
+    let four = added(three, check);
+    let prove = with_explain(alloc, "prove", "Makes a certificate for the part profile");
+    let five = added(four, prove);
+    let line = with_line(alloc, "line", "Sends the part events on a line of flows");
+    added(five, line)
+}
+
+// The same with the commands alone that take items or packets. (No command is held across a `?`, which would cost the proof minutes.)
+fn header_program<'a>(alloc: Global) -> Result<clap::Command<'a>, AllocError>
+    ensures { IfOk result (λ command. app_of command ≡ header_program) }
+{
+    let pack = with_sending(alloc, "pack", "Packs the part items");
+    let one = added(bare_program(alloc), pack);
+    let unpack = with_flags(alloc, "unpack", "Unpacks the part packets");
+    let two = added(one, unpack);
+    let fields = with_items(alloc, "fields", "Lists the fields of the part packets");
+    let three = added(two, fields);
+    let why = with_reasons(alloc, "why", "Tells why one of the part packets is refused");
+    let four = added(three, why);
+    let stats = with_checks(alloc, "stats", "Counts the packed bits of the part items");
+    let five = added(four, stats);
+    let loss = with_losses(
+        alloc,
+        "loss",
+        "Tells what is read of the part items after lost packets",
+    );
+    let six = added(five, loss);
+    let advise = with_lost(
+        alloc,
+        "advise",
+        "Tells what the fields of the part items are like",
+    );
+    added(six, advise)
+}
+
+// The program's own command line, without its commands.
+fn bare_program<'a>(alloc: Global) -> Result<clap::Command<'a>, AllocError>
+    ensures { IfOk result (λ command. app_of command ≡ bare_program) }
+{
+    Ok(
+        clap::Command::new(alloc, "rohcfn")
+            .about("Packs and unpacks headers by a profile in the ROHC formal notation")
+            .after_help(INPUT)
+            .bin_name("rohcfn")?
+            .no_binary_name(true)
+            .subcommand_required(true),
+    )
+}
+
+// The command with one more below it, where there are both.
+fn added<'a>(
+    command: Result<clap::Command<'a>, AllocError>,
+    below: Result<clap::Command<'a>, AllocError>,
+) -> Result<clap::Command<'a>, AllocError>
+    ensures { IsAdded command.entry below.entry result }
+{
+    let command = command?;
+    let below = below?;
+    command.subcommand(below)
 }
 
 // A command with the flag `--top`.

@@ -67,8 +67,8 @@ IsSolved i j e old new = (frame : PageFrame) (d : Field) (c : Constraint) → sl
     slice_get old.format.now.constraints j ≡ Some c → value_given i c ≡ Some e → GoesOn frame old new
 
 -- the page is that of a filling that fits the frame, with these sides of its whole
-abbrev pub IsRead : PageFrame → WholePage → Type 0
-IsRead frame w = IsPageOf frame.methods.now (bits_at frame.context.now) frame.method frame.arguments.now frame.path.now w.page w.whole.header w.whole.packed
+abbrev pub IsWholePage : PageFrame → WholePage → Type 0
+IsWholePage frame w = IsPageOf frame.methods.now (bits_at frame.context.now) frame.method frame.arguments.now frame.path.now w.page w.whole.header w.whole.packed
 
 -- the field calls a method, of which the page is one under the values of the arguments, below the path of the field
 pub record IsCalled (frame : PageFrame) (d : Draft) (i : ℕ) (w : WholePage) : Type 0 where

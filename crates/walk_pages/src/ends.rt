@@ -25,7 +25,7 @@ pub(crate) fn ended(
     requires right { spec.IsRight frame.now draft }
     requires format { format_at frame.now.methods.now frame.now.method index ≡ Some draft.format.now }
     requires arguments { draft.arguments.now ≡ frame.now.arguments.now }
-    ensures { IfOk result (λ o. IfSome o (spec.IsRead frame.now)) }
+    ensures { IfOk result (λ o. IfSome o (spec.IsWholePage frame.now)) }
 {
     let Draft {
         format,

@@ -25,7 +25,7 @@ pub(crate) fn read_method(
     cursor: &Cursor<'_>,
     from: usize,
 ) -> Result<Option<WholePage>, AllocError>
-    ensures { IfOk result (λ o. IfSome o (spec.IsRead frame.now)) }
+    ensures { IfOk result (λ o. IfSome o (spec.IsWholePage frame.now)) }
 {
     let Some(start) = picked(alloc, accepted, frame, cursor, from)? else {
         return Ok(None);
@@ -134,7 +134,7 @@ fn read_inside(
     cursor: &Cursor<'_>,
     from: usize,
 ) -> Result<Option<WholePage>, AllocError>
-    ensures { IfOk result (λ o. IfSome o (spec.IsRead frame.now)) }
+    ensures { IfOk result (λ o. IfSome o (spec.IsWholePage frame.now)) }
 {
     if depth == 0 {
         return Ok(None);

@@ -2,7 +2,7 @@ use Rattle.std.proofs.Common.{subst}
 use Rattle.std.specs.Prelude.{MatchOption}
 use Rattle.sem_profile.specs.Resolved.{Resolved, IsSound}
 use Rattle.sem_lint.specs.Obstacles.{Stands, Hinders}
-use Rattle.sem_lint.specs.declared.obstacle.Obstacle.{Obstacle}
+use Rattle.sem_filling.specs.declared.obstacle.Obstacle.{Obstacle}
 use Rattle.sem_lint.proofs.ObstaclesDead.{none_dead}
 use Rattle.sem_lint.proofs.ObstaclesStanding.{own_hinders, some_hinders, none_hinders, there_is, there_is_none}
 use Rattle.sem_lint.proofs.obstacle.obstacle_of.Goals as goal

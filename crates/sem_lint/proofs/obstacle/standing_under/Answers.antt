@@ -3,7 +3,7 @@ use Rattle.text_source.specs.declared.span.Span.{Span}
 use Rattle.sem_expr.specs.declared.expr.Side.{Side}
 use Rattle.sem_expr.specs.Bounds.{bounding_of}
 use Rattle.sem_lint.specs.Demands.{HasUnmet}
-use Rattle.sem_lint.specs.declared.demands.Unmet.{Unmet}
+use Rattle.sem_filling.specs.declared.obstacle.Unmet.{Unmet}
 use Rattle.sem_lint.specs.Never.{IsUntrue}
 use Rattle.sem_lint.specs.Obstacles.{HasNoLength, SendsMore, SplitsOctets, HasNoValue}
 use Rattle.sem_lint.proofs.ObstaclesStanding.{none_stands}

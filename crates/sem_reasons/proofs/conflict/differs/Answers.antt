@@ -5,7 +5,7 @@ use Rattle.sem_library.specs.Methods.{IsOnly}
 use Rattle.sem_reasons.specs.Across.{method_of}
 use Rattle.sem_reasons.specs.Conflicts.{StandsIn}
 use Rattle.sem_reasons.specs.Told.{Related, opposite, seen_at}
-use Rattle.sem_reasons.specs.declared.reason.Reason.TheVariants as reason
+use Rattle.sem_filling.specs.declared.reason.Reason.TheVariants as reason
 use Rattle.sem_reasons.proofs.ReasonsMaking.{differs_is}
 use Rattle.sem_reasons.proofs.conflict.differs.Goals as goal
 

@@ -1,6 +1,6 @@
 use Rattle.std.proofs.Common.{subst, sym}
 use Rattle.sem_reasons.specs.Conflicts.{StandsIn}
-use Rattle.sem_reasons.specs.declared.reason.Reason.TheVariants as reason
+use Rattle.sem_filling.specs.declared.reason.Reason.TheVariants as reason
 use Rattle.sem_reasons.proofs.ReasonsMaking.{no_side_is}
 use Rattle.sem_reasons.proofs.conflict.lacking.Goals as goal
 

@@ -1,7 +1,7 @@
 use Rattle.std.specs.Fmt.{signed_decimal}
 use Rattle.std.proofs.Common.{rules, ◌≡◌, ◌∙◌, ap}
 use Rattle.std.specs.Prelude.{◌++◌, codes}
-use Rattle.tool_json.specs.Objects.{closed, figure, member_opened, number}
+use Rattle.tool_names.specs.Objects.{closed, figure, member_opened, number}
 use Rattle.tool_items.proofs.ObjectChains.{at_last, then_more}
 use Rattle.tool_items.proofs.advice_objects.add_lsb.Goals as goal
 

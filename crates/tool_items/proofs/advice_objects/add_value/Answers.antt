@@ -1,5 +1,5 @@
 use Rattle.std.specs.Prelude.{◌++◌, codes}
-use Rattle.tool_json.specs.Objects.{bits, closed, number, opened}
+use Rattle.tool_names.specs.Objects.{bits, closed, number, opened}
 use Rattle.tool_items.proofs.ObjectChains.{at_last, then_more}
 use Rattle.tool_items.proofs.advice_objects.add_value.Goals as goal
 

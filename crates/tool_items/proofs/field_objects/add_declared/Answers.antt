@@ -1,5 +1,5 @@
 use Rattle.std.specs.Prelude.{◌++◌, codes}
-use Rattle.tool_json.specs.Objects.{number, opened, text}
+use Rattle.tool_names.specs.Objects.{number, opened, text}
 use Rattle.tool_items.proofs.ObjectChains.{at_last, then_more}
 use Rattle.tool_items.proofs.field_objects.add_declared.Goals as goal
 

@@ -4,7 +4,7 @@ use Rattle.std.specs.Prelude.{◌++◌, option_map}
 use Rattle.sem_filling.specs.Fillings.{inner_of, sides_of}
 use Rattle.tool_items.specs.Fields.{part_word}
 use Rattle.tool_items.specs.FieldObjects.{declared_tokens, method_members, sides_tokens}
-use Rattle.tool_json.specs.Objects.{closed}
+use Rattle.tool_names.specs.Objects.{closed}
 use Rattle.tool_items.proofs.ObjectChains.{at_last, then_more}
 use Rattle.tool_items.proofs.FieldObjectsListed.{format_in}
 use Rattle.tool_items.proofs.field_objects.add_field.Goals as goal

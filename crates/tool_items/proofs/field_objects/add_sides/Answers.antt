@@ -1,6 +1,6 @@
 use Rattle.std.specs.Prelude.{codes}
 use Rattle.sem_filling.specs.Fillings.{sides_of}
-use Rattle.tool_json.specs.Objects.{bits}
+use Rattle.tool_names.specs.Objects.{bits}
 use Rattle.tool_items.proofs.ObjectChains.{at_last}
 use Rattle.tool_items.proofs.field_objects.add_sides.Goals as goal
 

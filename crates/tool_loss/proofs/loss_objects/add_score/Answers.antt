@@ -1,5 +1,5 @@
 use Rattle.std.specs.Prelude.{◌++◌, codes}
-use Rattle.tool_json.specs.Objects.{number}
+use Rattle.tool_names.specs.Objects.{number}
 use Rattle.tool_items.proofs.ObjectChains.{at_last, then_more}
 use Rattle.tool_loss.proofs.loss_objects.add_score.Goals as goal
 

@@ -6,7 +6,7 @@ ghost use Rattle.std.specs.Str.{IsUtf8};
 ghost use Rattle.sem_bits.specs.Octets.{Holds};
 ghost use Rattle.hex.specs.Hex.{encode_lower};
 ghost use Rattle.tool_input.specs.BitTexts.{octets_of};
-ghost use Rattle.tool_json.specs.Objects as spec;
+ghost use Rattle.tool_names.specs.Objects as spec;
 
 use itoa::Buffer;
 use json::{Writer, is_number};

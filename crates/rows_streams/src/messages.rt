@@ -1,8 +1,8 @@
 //! Worked rows: lines of the commands, and their objects by docs/FORMATS.md.
 
-use crate::message::Telling;
-use crate::messages::{certificate_json, messages_json};
 use std::alloc::AllocError;
+use tool_json::message::Telling;
+use tool_json::messages::{certificate_json, messages_json};
 
 #[test]
 fn tells_places(rt: HostRuntime) -> Result<(), AllocError> {

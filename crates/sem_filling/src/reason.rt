@@ -1,11 +1,17 @@
-//! What may stand against a format.
+//! What may stand against a format. Who finds it stands in sem_reasons.
 
-use crate::figures::Figure;
+use crate::obstacle::Obstacle;
 use sem_bits::Bits;
-use sem_expr::Side;
-use sem_lint::Obstacle;
+use sem_expr::{Input, Side};
 use sqlite_items::Items;
 use text_source::Span;
+
+/// An attribute or a parameter, and the number that it has.
+#[derive(Clone, Copy)]
+pub struct Figure {
+    pub input: Input,
+    pub value: i128,
+}
 
 /// What has no value, by its index: an argument of what encodes this field, or this constraint, which is a condition.
 #[derive(Clone, Copy)]
@@ -69,4 +75,13 @@ pub enum Reason {
     },
     /// Nothing that is looked at here.
     Nothing,
+}
+
+/// What stands against a format of a method, both by their indices. At the top the depth is 0, and a method that a field calls is one deeper.
+#[derive(Drop)]
+pub struct Line {
+    pub depth: usize,
+    pub method: usize,
+    pub format: usize,
+    pub reason: Reason,
 }
