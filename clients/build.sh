@@ -15,7 +15,7 @@ mkdir -p "$out"
 # shellcheck disable=SC2206 # (words of the caller)
 words=(-std=c11 -O2 -Wall -Wextra -Werror -I"$here" ${CFLAGS:-})
 "$compiler" -shared -o "$out/librohcfn_c.so" -Wl,--whole-archive "$archive" -Wl,--no-whole-archive "$memory"
-for name in items calls rounds; do
-  "$compiler" "${words[@]}" -o "$out/$name" "$here/c/$name.c" "$archive" "$memory"
+for name in items calls rounds threads; do
+  "$compiler" "${words[@]}" -pthread -o "$out/$name" "$here/c/$name.c" "$archive" "$memory"
 done
 "$compiler" "${words[@]}" -Wl,--wrap=malloc,--wrap=realloc -o "$out/refused" "$here/c/refused.c" "$archive" "$memory"

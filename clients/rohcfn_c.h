@@ -9,8 +9,9 @@
  *           ROHCFN_DONE and at ROHCFN_NO_ROOM.
  * Memory    malloc, realloc and free of the program (one allocator, aligned to 16), by liblibc_c.a of the kit. The library keeps no pointer of the caller's after a
  *           call, and hands none out but the handle's.
- * Threads   A handle is one thread's at a time and stays on the thread that opened it: its names share counted text, and nothing proves that it may move. Two handles
- *           share nothing. Not from a signal handler, nor in a forked child of a threaded process. No call waits, starts a thread or touches a file.
+ * Threads   A handle is one thread's at a time, and may go to another thread between two calls: that is proved. The caller orders the two, by a lock, or by the start or the
+ *           end of a thread. Two handles share nothing. Not from a signal handler, nor in a forked child of a threaded process. No call waits, starts a thread or touches
+ *           a file.
  * Pointers  never null, also where a length is 0. What is written overlaps nothing else that is passed. */
 #ifndef ROHCFN_C_H
 #define ROHCFN_C_H

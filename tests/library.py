@@ -2,8 +2,9 @@
 
 * All stored cases of `pack` and `unpack` give the same packets, items and faults through clients/python/rohcfn.py.
 * The tests of clients/rust pass, where cargo is installed.
-* clients/c/calls.c checks what each call answers, clients/c/refused.c refuses each allocation in turn, and clients/c/items.c packs items there and back.
-* Where they are installed these also run with AddressSanitizer, and under valgrind, which counts what leaks.
+* clients/c/calls.c checks what each call answers, clients/c/refused.c refuses each allocation in turn, clients/c/items.c packs items there and back, and in
+  clients/c/threads.c handles go from thread to thread.
+* Where they are installed these also run with AddressSanitizer and ThreadSanitizer, and under valgrind, which counts what leaks.
 * A profile of a mebibyte is refused or opened as the program does it.
 
 It prints `skipped` and ends with 0 where no library was built, as after the gate's own proofs (docs/LIBRARY.md), or where there is no C compiler."""
@@ -159,27 +160,28 @@ def programs(out, before=()):
     data = program.EXAMPLES / "data" / "tcp-client.items"
     profile = program.EXAMPLES / "profiles" / "tcp.profile"
     items = [out / "items", "tcp_ip", profile, data]
-    return [runs([*before, out / "calls"], b"calls: ok"), runs([*before, out / "refused"], b"refused: ok"), runs([*before, *items], b" items, ")]
+    return [runs([*before, out / name], name.encode() + b": ok") for name in ("calls", "refused", "threads")] + [runs([*before, *items], b" items, ")]
 
 
 def watched(folder):
     """What the programs do under the tools that are installed: a list of outcomes, and the names of the tools."""
     done, tools = [], []
-    sanitized = folder / "sanitized"
-    if can_sanitize(folder) and build(sanitized, "-fsanitize=address -g"):
-        done += programs(sanitized)
-        tools.append("AddressSanitizer")
+    for kind, tool in (("address", "AddressSanitizer"), ("thread", "ThreadSanitizer")):
+        sanitized = folder / kind
+        if can_sanitize(folder, kind) and build(sanitized, "-fsanitize=%s -g" % kind):
+            done += programs(sanitized)
+            tools.append(tool)
     if shutil.which("valgrind"):
         done += programs(folder, ["valgrind", "-q", "--error-exitcode=9", "--leak-check=full", "--errors-for-leak-kinds=all"])
         tools.append("valgrind")
     return done, tools
 
 
-def can_sanitize(folder):
-    """Whether the compiler links programs with AddressSanitizer."""
+def can_sanitize(folder, kind):
+    """Whether the compiler links programs with such a sanitizer."""
     source = folder / "nothing.c"
     source.write_text("int main(void) { return 0; }\n")
-    words = [compiler(), "-fsanitize=address", "-o", folder / "nothing", source]
+    words = [compiler(), "-fsanitize=%s" % kind, "-o", folder / "nothing", source]
     return subprocess.run(words, stderr=subprocess.DEVNULL, check=False).returncode == 0
 
 

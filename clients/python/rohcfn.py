@@ -127,7 +127,7 @@ def _filled(bits):
 
 
 class Session:
-    """Flows of a profile, each with both of its ends. A `with` block closes it. It stays on the thread that made it."""
+    """Flows of a profile, each with both of its ends. A `with` block closes it. Any thread may use it, one at a time."""
 
     def __init__(self, top, profile, certificate=b"", flows=16):
         """Opens a session by the octets of a profile whose top method has this name, and by its certificate; with no octets for that it is made."""

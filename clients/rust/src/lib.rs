@@ -52,7 +52,7 @@ pub struct Item {
     pub taken: usize,
 }
 
-/// Several flows of a profile, each with both of its ends. It is neither `Send` nor `Sync`: it stays on the thread that opened it.
+/// Several flows of a profile, each with both of its ends. It may go to another thread.
 pub struct Session {
     handle: Handle,
     header_octets: usize,
@@ -219,6 +219,9 @@ impl Session {
         }
     }
 }
+
+// SAFETY: the library proves that a handle may go to another thread, and each call that uses it has `&mut self`.
+unsafe impl Send for Session {}
 
 impl Drop for Session {
     fn drop(&mut self) {

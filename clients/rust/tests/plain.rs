@@ -24,6 +24,16 @@ fn there_and_back() {
 }
 
 #[test]
+fn from_thread_to_thread() {
+    let (mut session, header) = (open(), Bits::of(&[0x5a, 0xbc], 16));
+    let (packet, mut session) = std::thread::spawn(move || (session.pack(0, &header, &[]).unwrap(), session))
+        .join()
+        .unwrap();
+    assert_eq!(packet, Bits::of(&[0x96, 0xaf, 0x00], 18));
+    assert_eq!(session.unpack(0, &packet).unwrap().taken, 18);
+}
+
+#[test]
 fn refusals() {
     let mut session = open();
     assert_eq!(session.pack(0, &Bits::of(&[0x5a], 8), &[]), Err(Error::NoFormat("F3 NoFormat".into())));

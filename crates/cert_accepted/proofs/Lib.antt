@@ -2,3 +2,4 @@ pub mod Accepting
 pub mod StandingDepth
 pub mod StandingStart
 pub mod FrameUnsent
+pub mod Crossing

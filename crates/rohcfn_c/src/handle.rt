@@ -84,6 +84,9 @@ impl Handle {
     }
 }
 
+// It may go to another thread, as what it leads to may.
+unsafe impl Send for Handle {}
+
 impl Drop for Handle {
     fn drop(self) {
         drop(self.into_box());

@@ -4,6 +4,7 @@
 mod answer;
 mod exports;
 mod handle;
+mod laws;
 mod line;
 mod loose;
 mod opened;

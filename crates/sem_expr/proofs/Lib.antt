@@ -9,3 +9,4 @@ pub mod RulesParts
 pub mod Powers
 pub mod RulesProducts
 pub mod RulesSound
+pub mod Crossing

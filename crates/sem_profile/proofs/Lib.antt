@@ -7,3 +7,4 @@ pub mod FaultsFolding
 pub mod FaultsFaultless
 pub mod FieldsRuling
 pub mod ParametersWidening
+pub mod Crossing

@@ -5,15 +5,15 @@ ghost use Rattle.sem_profile.specs.Words.{is_name as is_word, as_name};
 
 use std::alloc::{AllocError, Global};
 use std::marker::Model;
-use std::rc::Rc;
 use std::str::from_utf8;
+use std::sync::Arc;
 use text_source::names::is_name;
 
 /// A name, which shares its text with its copies: a letter, then letters, digits and underscores, all of ASCII (RFC 4997).
 /// Contracts see its octets.
 #[derive(Drop)]
 pub struct Name {
-    text: Rc<String>,
+    text: Arc<String>,
 }
 
 impl Model for Name {
@@ -55,7 +55,7 @@ impl Name {
         ensures { IfOk result (λ n. n ≡ text.now) }
     {
         Ok(Name {
-            text: Rc::new(alloc, String::from_str(alloc, text)?)?,
+            text: Arc::new(alloc, String::from_str(alloc, text)?)?,
         })
     }
 

@@ -4,12 +4,12 @@ ghost use Rattle.std.specs.Prelude.{◌≡◌, IfOk};
 
 use std::alloc::{AllocError, Global};
 use std::marker::Model;
-use std::rc::Rc;
+use std::sync::Arc;
 
 /// A value that is shared with its copies. Contracts see the value.
 #[derive(Drop)]
 pub struct Shared<T> {
-    value: Rc<T>,
+    value: Arc<T>,
 }
 
 impl<T> Model for Shared<T> {
@@ -26,7 +26,7 @@ impl<T: Drop> Shared<T> {
         ensures { IfOk result (λ s. s ≡ value) }
     {
         Ok(Shared {
-            value: Rc::new(alloc, value)?,
+            value: Arc::new(alloc, value)?,
         })
     }
 

@@ -144,9 +144,10 @@ fn walked(
 }
 
 /// Whether the candidate is drawn up before any other look at it: the first one, where that mostly leads to a filling, and the last one, which mostly takes what
-/// no other takes.
+/// no other takes. In an empty context nothing is left out by a reference, so the first one is looked at there.
 fn is_drawn_first(accepted: &Accepted, context: &Context, number: u64) -> bool {
-    is_last(accepted, number) || number == 0 && is_hopeful(accepted, context, number)
+    is_last(accepted, number)
+        || number == 0 && context.len() > 0 && is_hopeful(accepted, context, number)
 }
 
 /// Whether no candidate of the top has a number above this one.

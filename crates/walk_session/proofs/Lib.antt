@@ -4,3 +4,4 @@ mod Bounds
 mod Steps
 mod ReadingBack
 mod ReadingHeld
+pub mod Crossing

@@ -1,6 +1,8 @@
 //! Laws of sessions.
 
+ghost use denote.Param.Send.{IsSend};
 ghost use Rattle.walk_session.specs.Laws.{BeginsHeld, LostHeld, ReadBack, ReadBackHeld};
+ghost use Rattle.walk_session.specs.contracts.session.Session.{the_row as session_row};
 
 /// What one session packs, followed by any bits, another in the same context unpacks as the same item, and just its bits are taken.
 pub fn read_back()
@@ -21,4 +23,9 @@ pub fn read_back_held()
 /// Where that packet is lost, and one more in a row may be, the context that was held stays so. So losses do no harm, as long as never more are lost in a row.
 pub fn lost_held()
     ensures { LostHeld }
+{}
+
+/// A session may go to another thread.
+pub fn may_cross()
+    ensures { IsSend session_row }
 {}

@@ -1,0 +1,18 @@
+-- A session may cross threads.
+use denote.Param.Send.{IsSend, view_send}
+use denote.Param.SendFields.{as_row_send, declared_send}
+use Rattle.std.proofs.Crossing.{Vec-send}
+use Rattle.std.specs.contracts.vec.Vec as Vec
+use Rattle.std.specs.contracts.alloc.Global as Global
+use Rattle.std.specs.contracts.impls.GlobalAllocator.TheImpl.{ghosts}
+use Rattle.cert_accepted.proofs.Crossing.{Accepted-send}
+use Rattle.walk_session.proofs.ends.Ends.TheSendSync as ends_sent
+use Rattle.walk_session.specs.contracts.ends.Ends as ends
+use Rattle.walk_session.specs.contracts.session.Session as session
+use Rattle.walk_session.specs.contracts.session.Session.TheInside as inside
+
+pub Session-send : IsSend session.the_row
+Session-send = view_send inside.the_row _ _ _ _ (declared_send inside.the_type (
+  Accepted-send,
+  (as_row_send (Vec.the_field ends.the_row Global.the_row ghosts) (Vec-send ends.the_row ends_sent.the_send), tt),
+))
