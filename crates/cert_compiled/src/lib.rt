@@ -6,6 +6,7 @@ pub use pages::PageOperation;
 pub use plans::CompiledPlans;
 
 mod compiler;
+mod header;
 pub mod operations;
 mod pages;
 pub mod plans;

@@ -1,5 +1,6 @@
 //! The operations of a plan, step by step.
 
+use crate::header::{HeaderPlace, header_places, plain};
 use crate::operations::{Beginning, Count, Operation, Operations, ShortBits};
 use cert_rules::choice_of;
 use cert_rules::equations::length_given;
@@ -17,7 +18,7 @@ struct Known {
     is_given: bool,
 }
 
-/// The operations so far, what each field begins with, and what is known of both its sides; how many places of the source are passed, how many bits of these the next
+/// The operations so far, what each field begins with, and what is known of both its sides; in writing, where each stands in the header; how many places of the source are passed, how many bits of these the next
 /// operation is to pass, and how many they are in all, as far as numbers tell it. Of the fields from the first new one on, to before the past one, a length may be
 /// known that isn't noted.
 #[derive(Drop)]
@@ -27,6 +28,7 @@ pub(crate) struct OperationsSoFar<'a> {
     uncompressed: Vec<Known>,
     compressed: Vec<Known>,
     beginnings: Vec<Beginning>,
+    header: Vec<Option<HeaderPlace>>,
     passed: usize,
     passes: usize,
     place: Option<usize>,
@@ -47,6 +49,10 @@ impl<'a> OperationsSoFar<'a> {
             uncompressed: unknown(alloc, format.fields.len())?,
             compressed: unknown(alloc, format.fields.len())?,
             beginnings: blank(alloc, format.fields.len())?,
+            header: match direction {
+                Direction::Read => Vec::new(alloc),
+                Direction::Write => header_places(alloc, format)?,
+            },
             passed: 0,
             passes: 0,
             place: Some(0),
@@ -267,7 +273,7 @@ impl<'a> OperationsSoFar<'a> {
 
     /// Whether the field begins with its bits of the source: it is told by numbers where these stand, and nothing else was told of the field.
     fn begins_taken(&mut self, field: usize, count: Count) -> bool {
-        let Some(place) = self.place else {
+        let Some(place) = self.source_place(field) else {
             return false;
         };
         if !self.is_blank(field) {
@@ -291,6 +297,50 @@ impl<'a> OperationsSoFar<'a> {
             _ => return false,
         }
         self.goes_past(field, side, count);
+        true
+    }
+
+    /// Where the bits of the field stand in the source, if that is told.
+    fn source_place(&self, field: usize) -> Option<usize> {
+        match self.header_place(field) {
+            Some(header) => Some(header.place),
+            None => self.place,
+        }
+    }
+
+    fn header_place(&self, field: usize) -> Option<HeaderPlace> {
+        *at(self.header.as_slice(), field)?
+    }
+
+    /// Whether in writing the field begins with its bits of the header, though its method gives them, too: so nothing is looked up or reckoned for them.
+    fn begins_in_header(&mut self, field: usize) -> bool {
+        let Some(HeaderPlace { place, count }) = self.header_place(field) else {
+            return false;
+        };
+        let Some(Library::Static | Library::UncompressedValue { .. }) = self.library(field) else {
+            return false;
+        };
+        if !self.is_blank(field) {
+            return false;
+        }
+        let side = Side::Uncompressed;
+        self.know(
+            field,
+            side,
+            Known {
+                count: Some(count),
+                is_given: true,
+            },
+        );
+        self.begin(
+            field,
+            Beginning::Taken {
+                place,
+                count,
+                side,
+                copies: false,
+            },
+        );
         true
     }
 
@@ -469,7 +519,7 @@ impl<'a> OperationsSoFar<'a> {
         if self.known(field, Side::Uncompressed).is_given {
             return Ok(());
         }
-        let is_begun = self.is_constant(field, Side::Uncompressed);
+        let is_begun = self.is_constant(field, Side::Uncompressed) || self.begins_in_header(field);
         self.has_given(field, Side::Uncompressed);
         if is_begun {
             return Ok(());
@@ -633,18 +683,6 @@ fn length_by(side: Side, library: &Library) -> Option<Count> {
             Some(size) => plain(size),
             None => Some(Count::Number(0)),
         },
-    }
-}
-
-/// The count that an expression is, where it is a number or a parameter.
-fn plain(expr: &Expr) -> Option<Count> {
-    match expr {
-        Expr::Number(_, number) => match usize::try_from(*number) {
-            Ok(count) => Some(Count::Number(count)),
-            Err(_) => None,
-        },
-        Expr::Parameter(_, index) => Some(Count::Parameter(*index)),
-        Expr::Attribute(_, _) | Expr::Binary(_, _, _, _) => None,
     }
 }
 

@@ -51,15 +51,33 @@ pub fn sides_if_fits(
     let Some(header) = header_of(alloc, filling)? else {
         return Ok(None);
     };
+    let Some(packed) = packed_if_fits(alloc, frame, filling, &header)? else {
+        return Ok(None);
+    };
+    Ok(Some(WholeSides { header, packed }))
+}
+
+/// The packed bits of the filling, whose header is this one, where it fits likewise.
+#[inline(always)]
+pub fn packed_if_fits(
+    alloc: Global,
+    frame: &Frame<'_>,
+    filling: &Filling,
+    header_bits: &Bits,
+) -> Result<Option<Bits>, AllocError>
+    requires within { frame.now.method < length frame.now.profile.now.methods }
+    requires arguments { ArgumentsLieAt frame.now.profile.now frame.now.method frame.now.arguments.now }
+    requires header { header_bits.now ≡ header filling.now }
+    ensures fits { IfOk result (λ o. IfSome o (λ _. Fits frame.now.profile.now.methods (bits_at frame.now.context.now) frame.now.method frame.now.arguments.now frame.now.path.now filling.now)) }
+    ensures packed { IfOk result (λ o. IfSome o (λ bits. bits ≡ packed filling.now)) }
+    ensures none { IfOk result (λ o. IfNone o (Fits frame.now.profile.now.methods (bits_at frame.now.context.now) frame.now.method frame.now.arguments.now frame.now.path.now filling.now → ⊥)) }
+{
+    frame.profile.keeps();
     let Some(packed) = packed_of(alloc, filling)? else {
         return Ok(None);
     };
-    let is_right = whole_holds(alloc, frame, filling, &header, &packed)?;
-    if is_right {
-        Ok(Some(WholeSides { header, packed }))
-    } else {
-        Ok(None)
-    }
+    let is_right = whole_holds(alloc, frame, filling, header_bits, &packed)?;
+    if is_right { Ok(Some(packed)) } else { Ok(None) }
 }
 
 /// Whether the filling fits, where its header and its packed bits are these.

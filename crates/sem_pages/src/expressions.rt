@@ -7,13 +7,25 @@ ghost use Rattle.sem_filling.specs.Fits.{vals};
 ghost use Rattle.sem_pages.specs.Pages.{numbers_seen};
 
 use crate::view::View;
-use sem_expr::short::{calculated, plain, short};
+use sem_expr::short::{calculated, short};
 use sem_expr::{Comparison, Cond, Expr};
 use smallvec::SmallVec;
 use std::alloc::AllocError;
 
 /// The value of an expression, where it is found.
+#[inline(always)]
 pub fn value(expr: &Expr, view: &View<'_>) -> Option<i64>
+    ensures { IfSome result (λ v. val (numbers_seen view.now) expr.now ≡ Some v) }
+{
+    // Most are numbers, for which nothing has to be called.
+    match expr {
+        Expr::Number(_, number) => short(*number),
+        _ => value_of(expr, view),
+    }
+}
+
+#[inline(never)]
+fn value_of(expr: &Expr, view: &View<'_>) -> Option<i64>
     ensures { IfSome result (λ v. val (numbers_seen view.now) expr.now ≡ Some v) }
 {
     match expr {
@@ -21,16 +33,28 @@ pub fn value(expr: &Expr, view: &View<'_>) -> Option<i64>
         Expr::Parameter(_, index) => view.parameter(*index),
         Expr::Attribute(_, attribute) => view.attribute(*attribute),
         Expr::Binary(_, operator, left, right) => {
-            let left = match plain(left) {
+            let left = match told(left, view) {
                 Some(number) => number,
-                None => value(left, view)?,
+                None => value_of(left, view)?,
             };
-            let right = match plain(right) {
+            let right = match told(right, view) {
                 Some(number) => number,
-                None => value(right, view)?,
+                None => value_of(right, view)?,
             };
             calculated(*operator, left, right)
         }
+    }
+}
+
+/// The value of a number or of an attribute that is known: so it takes no call.
+#[inline(always)]
+fn told(expr: &Expr, view: &View<'_>) -> Option<i64>
+    ensures { IfSome result (λ v. val (numbers_seen view.now) expr.now ≡ Some v) }
+{
+    match expr {
+        Expr::Number(_, number) => short(*number),
+        Expr::Attribute(_, attribute) => view.attribute(*attribute),
+        _ => None,
     }
 }
 

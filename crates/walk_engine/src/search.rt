@@ -7,12 +7,13 @@ ghost use Rattle.sem_filling.specs.Fillings as sides;
 ghost use Rattle.cert_candidates.specs.Codes as codes;
 ghost use Rattle.walk_engine.specs.Searching as spec;
 
-use crate::top::{fits, top_place};
+use crate::top::{fits_with, top_place};
 use cert_accepted::Accepted;
 use cert_candidates::{Candidates, number_of};
 use sem_bits::{Bits, Cursor};
 use sem_context::Context;
-use sem_filling::{AskedValue, FilledField, Filling, Item, WholeSides};
+use sem_filling::whole_sides::is_header;
+use sem_filling::{AskedValue, FilledField, Filling, Item};
 use sem_profile::DEPTH_LIMIT;
 use std::alloc::{AllocError, Global};
 use walk_guess::{guess_item, is_hopeful};
@@ -144,7 +145,7 @@ fn walked(
 }
 
 /// Whether the candidate is drawn up before any other look at it: the first one, where that mostly leads to a filling, and the last one, which mostly takes what
-/// no other takes. In an empty context nothing is left out by a reference, so the first one is looked at there.
+/// no other takes. In an empty context there are no references but those of INITIAL, so the first one, which leaves out most, is looked at there.
 fn is_drawn_first(accepted: &Accepted, context: &Context, number: u64) -> bool {
     is_last(accepted, number)
         || number == 0 && context.len() > 0 && is_hopeful(accepted, context, number)
@@ -247,44 +248,21 @@ fn packed_of(
     ensures found { IfOk result (λ o. IfSome o (spec.HasPacked accepted.now context.now item.now filling.now)) }
     ensures none { IfOk result (λ o. IfNone o (spec.IsWrong accepted.now context.now item.now filling.now)) }
 {
-    let judged = fits(alloc, accepted, context, filling)?;
-    let Some(whole) = judged else {
+    if !has_item(item, filling) {
+        return Ok(None);
+    }
+    let judged = fits_with(alloc, accepted, context, filling, &item.header)?;
+    let Some(packed) = judged else {
         return Ok(None);
     };
-    let has_it = has_item(item, filling, &whole.header);
-    if has_it {
-        let WholeSides {
-            header: _header,
-            packed,
-        } = whole;
-        Ok(Some(packed))
-    } else {
-        Ok(None)
-    }
+    Ok(Some(packed))
 }
 
-/// Whether the filling, which has this header, has the item.
-pub fn has_item(item: &Item, filling: &Filling, header: &Bits) -> bool
-    requires { header.now ≡ sides.header filling.now }
+/// Whether the filling has the item. It takes no memory.
+pub fn has_item(item: &Item, filling: &Filling) -> bool
     ensures { IsTrue result ↔ (sides.item filling.now ≡ item.now) }
 {
-    has_header(item, filling, header)
-        && has_values(filling.fields.as_slice(), item.asked.as_slice())
-}
-
-/// Whether the item has the header of the filling, which is this.
-fn has_header(item: &Item, filling: &Filling, header: &Bits) -> bool
-    requires { header.now ≡ sides.header filling.now }
-    ensures { IsTrue result ↔ (item.now.header ≡ sides.header filling.now) }
-{
-    let _ = filling;
-    are_same_bits(&item.header, header)
-}
-
-fn are_same_bits(bits: &Bits, others: &Bits) -> bool
-    ensures { IsTrue result ↔ (bits.now ≡ others.now) }
-{
-    *bits == *others
+    is_header(&item.header, filling) && has_values(filling.fields.as_slice(), item.asked.as_slice())
 }
 
 /// Whether the asked fields have these values, in field order.

@@ -12,7 +12,7 @@ use cert_accepted::{Accepted, AcceptedFrame};
 use sem_bits::Bits;
 use sem_context::Context;
 use sem_filling::{Filling, Frame, Item, WholeSides};
-use sem_holds::sides_if_fits;
+use sem_holds::{packed_if_fits, sides_if_fits};
 use sem_profile::{MethodSizes, Profile, is_listed};
 use std::alloc::{AllocError, Global};
 
@@ -107,6 +107,25 @@ pub(crate) fn fits(
     let profile = accepted.profile();
     profile.keeps();
     sides_if_fits(alloc, &top_frame(profile, context), filling)
+}
+
+/// The packed bits of the filling, whose header is this one, where it fits the top.
+#[inline(always)]
+pub(crate) fn fits_with(
+    alloc: Global,
+    accepted: &Accepted,
+    context: &Context,
+    filling: &Filling,
+    header: &Bits,
+) -> Result<Option<Bits>, AllocError>
+    requires { header.now ≡ sides.header filling.now }
+    ensures fits { IfOk result (λ o. IfSome o (λ _. Fitting accepted.now context.now filling.now)) }
+    ensures packed { IfOk result (λ o. IfSome o (λ bits. bits ≡ sides.packed filling.now)) }
+    ensures none { IfOk result (λ o. IfNone o (Fitting accepted.now context.now filling.now → ⊥)) }
+{
+    let profile = accepted.profile();
+    profile.keeps();
+    packed_if_fits(alloc, &top_frame(profile, context), filling, header)
 }
 
 /// A law of fitting fillings: their packed bits are few.

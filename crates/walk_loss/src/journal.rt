@@ -12,7 +12,6 @@ use crate::unserved::{Unserved, all_serve, unserved_among};
 use crate::uses::{Using, uses_of};
 use cert_accepted::Accepted;
 use sem_context::Context;
-use sem_filling::whole_sides::header_of;
 use sem_filling::{Filling, Item};
 use sqlite_items::Items;
 use std::alloc::{AllocError, Global};
@@ -85,7 +84,7 @@ pub fn judge(
     ensures { OnOk result (spec.AddsAll accepted.now held.now number item.now sent.now journal.old journal.new) }
 {
     let uses = uses_of(alloc, accepted, &sent.filling)?;
-    let own = has_own_item(alloc, item, &sent.filling)?;
+    let own = has_item(item, &sent.filling);
     let sending = Sending {
         number,
         item,
@@ -98,16 +97,6 @@ pub fn judge(
         judge_in(alloc, accepted, context, lost, &sending, journal)?;
     }
     Ok(())
-}
-
-/// Whether the item is that of the filling.
-fn has_own_item(alloc: Global, item: &Item, filling: &Filling) -> Result<bool, AllocError>
-    ensures { IfOk result (λ own. IsTrue own → sides.item filling.now ≡ item.now) }
-{
-    let Some(header) = header_of(alloc, filling)? else {
-        return Ok(false);
-    };
-    Ok(has_item(item, filling, &header))
 }
 
 /// Adds what a receiver in the context reads.

@@ -1,7 +1,6 @@
 //! What a receiver reads of the packed bits of an item.
 
 ghost use Rattle.std.specs.Prelude.{◌≡◌, IfOk};
-ghost use Rattle.sem_filling.specs.Fillings as sides;
 ghost use Rattle.walk_loss.specs.Reception as spec;
 
 use cert_accepted::Accepted;
@@ -58,12 +57,8 @@ pub fn hear(
     let mut cursor = Cursor::new(packed);
     match unpack(alloc, accepted, context, &mut cursor) {
         Ok(read) => {
-            let Unpacked {
-                header,
-                filling,
-                bits: _,
-            } = read;
-            Ok(judged(item, filling, &header))
+            let Unpacked { filling, .. } = read;
+            Ok(judged(item, filling))
         }
         Err(UnpackFault::Truncated) => Ok(Heard::Refused(UnpackFault::Truncated)),
         Err(UnpackFault::Refused(at)) => Ok(Heard::Refused(UnpackFault::Refused(at))),
@@ -71,12 +66,11 @@ pub fn hear(
     }
 }
 
-/// Whether the filling that was read, with this header, has the item.
-fn judged(item: &Item, filling: Filling, header: &Bits) -> Heard
-    requires { header.now ≡ sides.header filling }
+/// Whether the filling that was read has the item.
+fn judged(item: &Item, filling: Filling) -> Heard
     ensures { spec.IsJudged item.now filling result }
 {
-    if has_item(item, &filling, header) {
+    if has_item(item, &filling) {
         Heard::Right
     } else {
         Heard::Wrong(filling)

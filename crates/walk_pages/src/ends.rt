@@ -74,7 +74,12 @@ fn constraints_hold(constraints: &[Shared<Constraint>], view: &View<'_>, solved:
 fn is_settled(constraint: &Constraint, index: usize, view: &View<'_>, solved: &[usize]) -> bool
     ensures { IsTrue result → ((n : ℕ) → slice_get solved.now n ≡ Some index → pages.HoldsOn view.now constraint.now) → pages.HoldsOn view.now constraint.now }
 {
-    is_solved(solved, index) || constraint_holds(constraint, view)
+    // No bracket is solved.
+    match constraint {
+        Constraint::Bracket { .. } => constraint_holds(constraint, view),
+        Constraint::Enforce { .. } => is_solved(solved, index)
+            || constraint_holds(constraint, view),
+    }
 }
 
 fn is_solved(solved: &[usize], number: usize) -> bool

@@ -23,7 +23,7 @@ use cert_candidates::{Digits, Start};
 use cert_rules::choice_of;
 use cert_types::Step;
 use sem_filling::{AskedValue, FieldPath, Frame};
-use sem_profile::{Encoding, Field, Format, Sizes};
+use sem_profile::{Encoding, Field, Format, Library, Sizes};
 use smallvec::SmallVec;
 use sqlite_items::at;
 use std::alloc::{AllocError, Global};
@@ -471,7 +471,7 @@ fn is_refuted_inside(
     if has_false(found.constraints.as_slice(), called.arguments) {
         return Ok(true);
     }
-    if !is_header(called.field) {
+    if !is_header(called.field) || !may_tell(found) {
         return Ok(false);
     }
     let source = outlook.source;
@@ -502,6 +502,21 @@ fn is_refuted_inside(
         source.cursor,
         source.from + offset,
     )
+}
+
+/// Whether a look at a format may tell anything. Of most formats that are called nothing is told, for which nothing has to be found.
+fn may_tell(format: &Format) -> bool {
+    format.fields.as_slice().iter().any(may_tell_by)
+}
+
+/// The same by one of its fields.
+fn may_tell_by(field: &Field) -> bool {
+    match field.encoding.get() {
+        Encoding::Library(Library::Static) => true,
+        Encoding::Library(Library::UncompressedValue { .. } | Library::Lsb { .. })
+        | Encoding::Call { .. } => is_header(field),
+        Encoding::Library(_) | Encoding::Bare => false,
+    }
 }
 
 /// How many bits the header fields before this one have, where each has one length by its bounds, and they are no more than so many.

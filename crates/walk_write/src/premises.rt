@@ -47,8 +47,9 @@ impl<'a> Premises<'a> {
             Expr::Parameter(_, index) => self.arguments.get(*index).copied(),
             Expr::Attribute(_, attribute) => self.attribute(*attribute),
             Expr::Binary(_, operator, left, right) => {
-                let left = self.value_of(left)?;
+                // Of a long sum the last term is on the right: where that isn't told, nothing else has to be found.
                 let right = self.value_of(right)?;
+                let left = self.value_of(left)?;
                 reckoned(*operator, left, right)
             }
         }
