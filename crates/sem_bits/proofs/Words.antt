@@ -232,6 +232,9 @@ front_held os w n fit l h e =
 pub first_octets : (w n r : ℕ) → n ≤ 64 → r ≡ w * 2 ^ (64 - n) → Holds (take ((n + 7) / 8) (bytes_high_first 8 r)) (enc n w)
 first_octets w n r h e = front_held (bytes_high_first 8 r) w n (bytes_fit 8 r) (bytes_count 8 r) h (bytes_bits 8 r ∙ ap (enc 64) e)
 
+pub eight_spelled : (os : List ℕ) (r : ℕ) → r < 2 ^ 64 → bytes_high_first 8 r ≡ os → r ≡ num (bits_of os)
+eight_spelled os r small is = sym (ap num (ap bits_of (sym is) ∙ bytes_bits 8 r) ∙ num-enc 64 r small)
+
 pub ruleset forms = (form_length, form_limit, word_few, word_value, word_bit, word_part, past_all, enc_nil)
 
 pub ruleset octet = (end_octet, inner_octet)

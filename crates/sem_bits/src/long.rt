@@ -8,7 +8,7 @@ ghost use Rattle.sem_bits.specs.Octets.{bits_of, Holds};
 ghost use Rattle.sem_bits.specs.Number.{num, enc};
 
 use crate::bits::LIMIT;
-use crate::word::{low_bits, word_of};
+use crate::word::{low_bits, part, word_of};
 use smallvec::SmallVec;
 use std::alloc::{AllocError, Global};
 use std::marker::Model;
@@ -354,8 +354,25 @@ fn narrow_number(octets: &[u8], place: usize, count: usize) -> u64
 }
 
 /// The number of so many bits from a place on.
-#[tactic(auto, using(crate::proofs::NumberWindows::numbering))]
+#[inline(always)]
 fn number(octets: &[u8], place: usize, count: usize) -> u64
+    requires most { count ≤ 64 }
+    requires within { place + count ≤ 8 * length octets.now }
+    requires small { place + count < 2 ^ 32 }
+    ensures { result ≡ num (take count (drop place (bits_of octets.now))) }
+{
+    if place % 8 + count <= 64 {
+        if let Some(word) = eight_at(octets, place / 8) {
+            return part(word, count, 64 - place % 8 - count);
+        }
+    }
+    number_by_octets(octets, place, count)
+}
+
+/// The same, octet by octet.
+#[inline(never)]
+#[tactic(auto, using(crate::proofs::NumberWindows::numbering))]
+fn number_by_octets(octets: &[u8], place: usize, count: usize) -> u64
     requires most { count ≤ 64 }
     requires within { place + count ≤ 8 * length octets.now }
     requires small { place + count < 2 ^ 32 }
@@ -369,6 +386,27 @@ fn number(octets: &[u8], place: usize, count: usize) -> u64
     }
     let word = word_of(&octets[first..end]);
     low_bits(word >> (8 * end - place - count), count)
+}
+
+/// The number that eight octets from a place on spell, first octet highest, where they are there.
+#[inline(always)]
+fn eight_at(octets: &[u8], first: usize) -> Option<u64>
+    requires { first < 2 ^ 32 }
+    ensures { IfSome result (λ w. (first + 8 ≤ length octets.now) × (w < 2 ^ 64) × (w ≡ num (bits_of (slice_range octets.now first (first + 8))))) }
+{
+    if first > octets.len() {
+        return None;
+    }
+    let eight = octets[first..].first_chunk::<8>()?;
+    Some(spelled_by(eight))
+}
+
+/// The number that eight octets spell, first octet highest.
+#[inline(always)]
+fn spelled_by(octets: &[u8; 8]) -> u64
+    ensures { result ≡ num (bits_of octets.now) }
+{
+    u64::from_be_bytes(*octets)
 }
 
 /// The number that up to nine octets spell, first octet highest.

@@ -5,3 +5,4 @@ pub mod EntriesReadings
 mod EntriesInOrder
 mod PlacingPaths
 mod PlacingMissing
+mod Ends

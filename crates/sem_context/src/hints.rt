@@ -2,8 +2,9 @@
 
 use std::alloc::{AllocError, Global};
 
-/// How many sums there are for each entry, at least.
-const SUMS: usize = 4;
+/// How many sums there are for each entry, at least. With four of them four of the 27 paths of the UDP profile met others at their sums, and were looked for in
+/// the ordered map.
+const SUMS: usize = 16;
 
 /// An odd number whose bits are well mixed: 2^64 over the golden ratio.
 const MIXING: u64 = 0x9e37_79b9_7f4a_7c15;
@@ -12,7 +13,7 @@ const MIXING: u64 = 0x9e37_79b9_7f4a_7c15;
 #[derive(Drop)]
 pub(crate) struct Hints {
     alloc: Global,
-    places: Vec<usize>,
+    places: Vec<u32>,
 }
 
 impl Hints {
@@ -39,13 +40,16 @@ impl Hints {
     /// The place that was noted last for the path's sum, or 0.
     pub(crate) fn get(&self, path: &str) -> usize {
         match self.places.get(self.sum_of(path)) {
-            Some(place) => *place,
+            Some(place) => *place as usize,
             None => 0,
         }
     }
 
     /// Notes the place of a path.
     pub(crate) fn note(&mut self, path: &str, place: usize) {
+        let Ok(place) = u32::try_from(place) else {
+            return;
+        };
         let sum = self.sum_of(path);
         if sum < self.places.len() {
             self.places[sum] = place;
@@ -77,8 +81,11 @@ fn with_word(sum: u64, word: u64) -> u64 {
     (sum.rotate_left(23) ^ word).wrapping_mul(MIXING)
 }
 
-/// Fewer than eight octets as one word.
+/// Fewer than eight octets as one word: of more than three of them the first four and the last four.
 fn few(octets: &[u8]) -> u64 {
+    if let (Some(first), Some(last)) = (octets.first_chunk::<4>(), octets.last_chunk::<4>()) {
+        return (u32::from_le_bytes(*first) as u64) << 32 | u32::from_le_bytes(*last) as u64;
+    }
     let mut word = 0;
     for octet in octets {
         word = word << 8 | *octet as u64;
