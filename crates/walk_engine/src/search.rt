@@ -17,7 +17,7 @@ use sem_filling::{AskedValue, FilledField, Filling, Item};
 use sem_profile::DEPTH_LIMIT;
 use std::alloc::{AllocError, Global};
 use walk_guess::{guess_item, is_hopeful};
-use walk_write::{HeaderSource, WriteFault, refuted, write_method};
+use walk_write::{HeaderSource, WriteFault, refuted, refuted_closely, write_method};
 
 /// A filling with its packed bits.
 #[derive(Drop)]
@@ -137,6 +137,9 @@ fn walked(
         from: 0,
         asked: item.asked.as_slice(),
     };
+    if let Some(many) = refuted_closely(DEPTH_LIMIT, alloc, &place, &source, number)? {
+        return Ok(Tried::Passed(many));
+    }
     match write_method(DEPTH_LIMIT, alloc, &place, &source, number) {
         Ok(filling) => judged(alloc, accepted, context, item, filling),
         Err(WriteFault::Failed(skipped)) => Ok(Tried::Passed(skipped)),

@@ -196,11 +196,11 @@ sees place c start b plans plans_are format format_is asked =
 -- ---- the filling inside
 
 -- the filling inside a field that calls a method, under these values
-record Inside (ctx : Context) (methods : List Method) (path : List ℕ) (i : ℕ) (d : Field) (j : ℕ) (args : List ℤ) (f : Filling) : Type 0 where
-  inner : Filling
-  inner_is : inner_at f i ≡ Some inner
-  fits : Fits methods ctx j args (below path d.declared.name) inner
-  header_is : side_at (view f) i Uncompressed ≡ header inner
+pub record Inside (ctx : Context) (methods : List Method) (path : List ℕ) (i : ℕ) (d : Field) (j : ℕ) (args : List ℤ) (f : Filling) : Type 0 where
+  pub inner : Filling
+  pub inner_is : inner_at f i ≡ Some inner
+  pub fits : Fits methods ctx j args (below path d.declared.name) inner
+  pub header_is : side_at (view f) i Uncompressed ≡ header inner
 
 module _ (methods : List Method) (ctx : Context) (k : ℕ) (args : List ℤ) (path : List ℕ) (format : Format) (choices : List Chosen) (f : Filling) (p : FitsParts methods ctx k args path f) (one : p.format ≡ format) (chosen : HasChosen f choices) where
   inside : (i : ℕ) (d : Field) (j : ℕ) (es : List Expr) → slice_get format.fields i ≡ Some d → d.encoding ≡ encoding.Call j es → (vs : List ℤ) → vals (told_numbers format args choices) es ≡ Some vs → Inside ctx methods path i d j vs f
@@ -230,7 +230,7 @@ module _ (place : AcceptedFrame) (n : ℕ) (format : Format) (i : ℕ) (d : Fiel
       none_false their (bits_at place.frame.context.now) j args (below place.frame.path.now d.declared.name) x.inner q inner one h
 
   -- where the field begins, its header is in front
-  in_front : (sizes : FormatSizes) (offset : ℕ) → is_header d.declared.part ≡ true → sizes_at place.accepted.now.profile.sizes place.frame.method n ≡ Some sizes → HaveBefore format.fields sizes.fields i offset →
+  pub in_front : (sizes : FormatSizes) (offset : ℕ) → is_header d.declared.part ≡ true → sizes_at place.accepted.now.profile.sizes place.frame.method n ≡ Some sizes → HaveBefore format.fields sizes.fields i offset →
       (rest : List Bool) × (drop offset bits ≡ header x.inner ++ rest)
   in_front sizes offset at_front sizes_are before =
       let p = parts b.fits in
@@ -306,6 +306,14 @@ module _ (place : AcceptedFrame) (n : ℕ) (format : Format) (i : ℕ) (d : Fiel
 
 -- ---- a call
 
+-- no filling of the called method with one of so many numbers from c on, all of them numbers of candidates, is inside the field
+pub record AreKeptOut (place : AcceptedFrame) (n : ℕ) (format : Format) (i : ℕ) (d : Field) (j : ℕ) (args : List ℤ) (c many : ℕ) (bits : List Bool) (asked : List AskedValue) : Type 0 where
+  pub some : 0 < many
+  pub within : (m : ℕ) → slice_get place.accepted.now.counts j ≡ Some m → c + many ≤ m
+  pub none : (f : Filling) → StandsIn place.accepted.now.profile.methods (bits_at place.frame.context.now) (site_of place bits asked) f → (out-Filling f).format ≡ n →
+      (x : Inside (bits_at place.frame.context.now) place.accepted.now.profile.methods place.frame.path.now i d j args f) → c ≤ number place.accepted.now.profile.methods place.accepted.now.certificate.methods place.accepted.now.counts x.inner j →
+      number place.accepted.now.profile.methods place.accepted.now.certificate.methods place.accepted.now.counts x.inner j < c + many → ⊥
+
 -- where so many digits fit in 64 bits fewer do
 pub fewer_fit : (radix digit many span : ℕ) → digit + many ≤ radix → radix * span < 2 ^ 64 → many * span < 2 ^ 64
 fewer_fit radix digit many span within fits =
@@ -332,6 +340,17 @@ module _ (place : AcceptedFrame) (n : ℕ) (format : Format) (asked : List Asked
   called_is : called_at format i ≡ Some j
   called_is = ap (option_and_then (λ (z : Field). callee z.encoding)) field_is ∙ ap callee encoding_is
 
+  -- none of a format that is refuted inside
+  pub refuted_out : (vs : List ℤ) (digit many : ℕ) (bits : List Bool) → AreRefutedInside place n format i d j vs digit many bits → AreKeptOut place n format i d j vs digit many bits asked
+  refuted_out vs digit many bits are = record {
+    some = are.some;
+    within = are.within;
+    none = λ f begins f_format x from to.
+        let base = w.seen.checked in
+        let tried = is_candidate all place.accepted.now.profile.sizes place.accepted.now.profile.top base.version kept base.are_sizes base.valid told (bits_at place.frame.context.now) x.fits in
+        not_inside place n format i d j vs (out-Filling x.inner).format bits w.seen.sound w.seen.format_is field_is asked f begins f_format x refl (are.refuted x.inner tried from to);
+  }
+
   module _ (radix : ℕ) (radix_is : slice_get told j ≡ Some radix) where
     ways_are : radix ≡ ways told format (Call i)
     ways_are = sym (ways_of_call told format i j radix called_is radix_is)
@@ -340,7 +359,7 @@ module _ (place : AcceptedFrame) (n : ℕ) (format : Format) (asked : List Asked
     call_parts = reading_parts all kept told place.frame.method n format (Call i) w.later c old w.seen.reading radix ways_are
 
     module _ (next : Digits) (digit : ℕ) (split : IsNext radix old digit next) (carries : CarriesOn radix old digit next) (vs : List ℤ) (many : ℕ) (bits : List Bool)
-        (are : AreRefutedInside place n format i d j vs digit many bits) where
+        (are : AreKeptOut place n format i d j vs digit many bits asked) where
       room_inside : digit + many ≤ radix
       room_inside = are.within radix radix_is
 
@@ -372,9 +391,7 @@ module _ (place : AcceptedFrame) (n : ℕ) (format : Format) (asked : List Asked
               let one : p.format ≡ format = one_value (format_at all place.frame.method n) p.format format (ap (format_at all place.frame.method) (sym f_format) ∙ p.is_format) w.seen.format_is in
               let x = inside all (bits_at place.frame.context.now) place.frame.method place.frame.arguments.now place.frame.path.now format choices f p one (w.seen.told f (record { fits = begins.fits; of_format = f_format; asked_are = begins.asked_are }) tried s.0.within) i d j es field_is encoding_is vs values in
               let numbered = digits.call all kept told format f i j x.inner called_is x.inner_is in
-              let tried_inside = is_candidate all place.accepted.now.profile.sizes place.accepted.now.profile.top base.version kept base.are_sizes base.valid told (bits_at place.frame.context.now) x.fits in
-              let refuted = are.refuted x.inner tried_inside (subst (λ z. digit ≤ z) numbered s.1) (subst (λ z. z < digit + many) numbered s.2) in
-              not_inside place n format i d j vs (out-Filling x.inner).format bits w.seen.sound w.seen.format_is field_is asked f begins f_format x refl refuted
+              are.none f begins f_format x (subst (λ z. digit ≤ z) numbered s.1) (subst (λ z. z < digit + many) numbered s.2)
 
 -- ---- a choice
 

@@ -17,3 +17,4 @@ pub mod RefutationHeaders
 pub mod RefutationLacked
 pub mod RefutationFronts
 pub mod ForesightLemmas
+pub mod CloserLemmas

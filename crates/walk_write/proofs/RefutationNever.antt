@@ -51,7 +51,7 @@ use Rattle.walk_write.proofs.PremisesLemmas as told
 -- ---- together
 
 -- what a fitting field holds is not in front of bits of which it holds none
-none_held : (p : Resolved) → AreSizes p.methods p.sizes → (ctx : Context) (side : Subject → Side → List Bool) (known a : Assignment) → ((e : Expr) (v : ℤ) → val known e ≡ Some v → val a e ≡ Some v) → (path : Path) (d : Field) (g : FilledField) →
+pub none_held : (p : Resolved) → AreSizes p.methods p.sizes → (ctx : Context) (side : Subject → Side → List Bool) (known a : Assignment) → ((e : Expr) (v : ℤ) → val known e ≡ Some v → val a e ≡ Some v) → (path : Path) (d : Field) (g : FilledField) →
     FieldFits p.methods ctx side a path d d.encoding g → (bits rest : List Bool) → IsOther p known d.encoding (reference_of d.declared.part ctx (below path d.declared.name) d.initial) bits → bits ≡ (sides_of g).uncompressed ++ rest → ⊥
 none_held p sized ctx side known a more path d g h bits rest (by_constant lack) whole = none_lacks p sized ctx known d.encoding bits lack a more side path d g h rest whole
 none_held p sized ctx side known a more path d g h bits rest (by_static e none) whole =

@@ -5,3 +5,4 @@ pub mod Take
 pub mod Refutation
 pub mod Foresight
 pub mod Premises
+pub mod Closer

@@ -29,25 +29,25 @@ use sqlite_items::at;
 use std::alloc::{AllocError, Global};
 
 /// What is chosen and asked for before a step of a plan. Most are few: these take no memory of their own.
-type Choices = SmallVec<Chosen, 8>;
+pub(crate) type Choices = SmallVec<Chosen, 8>;
 
 /// A format whose plan is looked through: where it is filled, by its index and as it is, with the bounds of its fields, and what it takes from.
 #[derive(Clone, Copy)]
-struct Outlook<'a> {
-    place: &'a AcceptedFrame<'a>,
-    index: usize,
-    format: &'a Format,
-    sizes: &'a [Sizes],
-    source: &'a HeaderSource<'a>,
+pub(crate) struct Outlook<'a> {
+    pub(crate) place: &'a AcceptedFrame<'a>,
+    pub(crate) index: usize,
+    pub(crate) format: &'a Format,
+    pub(crate) sizes: &'a [Sizes],
+    pub(crate) source: &'a HeaderSource<'a>,
 }
 
 /// A field that calls a method: by its index and as it is, with the method and the values of the arguments.
 #[derive(Clone, Copy)]
-struct CalledField<'a> {
-    index: usize,
-    field: &'a Field,
-    method: usize,
-    arguments: &'a [i128],
+pub(crate) struct CalledField<'a> {
+    pub(crate) index: usize,
+    pub(crate) field: &'a Field,
+    pub(crate) method: usize,
+    pub(crate) arguments: &'a [i128],
 }
 
 /// Goes past the candidates from this one on of which the choices, the asked values or the calls of their plan tell that they fail. They don't tell it always.
@@ -255,7 +255,7 @@ fn goes_past(
 }
 
 /// Notes the number of an asked field's value, where that is told.
-fn note_asked(
+pub(crate) fn note_asked(
     outlook: &Outlook<'_>,
     field: usize,
     digits: Digits,
@@ -284,7 +284,7 @@ fn asked_digit(format: &Format, field: usize, asked: &[AskedValue]) -> Option<u6
 }
 
 /// Reads the digit of a choice.
-fn read_choice(
+pub(crate) fn read_choice(
     alloc: Global,
     outlook: &Outlook<'_>,
     field: usize,
@@ -304,7 +304,7 @@ fn read_choice(
 }
 
 /// Reads the digit of a call.
-fn read_call(
+pub(crate) fn read_call(
     outlook: &Outlook<'_>,
     field: usize,
     digits: &mut Digits,
@@ -520,7 +520,12 @@ fn may_tell_by(field: &Field) -> bool {
 }
 
 /// How many bits the header fields before this one have, where each has one length by its bounds, and they are no more than so many.
-fn offset_of(fields: &[Field], sizes: &[Sizes], field: usize, most: usize) -> Option<usize>
+pub(crate) fn offset_of(
+    fields: &[Field],
+    sizes: &[Sizes],
+    field: usize,
+    most: usize,
+) -> Option<usize>
     ensures { IfSome result (λ n. (n ≤ most) × HaveBefore fields.now sizes.now field n) }
 {
     let mut offset = 0;

@@ -1,12 +1,14 @@
 //! The walk that writes a filling of a method, by the number of a candidate.
 #![tactic(auto)]
 
+pub use closer::refuted_closely;
 pub use fault::WriteFault;
 pub use looks::refuted;
 pub use source::HeaderSource;
 pub use walk::write_method;
 
 mod calls;
+pub mod closer;
 mod end;
 pub mod fault;
 mod foresight;

@@ -366,7 +366,7 @@ fn is_telling(accepted: &Accepted, told: &Premises<'_>, encoding: &Encoding) -> 
 
 /// The same of a field that may tell something.
 #[inline(never)]
-fn is_other_at(
+pub(crate) fn is_other_at(
     alloc: Global,
     place: &AcceptedFrame<'_>,
     told: &Premises<'_>,
