@@ -44,3 +44,11 @@ is_current() {
   if ! [ -e "$note" ] || [[ $(head -n 1 "$note") != "$(sum_of_sources)" ]]; then return 1; fi
   touch "$note" 2>/dev/null || true
 }
+
+# How many checks at a time: one takes up to 3 GiB.
+side_by_side() {
+  local processors memory
+  processors=$(nproc)
+  memory=$(awk '/^MemAvailable/ { print int($2 / 3145728) }' /proc/meminfo)
+  echo $((memory < 1 ? 1 : memory < processors ? memory : processors))
+}
