@@ -8,8 +8,8 @@ from .instructions import of_run
 from .measure import PROGRAM, report, run
 
 NUMBERS = (0, 1, 3, 8, 15)
-# the most instructions of a udp header: with N = 0 over those of `pack`, else as they are (bench/README.md says why)
-RATIO, MOST = {0: 1.1}, {3: 125000, 15: 258000}
+# the most instructions of a udp header: with N = 0 and 15 over those of `pack`, else as they are (bench/README.md says why)
+RATIO, MOST = {0: 1.1, 15: 4.0}, {3: 121000}
 
 
 def flows(kind):

@@ -236,8 +236,8 @@ def unproved():
         for odd in ("2>&-", "2>/dev/full"):
             yield Row("nothing built: %s %s" % (call, odd), "%s %s" % (call, odd), 0 if "version" in call else 3, None, "")
     yield Row("nothing built, a word", "\"$0\" $'%s'" % BIDI, 2, "", "error: '%s' is no command\n" % SHOWN, lines=300)
-    yield Row("bin/prove, nobody listens", 'rm -f ../tools/rt.calls; "${0%rohcfn}prove" 2>&-; echo $?; cat ../tools/rt.calls; rm -r ../crates/rohcfn/out', 0, "0\nci\nci\n", "")
-    yield Row("bin/prove, standard error full", 'rm -f ../tools/rt.calls; "${0%rohcfn}prove" 2>/dev/full; echo $?; cat ../tools/rt.calls; rm -r ../crates/rohcfn/out', 0, "0\nci\nci\n", "")
+    yield Row("bin/prove, nobody listens", 'rm -f ../tools/rt.calls; "${0%rohcfn}prove" 2>&-; echo $?; cat ../tools/rt.calls; rm -r ../crates/rohcfn/out', 0, "0\nci\n", "")
+    yield Row("bin/prove, standard error full", 'rm -f ../tools/rt.calls; "${0%rohcfn}prove" 2>/dev/full; echo $?; cat ../tools/rt.calls; rm -r ../crates/rohcfn/out', 0, "0\nci\n", "")
     yield Row("the sources are missing", 'mv ../crates/rohcfn ../crates/gone; "$0" <bundle; echo $?; "${0%rohcfn}prove"; echo $?; mv ../crates/gone ../crates/rohcfn', 0, "3\n3\n",
               "rohcfn: the sources of the program aren't here\nprove: the sources of the program aren't here\n")
     yield Row("--as-built", '"$0" --as-built <bundle', 3, "", "rohcfn: no program stands here\n")
