@@ -113,7 +113,7 @@ fn chosen(
 }
 
 /// The product with the number of values of a field that is chosen. A number of 0 asks for none.
-fn times_choices(
+pub fn times_choices(
     alloc: Global,
     counts: &[u64],
     format: &Format,
@@ -174,7 +174,7 @@ fn inner_number(
 }
 
 /// The method that the field at an index calls.
-fn called_by(format: &Format, field: usize) -> Option<usize>
+pub fn called_by(format: &Format, field: usize) -> Option<usize>
     ensures { IfSome result (λ k. spec.called_at format.now field ≡ Some k) }
 {
     match format.fields.get(field)?.encoding.get() {
@@ -184,13 +184,15 @@ fn called_by(format: &Format, field: usize) -> Option<usize>
     }
 }
 
-fn format_of(methods: &[Method], method: usize, index: usize) -> Option<&Format>
+/// The format of the method, both by their indices.
+pub fn format_of(methods: &[Method], method: usize, index: usize) -> Option<&Format>
     ensures { option_copied result ≡ format_at methods.now method index }
 {
     methods.get(method)?.formats.get(index)
 }
 
-fn plans_of(entries: &[Option<MethodPlans>], method: usize, index: usize) -> Option<&Plans>
+/// The plans of the format of the method, both by their indices.
+pub fn plans_of(entries: &[Option<MethodPlans>], method: usize, index: usize) -> Option<&Plans>
     ensures { option_copied result ≡ spec.write_plan entries.now method index }
 {
     let entry = entries.get(method)?.as_ref()?;
@@ -198,7 +200,7 @@ fn plans_of(entries: &[Option<MethodPlans>], method: usize, index: usize) -> Opt
 }
 
 /// The sum over the formats of the method before one.
-fn before_of(spans: &[Items<u64>], method: usize, format: usize) -> Option<u64>
+pub fn before_of(spans: &[Items<u64>], method: usize, format: usize) -> Option<u64>
     ensures { IfSome result (IsBefore spans.now method format) }
 {
     let Some(spans) = at(spans, method) else {

@@ -1,7 +1,7 @@
 //! From plans to fewer operations, for who draws fillings up and has them judged.
 
 use crate::operations::{CompiledPlan, Operations};
-use crate::pages::page_operations;
+use crate::pages::{page_operations, page_writing};
 use crate::steps::OperationsSoFar;
 use cert_types::{Direction, FormatPlans, MethodPlans, Step};
 use sem_profile::{Format, Method};
@@ -46,6 +46,7 @@ fn method_acts(
 const NONE: CompiledPlan = CompiledPlan {
     read: None,
     page: None,
+    page_writing: None,
     write: None,
 };
 
@@ -58,6 +59,7 @@ fn format_acts(
         Some(plans) => Ok(CompiledPlan {
             read: operations(alloc, format, Direction::Read, plans.read.as_slice())?,
             page: page_operations(alloc, format, plans.read.as_slice())?,
+            page_writing: page_writing(alloc, format, plans.write.as_slice())?,
             write: operations(alloc, format, Direction::Write, plans.write.as_slice())?,
         }),
         None => Ok(NONE),

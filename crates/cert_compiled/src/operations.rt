@@ -1,6 +1,6 @@
 //! What is done to draw a filling up.
 
-use crate::pages::PageOperation;
+use crate::pages::{PageOperation, PageWriting};
 use cert_types::Step;
 use sem_expr::Side;
 use sqlite_items::Items;
@@ -117,7 +117,8 @@ pub struct Operations {
 #[derive(Drop)]
 pub struct CompiledPlan {
     pub read: Option<Operations>,
-    /// Those by which a page is read.
+    /// Those by which a page is read, and those by which it is written.
     pub page: Option<Items<PageOperation>>,
+    pub page_writing: Option<Items<PageWriting>>,
     pub write: Option<Operations>,
 }

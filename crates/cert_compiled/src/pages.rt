@@ -1,7 +1,9 @@
 //! The operations by which a page is read: those of the read plans of a format, as far as each field is read in one step.
 
+use cert_rules::choice_of;
 use cert_types::Step;
-use sem_profile::{Encoding, Format, Library};
+use sem_expr::Side;
+use sem_profile::{Encoding, Format, Library, Part};
 use sqlite_items::{Items, at};
 use std::alloc::{AllocError, Global};
 
@@ -28,6 +30,177 @@ pub enum PageOperation {
         field: usize,
         takes: bool,
     },
+}
+
+/// Where the bits of a field's uncompressed side come from in writing.
+#[derive(Clone, Copy)]
+pub enum Origin {
+    /// The field's library method gives both sides.
+    Library,
+    /// The next bits of the header.
+    Header,
+    /// The asked value at this place.
+    Asked(usize),
+    /// The next digit is the number of so many bits.
+    Chosen(usize),
+    /// The value that the constraint says.
+    Solved(usize),
+}
+
+/// One operation of writing. The source is the header.
+#[derive(Clone, Copy)]
+pub enum PageWriting {
+    /// The uncompressed side comes from there, and the other one by the field's encoding. The constraint gives the length, where there is one.
+    Field {
+        field: usize,
+        origin: Origin,
+        length: Option<usize>,
+    },
+    /// The next bits of the header are the field's, which is written.
+    Skip(usize),
+    /// The field calls a method. Where it `takes`, the header of the filling inside is next.
+    Call {
+        field: usize,
+        takes: bool,
+    },
+}
+
+/// The operations of a write plan. None of one by which a field is written otherwise.
+pub(crate) fn page_writing(
+    alloc: Global,
+    format: &Format,
+    plan: &[Step],
+) -> Result<Option<Items<PageWriting>>, AllocError> {
+    let mut pages = WritingSoFar {
+        alloc,
+        format,
+        are_written: falses(alloc, format.fields.len())?,
+        lengths: blanks(alloc, format.fields.len())?,
+        operations: Items::new(alloc),
+    };
+    for step in plan {
+        if !pages.add(*step)? {
+            return Ok(None);
+        }
+    }
+    Ok(Some(pages.operations))
+}
+
+/// The same in writing.
+#[derive(Drop)]
+struct WritingSoFar<'a> {
+    alloc: Global,
+    format: &'a Format,
+    are_written: Vec<bool>,
+    lengths: Vec<Option<usize>>,
+    operations: Items<PageWriting>,
+}
+
+impl<'a> WritingSoFar<'a> {
+    /// Adds the operation of a step, if it wants one. False where there is none.
+    fn add(&mut self, step: Step) -> Result<bool, AllocError> {
+        match step {
+            Step::Take(field) => {
+                if self.is_written(field) {
+                    self.operations.push(PageWriting::Skip(field))?;
+                    return Ok(true);
+                }
+                self.write(field, Origin::Header)
+            }
+            Step::Call(field) => {
+                let takes = self.is_header(field);
+                self.call(field, takes)
+            }
+            Step::LibraryUp(field) | Step::LibraryDown(field) => self.code(field),
+            Step::ConstraintLength(field, Side::Uncompressed, number) => {
+                if field < self.lengths.len() {
+                    self.lengths[field] = Some(number);
+                }
+                Ok(true)
+            }
+            Step::MethodLength(_, _) | Step::ConstraintLength(_, _, _) => Ok(true),
+            Step::Solve(field, number) => self.write(field, Origin::Solved(number)),
+            Step::Choose(field) => match choice_of(self.alloc, self.format, field) {
+                Some(width) => self.write(field, Origin::Chosen(width)),
+                None => Ok(false),
+            },
+            Step::Ask(field) => {
+                let place = self.asked_before(field);
+                self.write(field, Origin::Asked(place))
+            }
+        }
+    }
+
+    fn is_written(&self, field: usize) -> bool {
+        match at(self.are_written.as_slice(), field) {
+            Some(is_written) => *is_written,
+            None => false,
+        }
+    }
+
+    fn is_header(&self, field: usize) -> bool {
+        match self.format.fields.get(field) {
+            Some(field) => matches!(field.declared.part, Part::Header),
+            None => false,
+        }
+    }
+
+    fn asked_before(&self, field: usize) -> usize {
+        self.format
+            .fields
+            .as_slice()
+            .iter()
+            .take(field)
+            .filter(|field| field.declared.asked)
+            .count()
+    }
+
+    /// What the library method gives without the source; a field with bits of its own is written with these, a checksum at the end.
+    fn code(&mut self, field: usize) -> Result<bool, AllocError> {
+        if self.is_written(field) {
+            return Ok(true);
+        }
+        let Some(declared) = self.format.fields.get(field) else {
+            return Ok(false);
+        };
+        match declared.encoding.get() {
+            Encoding::Library(
+                Library::UncompressedValue { .. }
+                | Library::CompressedValue { .. }
+                | Library::Static,
+            ) => self.write(field, Origin::Library),
+            Encoding::Library(_) => Ok(true),
+            Encoding::Bare | Encoding::Call { .. } => Ok(false),
+        }
+    }
+
+    fn write(&mut self, field: usize, origin: Origin) -> Result<bool, AllocError> {
+        let length = match at(self.lengths.as_slice(), field) {
+            Some(length) => *length,
+            None => None,
+        };
+        self.put(
+            field,
+            PageWriting::Field {
+                field,
+                origin,
+                length,
+            },
+        )
+    }
+
+    fn call(&mut self, field: usize, takes: bool) -> Result<bool, AllocError> {
+        self.put(field, PageWriting::Call { field, takes })
+    }
+
+    fn put(&mut self, field: usize, operation: PageWriting) -> Result<bool, AllocError> {
+        if field >= self.are_written.len() || self.are_written[field] {
+            return Ok(false);
+        }
+        self.are_written[field] = true;
+        self.operations.push(operation)?;
+        Ok(true)
+    }
 }
 
 /// The operations of a read plan. None of one by which a field is read otherwise.
@@ -69,7 +242,7 @@ impl<'a> PagesSoFar<'a> {
                 self.read(field, PageOperation::Call { field, takes })
             }
             Step::LibraryUp(field) | Step::LibraryDown(field) => self.code(field),
-            Step::ConstraintLength(field, sem_expr::Side::Uncompressed, number) => {
+            Step::ConstraintLength(field, Side::Uncompressed, number) => {
                 if field < self.lengths.len() {
                     self.lengths[field] = Some(number);
                 }

@@ -75,6 +75,9 @@ module _ (v : Seen) where
     pub kept_on : (ref : Option (List Bool)) → ref ≡ reference_of d.declared.part ctx (below path d.declared.name) d.initial → ref ≡ Some u → length u ≤ 64 → c ≡ [] → IsCodedOn ctx path v d library.Static u c
     kept_on ref ref_is found short none = λ l bears. record { method = lib.static; method_is = refl; related = (sym ref_is ∙ found, short, none) }
 
+    pub carried_up_on : (len : Expr) (count : ℕ) → val (numbers_seen v) len ≡ Some (pos count) → u ≡ c → count ≡ length u → length u ≤ 64 → IsCodedOn ctx path v d (library.Irregular len) u c
+    carried_up_on len count is same length_is short = carried_on len count is same (sym length_is) short
+
     pub raised_on : (k offset : Expr) (x y : ℤ) → val (numbers_seen v) k ≡ Some x → val (numbers_seen v) offset ≡ Some y
         → Lib (lib.lsb x y) (reference_of d.declared.part ctx (below path d.declared.name) d.initial) u c → IsCodedOn ctx path v d (library.Lsb k offset) u c
     raised_on k offset x y one other related = λ l bears. record { method = lib.lsb x y; method_is = rw (value_on l v bears k x one, value_on l v bears offset y other) refl; related = related }
@@ -85,6 +88,10 @@ module _ (v : Seen) where
     summed_on a n p i len covered o one two three four covers only found = λ l bears.
         summed_by ctx path l d u c a n p i len covered o (value_on l v bears a.bits n one) (value_on l v bears a.polynomial p two) (value_on l v bears a.initial i three) (value_on l v bears a.length len four)
         (sym (bears.sides_are a.subject a.side covered covers)) only found
+
+pub some_weaker : {A : Type 0} (P Q : A → Type 0) (o : Option A) → ((x : A) → P x → Q x) → IfSome o P → IfSome o Q
+some_weaker P Q (Some x) to p = to x p
+some_weaker P Q None to p = tt
 
 pub found_weaker : {A E : Type 0} (P Q : A → Type 0) (r : Result (Option A) E) → ((x : A) → P x → Q x) → IfOk r (λ o. IfSome o P) → IfOk r (λ o. IfSome o Q)
 found_weaker P Q (Ok (Some x)) to p = to x p

@@ -1,5 +1,5 @@
 -- What the filling of a page leaves in the context, field by field.
-use Rattle.std.proofs.Common.{◌≡◌, ◌∙◌, refl, sym, ap, subst, ℕ, suc, zero, ◌+◌, ◌≤◌, map, length, drop, List, [], ◌∷◌, ◌++◌, append_assoc, append-nil, add-one, Bool, true, false, arith}
+use Rattle.std.proofs.Common.{◌≡◌, ◌∙◌, refl, sym, ap, subst, ℕ, suc, zero, ◌+◌, ◌<◌, ◌≤◌, map, length, drop, List, [], ◌∷◌, ◌++◌, append_assoc, append-nil, add-one, Bool, true, false, arith}
 use Rattle.std.specs.Prelude.{slice_get, Option, Some, None, option_and_then, unwrap_or}
 use Rattle.sem_expr.specs.declared.expr.Expr.{Expr}
 use Rattle.sem_profile.specs.declared.profile.Encoding.{Encoding}
@@ -19,7 +19,8 @@ use Rattle.sem_pages.proofs.InOrder.{GoesTo, ends, field_goes, none_inside, some
 use Rattle.sem_filling.specs.Fits.{format_at}
 use Rattle.sem_pages.specs.declared.page.Page.{Page, out-Page}
 use Rattle.sem_pages.specs.declared.page.Shown.{Shown, out-Shown}
-use Rattle.sem_pages.specs.Pages.{sides_by, level_by, Shows, ShowsInside, shows, nothing, called, StandsFor}
+use Rattle.sem_filling.proofs.FillingsAsked.{drop_at}
+use Rattle.sem_pages.specs.Pages.{sides_by, value_by, level_by, Shows, ShowsInside, shows, nothing, called, StandsFor}
 use Rattle.sem_pages.proofs.Levels.{level_at, level_drop, level_length}
 
 mapped_at : {A B : Type 0} (f : A → B) (xs : List A) (i : ℕ) (y : B) → slice_get (map f xs) i ≡ Some y → (x : A) × (slice_get xs i ≡ Some x) × (f x ≡ y)
@@ -103,6 +104,43 @@ pub asked_by : (methods : List Method) {k : ℕ} {p : Page} {f : Filling} (forma
     → ss ≡ (out-Page p).fields → values ≡ asked_values (level_by ds ss) → Shows methods k p f → values ≡ asked_values (level f)
 asked_by methods format ds ss values at ds_are ss_are is shown =
     is ∙ ap (λ z. asked_values (level_by z ss)) ds_are ∙ ap (λ z. asked_values (level_by format.fields z)) ss_are ∙ ap asked_values (sym (level_shown methods format at shown))
+
+-- ---- asked values that are compared
+
+skip_asked : (x : Sides) (xs : List Sides) → x.declared.asked ≡ false → asked_values (x ∷ xs) ≡ asked_values xs
+skip_asked x xs e = rw e refl
+
+take_asked : (x : Sides) (xs : List Sides) → x.declared.asked ≡ true → asked_values (x ∷ xs) ≡ (record { name = x.declared.name; bits = x.uncompressed }) ∷ asked_values xs
+take_asked x xs e = rw e refl
+
+-- where those of the fields from one on are the values from a place on, all of them are the values
+abbrev pub RestIs : List Field → List Shown → List AskedValue → ℕ → ℕ → Type 0
+RestIs ds ss values i place = asked_values (level_by (drop i ds) (drop i ss)) ≡ drop place values → asked_values (level_by ds ss) ≡ values
+
+pub element_at : {A : Type 0} (xs : List A) (i : ℕ) → i < length xs → (x : A) × (slice_get xs i ≡ Some x)
+element_at [] i l = absurd (omega (arith, l))
+element_at (x ∷ xs) zero l = (x, refl)
+element_at (x ∷ xs) (suc i) l = element_at xs i (omega (arith, l))
+
+module _ (ds : List Field) (ss : List Shown) (values : List AskedValue) where
+  pub rest_start : RestIs ds ss values 0 0
+  rest_start e = e
+
+  -- past a field that isn't asked
+  pub rest_past : (i place : ℕ) (d : Field) (s : Shown) → slice_get ds i ≡ Some d → slice_get ss i ≡ Some s → d.declared.asked ≡ false → RestIs ds ss values i place → RestIs ds ss values (i + 1) place
+  rest_past i place d s here there is rest e =
+      let on : asked_values (level_by (drop (suc i) ds) (drop (suc i) ss)) ≡ drop place values = rw add-one at e in
+      rest (ap asked_values (level_drop ds ss i d s here there) ∙ skip_asked (sides_by d s) (level_by (drop (suc i) ds) (drop (suc i) ss)) is ∙ on)
+
+  -- past one whose value is at the place
+  pub rest_on : (i place : ℕ) (d : Field) (s : Shown) → slice_get ds i ≡ Some d → slice_get ss i ≡ Some s → d.declared.asked ≡ true → slice_get values place ≡ Some (value_by d s) → RestIs ds ss values i place
+      → RestIs ds ss values (i + 1) (place + 1)
+  rest_on i place d s here there is next rest e =
+      let on : asked_values (level_by (drop (suc i) ds) (drop (suc i) ss)) ≡ drop (suc place) values = rw (add-one i, add-one place) at e in
+      rest (ap asked_values (level_drop ds ss i d s here there) ∙ take_asked (sides_by d s) (level_by (drop (suc i) ds) (drop (suc i) ss)) is ∙ ap (λ z. value_by d s ∷ z) on ∙ sym (drop_at values place (value_by d s) next))
+
+  pub rest_end : (n place : ℕ) → length ds ≤ n → length values ≤ place → RestIs ds ss values n place → asked_values (level_by ds ss) ≡ values
+  rest_end n place le over rest = rest (ap (λ z. asked_values (level_by z (drop n ss))) (drop_end ds n le) ∙ sym (drop_end values place over))
 
 -- ---- entries
 

@@ -24,7 +24,7 @@ use Rattle.sem_filling.specs.declared.whole_sides.WholeSides.{WholeSides}
 use Rattle.sem_filling.specs.Fits.{Context, Holds, FieldFits, fits, bare, coded, called, side_of, field_side, assigned, format_at, reference_of}
 use Rattle.sem_pages.specs.declared.page.Page.{Page, out-Page}
 use Rattle.sem_pages.specs.declared.page.Shown.{Shown, out-Shown}
-use Rattle.sem_pages.specs.Pages.{sides_by, level_by, Looked, Bears, AreRead, HoldsOn, IsWhole, shown_side, seen_side, side_in, numbers_in, IsShownBy, HasField, HasFields, IsCodedBy, IsCalledBy, IsPageOf, IsPlain, ShowsInside, nothing, called as shown_called, shows}
+use Rattle.sem_pages.specs.Pages.{sides_by, level_by, Looked, Bears, AreRead, HoldsOn, IsWhole, seen_at_end, shown_side, seen_side, side_in, numbers_in, IsShownBy, HasField, HasFields, IsCodedBy, IsCalledBy, IsPageOf, IsPlain, ShowsInside, nothing, called as shown_called, shows}
 
 -- ---- one field
 
@@ -191,15 +191,15 @@ page_is methods ctx k args path p format h q at count unsent constraints has hea
 -- of a level of which each field is read
 pub page_read : (methods : List Method) (ctx : Context) (k : ℕ) (args : List ℤ) (path : Path) (p : Page) (format : Format) (w : WholeSides) (solved : List ℕ)
     → format_at methods k (out-Page p).format ≡ Some format
-    → AreRead methods ctx path format (record { fields = (out-Page p).fields; arguments = args; whole = Some w }) solved
+    → AreRead methods ctx path format (seen_at_end (out-Page p).fields args w) solved
     → ((i : ℕ) (s : Shown) → slice_get (out-Page p).fields i ≡ Some s → (u : List Bool) × (c : List Bool) × IsWhole s u c)
     → ((i : ℕ) (s : Shown) → slice_get (out-Page p).fields i ≡ Some s → lists format.listing i ≡ false → unwrap_or (out-Shown s).compressed [] ≡ [])
-    → ((j : ℕ) (c : Constraint) → slice_get format.constraints j ≡ Some c → HoldsOn (record { fields = (out-Page p).fields; arguments = args; whole = Some w }) c)
+    → ((j : ℕ) (c : Constraint) → slice_get format.constraints j ≡ Some c → HoldsOn (seen_at_end (out-Page p).fields args w) c)
     → w.header ≡ header_bits (level_by format.fields (out-Page p).fields) → w.packed ≡ packed_bits format.listing (level_by format.fields (out-Page p).fields) → IsPageOf methods ctx k args path p w.header w.packed
 page_read methods ctx k args path p format w solved at read whole unsent constraints header_is packed_is =
     let ss = (out-Page p).fields in
     let l : Looked = record { listing = format.listing; sides = level_by format.fields ss; arguments = args } in
-    let bears : Bears l (record { fields = ss; arguments = args; whole = Some w }) = bears_end format ss args w read.count header_is packed_is in
+    let bears : Bears l (seen_at_end ss args w) = bears_end format ss args w read.count header_is packed_is in
     page_is methods ctx k args path p format w.header w.packed at read.count unsent (λ j c here. constraints j c here l bears)
     (λ i d s here there. let sides = whole i s there in read.fields i d s sides.0 sides.1 here there sides.2 l bears)
     header_is packed_is
@@ -213,11 +213,11 @@ page_read methods ctx k args path p format w solved at read whole unsent constra
     shown_up (d ∷ ds) (s ∷ ss) (suc i) side b e at = shown_up ds ss i side b (omega (arith, e)) at
 
     side_end : (format : Format) (ss : List Shown) (args : List ℤ) (w : WholeSides) → length ss ≡ length format.fields → w.header ≡ header_bits (level_by format.fields ss) → w.packed ≡ packed_bits format.listing (level_by format.fields ss)
-        → (x : Subject) (side : Side) (b : List Bool) → seen_side (record { fields = ss; arguments = args; whole = Some w }) x side ≡ Some b → side_of format.listing (level_by format.fields ss) x side ≡ b
+        → (x : Subject) (side : Side) (b : List Bool) → seen_side (seen_at_end ss args w) x side ≡ Some b → side_of format.listing (level_by format.fields ss) x side ≡ b
     side_end format ss args w count h q (subject.Field i) side b at = shown_up format.fields ss i side b count at
     side_end format ss args w count h q subject.This Uncompressed b at = let one : Some w.header ≡ Some b = at in let same : w.header ≡ b = cc in sym h ∙ same
     side_end format ss args w count h q subject.This Compressed b at = let one : Some w.packed ≡ Some b = at in let same : w.packed ≡ b = cc in sym q ∙ same
 
     bears_end : (format : Format) (ss : List Shown) (args : List ℤ) (w : WholeSides) → length ss ≡ length format.fields → w.header ≡ header_bits (level_by format.fields ss) → w.packed ≡ packed_bits format.listing (level_by format.fields ss)
-        → Bears (record { listing = format.listing; sides = level_by format.fields ss; arguments = args }) (record { fields = ss; arguments = args; whole = Some w })
+        → Bears (record { listing = format.listing; sides = level_by format.fields ss; arguments = args }) (seen_at_end ss args w)
     bears_end format ss args w count h q = record { arguments_are = refl; sides_are = side_end format ss args w count h q }

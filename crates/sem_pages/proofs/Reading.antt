@@ -4,6 +4,7 @@ use Rattle.std.specs.Prelude.{slice_get, slice_set, Some, None}
 use Rattle.std.proofs.lemmas.Bool.{eqb-true, eqb-false}
 use Rattle.std.proofs.lemmas.List.{length-set}
 use Rattle.sem_expr.specs.declared.expr.Side.{Side}
+use Rattle.sem_expr.specs.declared.expr.Side.TheVariants.{Uncompressed, Compressed}
 use Rattle.sem_expr.specs.declared.expr.Subject.{Subject}
 use Rattle.sem_expr.specs.declared.expr.Subject.TheVariants as subject
 use Rattle.sem_profile.specs.declared.profile.Field.{Field}
@@ -28,7 +29,7 @@ set_other (z ∷ xs) (suc i) (suc k) y apart = set_other xs i k y (λ e. apart (
 
 -- what is seen, where this stands at a place
 abbrev pub seen_with : Seen → ℕ → Shown → Seen
-seen_with v i t = record { fields = slice_set v.fields i t; arguments = v.arguments; whole = v.whole }
+seen_with v i t = record { fields = slice_set v.fields i t; arguments = v.arguments; header = v.header; packed = v.packed }
 
 module _ (v : Seen) (i : ℕ) (s t : Shown) (here : slice_get v.fields i ≡ Some s) (keeps : Keeps s t) where
   kept : (k : ℕ) (side : Side) (b : List Bool) → shown_side (slice_get v.fields k) side ≡ Some b → shown_side (slice_get (slice_set v.fields i t) k) side ≡ Some b
@@ -44,7 +45,8 @@ module _ (v : Seen) (i : ℕ) (s t : Shown) (here : slice_get v.fields i ≡ Som
 
   side_kept : (x : Subject) (side : Side) (b : List Bool) → seen_side v x side ≡ Some b → seen_side (seen_with v i t) x side ≡ Some b
   side_kept (subject.Field k) side b at = kept k side b at
-  side_kept subject.This side b at = at
+  side_kept subject.This Uncompressed b at = at
+  side_kept subject.This Compressed b at = at
 
   pub bears_less : (l : Looked) → Bears l (seen_with v i t) → Bears l v
   bears_less l bears = record { arguments_are = bears.arguments_are; sides_are = λ x side b at. bears.sides_are x side b (side_kept x side b at) }

@@ -17,6 +17,7 @@ use Rattle.sem_profile.specs.declared.profile.Method as profile
 use Rattle.sem_profile.specs.Fields.{lists}
 use Rattle.sem_filling.specs.declared.filling.Filling.{Filling, out-Filling}
 use Rattle.sem_filling.specs.declared.filling.FilledField.{FilledField}
+use Rattle.sem_filling.specs.declared.filling.AskedValue.{AskedValue}
 use Rattle.sem_filling.specs.Fillings.{Sides, sides_of, inner_of, inner_at, listing_of, level, header, packed}
 use Rattle.sem_filling.specs.Entries.{Path, below}
 use Rattle.sem_filling.specs.declared.whole_sides.WholeSides.{WholeSides}
@@ -30,7 +31,11 @@ use Rattle.sem_pages.specs.declared.page.Shown.{Shown, out-Shown}
 abbrev pub sides_by : Field → Shown → Sides
 sides_by d s = record { declared = d.declared; uncompressed = unwrap_or (out-Shown s).uncompressed []; compressed = unwrap_or (out-Shown s).compressed [] }
 
--- the same of each field
+-- the value of a field: its name with its uncompressed side
+abbrev pub value_by : Field → Shown → AskedValue
+value_by d s = record { name = d.declared.name; bits = unwrap_or (out-Shown s).uncompressed [] }
+
+-- both sides of each field
 abbrev pub level_by : List Field → List Shown → List Sides
 level_by [] ss = []
 level_by (d ∷ ds) [] = []
@@ -57,15 +62,20 @@ pub record IsCodedBy (ctx : Context) (path : Path) (l : Looked) (d : Field) (lib
 
 -- ---- what is seen of a level on the way
 
--- what is read of the fields, the values of the parameters, and both sides of the whole once they are known
+-- what is there of the fields, the values of the parameters, and each side of the whole once it is known
 pub record Seen : Type 0 where
   pub fields : List Shown
   pub arguments : List ℤ
-  pub whole : Option WholeSides
+  pub header : Option (List Bool)
+  pub packed : Option (List Bool)
 
 -- before the sides of the whole are known
 abbrev pub seen_in : List Shown → List ℤ → Seen
-seen_in ss args = record { fields = ss; arguments = args; whole = None }
+seen_in ss args = record { fields = ss; arguments = args; header = None; packed = None }
+
+-- at the end
+abbrev pub seen_at_end : List Shown → List ℤ → WholeSides → Seen
+seen_at_end ss args w = record { fields = ss; arguments = args; header = Some w.header; packed = Some w.packed }
 
 -- the side of a field, once it is read
 abbrev pub shown_side : Option Shown → Side → Option (List Bool)
@@ -73,14 +83,10 @@ shown_side None side = None
 shown_side (Some s) Uncompressed = (out-Shown s).uncompressed
 shown_side (Some s) Compressed = (out-Shown s).compressed
 
-abbrev pub whole_side : Option WholeSides → Side → Option (List Bool)
-whole_side None side = None
-whole_side (Some w) Uncompressed = Some w.header
-whole_side (Some w) Compressed = Some w.packed
-
 abbrev pub seen_side : Seen → Subject → Side → Option (List Bool)
 seen_side v (subject.Field i) side = shown_side (slice_get v.fields i) side
-seen_side v subject.This side = whole_side v.whole side
+seen_side v subject.This Uncompressed = v.header
+seen_side v subject.This Compressed = v.packed
 
 -- the numbers of the attributes that are known, and of the parameters
 abbrev pub numbers_seen : Seen → Assignment

@@ -21,7 +21,7 @@ use crate::word::Word;
 use sem_bits::{Bits, Cursor};
 use sem_expr::{Expr, Subject};
 use sem_filling::whole_sides::reference_below;
-use sem_library::{crc_down, lsb_up};
+use sem_library::{crc_down, lsb_down, lsb_up};
 use sem_profile::{CrcArguments, Encoding, Field, Library};
 use std::alloc::{AllocError, Global};
 
@@ -85,6 +85,114 @@ fn coded_by(
         }
         Library::Crc(_) => Ok(None),
     }
+}
+
+/// The packed side that a field with that uncompressed side has by its encoding. None where that isn't told, and of a field that calls a method.
+#[inline(always)]
+pub fn encoded(
+    alloc: Global,
+    frame: &PageFrame<'_>,
+    view: &View<'_>,
+    field: &Field,
+    up: Word,
+) -> Result<Option<Word>, AllocError>
+    ensures { IfOk result (λ o. IfSome o (λ down. spec.ReadsAs frame.now.methods.now (bits_at frame.now.context.now) frame.now.path.now view.now field.now up down)) }
+{
+    match field.encoding.get() {
+        Encoding::Bare => Ok(Some(Word::new())),
+        Encoding::Library(library) => encoded_by(alloc, frame, view, field, library, up),
+        Encoding::Call { .. } => Ok(None),
+    }
+}
+
+/// The same by its library method.
+#[inline(always)]
+fn encoded_by(
+    alloc: Global,
+    frame: &PageFrame<'_>,
+    view: &View<'_>,
+    field: &Field,
+    library: &Library,
+    up: Word,
+) -> Result<Option<Word>, AllocError>
+    ensures { IfOk result (λ o. IfSome o (λ down. spec.IsCodedOn (bits_at frame.now.context.now) frame.now.path.now view.now field.now library.now up down)) }
+{
+    match library {
+        Library::UncompressedValue { length, value } => Ok(down_of(
+            constant_up(view, length, value),
+            &up,
+        )),
+        Library::CompressedValue { length, value } => Ok(down_of(
+            constant_down(view, length, value),
+            &up,
+        )),
+        Library::Irregular { length } => Ok(carried_down(view, length, up)),
+        Library::Static => kept_down(alloc, frame, field, &up),
+        Library::Lsb { bits, offset } => {
+            let Some(arguments) = lsb_arguments(view, bits, offset) else {
+                return Ok(None);
+            };
+            lowered(alloc, frame, field, arguments, up)
+        }
+        Library::Crc(_) => Ok(None),
+    }
+}
+
+/// The packed one of both sides, where that is the uncompressed one.
+#[inline(always)]
+fn down_of(found: Option<BothSides>, up: &Word) -> Option<Word>
+    ensures { IfSome result (λ down. found ≡ Some record { uncompressed = up.now; compressed = down }) }
+{
+    let both = found?;
+    if both.uncompressed.is(up) {
+        Some(both.compressed)
+    } else {
+        None
+    }
+}
+
+/// No bits, where the reference is this.
+#[inline(always)]
+fn kept_down(
+    alloc: Global,
+    frame: &PageFrame<'_>,
+    field: &Field,
+    up: &Word,
+) -> Result<Option<Word>, AllocError>
+    ensures { IfOk result (λ o. IfSome o (λ down. (v : spec.Seen) → spec.IsCodedOn (bits_at frame.now.context.now) frame.now.path.now v field.now library.Static up.now down)) }
+{
+    let found = kept(alloc, frame, field)?;
+    Ok(down_of(found, up))
+}
+
+/// The same bits, where they are as many as the expression says.
+#[inline(always)]
+fn carried_down(view: &View<'_>, length: &Expr, up: Word) -> Option<Word>
+    ensures { IfSome result (λ down. (ctx : fits.Context) (path : Path) (d : normal.Field) → spec.IsCodedOn ctx path view.now d (library.Irregular length.now) up down) }
+{
+    if natural(length, view)? != up.len() as u64 {
+        return None;
+    }
+    Some(up)
+}
+
+/// What `lsb` makes of these bits by the reference.
+#[inline(never)]
+fn lowered(
+    alloc: Global,
+    frame: &PageFrame<'_>,
+    field: &Field,
+    arguments: LsbArguments,
+    up: Word,
+) -> Result<Option<Word>, AllocError>
+    ensures { IfOk result (λ o. IfSome o (λ down. Lib (lib.lsb arguments.bits arguments.offset) (reference_of field.now.declared.part (bits_at frame.now.context.now) (below frame.now.path.now field.now.declared.name) field.now.initial) up down)) }
+{
+    let reference = reference_below(alloc, frame.context, frame.path, field)?;
+    let (bits, offset) = (wide(arguments.bits), wide(arguments.offset));
+    let Some(down) = lsb_down(alloc, bits, offset, reference, &up.to_bits(alloc)?)? else {
+        return Ok(None);
+    };
+    Ok(Word::of(&down))
 }
 
 /// Bits that aren't sent.
@@ -218,53 +326,51 @@ fn wide(number: i64) -> i128
     number as i128
 }
 
-/// Whether `crc` with these arguments makes the packed side of no bits.
+/// The packed side that `crc` with these arguments makes of no bits.
 #[inline(never)]
-pub fn is_summed(
+pub fn summed(
     alloc: Global,
     view: &View<'_>,
     crc: &CrcArguments,
-    packed: &Word,
-) -> Result<bool, AllocError>
-    ensures { IfOk result (λ b. (ctx : fits.Context) (path : Path) (d : normal.Field) → IsTrue b → spec.IsCodedOn ctx path view.now d (library.Crc crc.now) [] packed.now) }
+) -> Result<Option<Word>, AllocError>
+    ensures { IfOk result (λ o. IfSome o (λ w. (ctx : fits.Context) (path : Path) (d : normal.Field) → spec.IsCodedOn ctx path view.now d (library.Crc crc.now) [] w)) }
 {
     match crc.subject {
         Subject::This => match view.whole_side(crc.side) {
-            Some(covered) => is_sum_of(alloc, view, crc, covered, packed),
-            None => Ok(false),
+            Some(covered) => sum_of(alloc, view, crc, covered),
+            None => Ok(None),
         },
         Subject::Field(index) => match view.word(index, crc.side) {
             Some(word) => {
                 let covered = word.to_bits(alloc)?;
-                is_sum_of(alloc, view, crc, &covered, packed)
+                sum_of(alloc, view, crc, &covered)
             }
-            None => Ok(false),
+            None => Ok(None),
         },
     }
 }
 
 /// The same where it covers these bits.
 #[inline(always)]
-fn is_sum_of(
+fn sum_of(
     alloc: Global,
     view: &View<'_>,
     crc: &CrcArguments,
     covered: &Bits,
-    packed: &Word,
-) -> Result<bool, AllocError>
-    ensures { IfOk result (λ b. (ctx : fits.Context) (path : Path) (d : normal.Field) → IsTrue b → spec.seen_side view.now crc.now.subject crc.now.side ≡ Some covered.now → spec.IsCodedOn ctx path view.now d (library.Crc crc.now) [] packed.now) }
+) -> Result<Option<Word>, AllocError>
+    ensures { IfOk result (λ o. IfSome o (λ w. (ctx : fits.Context) (path : Path) (d : normal.Field) → spec.seen_side view.now crc.now.subject crc.now.side ≡ Some covered.now → spec.IsCodedOn ctx path view.now d (library.Crc crc.now) [] w)) }
 {
     let Some(bits) = value(&crc.bits, view) else {
-        return Ok(false);
+        return Ok(None);
     };
     let Some(polynomial) = value(&crc.polynomial, view) else {
-        return Ok(false);
+        return Ok(None);
     };
     let Some(initial) = value(&crc.initial, view) else {
-        return Ok(false);
+        return Ok(None);
     };
     let Some(length) = value(&crc.length, view) else {
-        return Ok(false);
+        return Ok(None);
     };
     let sum = crc_down(
         alloc,
@@ -275,24 +381,8 @@ fn is_sum_of(
         wide(length),
         &Bits::new(alloc),
     )?;
-    Ok(is_found(&sum, packed))
-}
-
-/// Whether the found bits are there and are these.
-fn is_found(found: &Option<Bits>, word: &Word) -> bool
-    ensures { IsTrue result → found.now ≡ Some word.now }
-{
-    match found {
-        Some(bits) => is_same(bits, word),
-        None => false,
-    }
-}
-
-fn is_same(bits: &Bits, word: &Word) -> bool
-    ensures { IsTrue result → bits.now ≡ word.now }
-{
-    match Word::of(bits) {
-        Some(other) => other.is(word),
-        None => false,
+    match sum {
+        Some(bits) => Ok(Word::of(&bits)),
+        None => Ok(None),
     }
 }

@@ -1,6 +1,6 @@
 //! What the filling of a page leaves in the context, and its asked values.
 
-ghost use Rattle.std.specs.Prelude.{◌≡◌, ◌++◌, ◌∷◌, [], false, IfOk, IfSome, IsTrue, OnOk, OnErr, unwrap_or};
+ghost use Rattle.std.specs.Prelude.{◌≡◌, ◌<◌, ◌++◌, ◌∷◌, [], false, length, slice_get, IfOk, IfSome, IsTrue, OnOk, OnErr, Some, unwrap_or};
 ghost use Rattle.std.specs.Option.{option_copied};
 ghost use Rattle.sem_filling.specs.Fits.{format_at};
 ghost use Rattle.std.specs.Map.{keys_of};
@@ -47,6 +47,56 @@ pub fn asked_values(
         add_asked(alloc, &mut values, &fields[i], &shown[i])?;
     }
     Ok(Some(values))
+}
+
+/// Whether the asked fields of the page's format of the method have these names and uncompressed sides, in field order. It takes no memory.
+pub fn has_asked(methods: &[Method], method: usize, page: &Page, values: &[AskedValue]) -> bool
+    ensures { IsTrue result → (f : filling.Filling) → spec.Shows methods.now method page.now f → fillings.asked_values (fillings.level f) ≡ values.now }
+{
+    let Some(format) = format_of(methods, method, page.format) else {
+        return false;
+    };
+    let fields = format.fields.as_slice();
+    let shown = page.fields.as_slice();
+    if shown.len() != fields.len() {
+        return false;
+    }
+    let mut place = 0;
+    for i in 0..fields.len() {
+        let field = &fields[i];
+        if !field.declared.asked {
+            continue;
+        }
+        if !is_next(values, place, field, &shown[i]) {
+            return false;
+        }
+        place += 1;
+    }
+    place == values.len()
+}
+
+/// Whether the value at the place is that of the field.
+fn is_next(values: &[AskedValue], place: usize, field: &Field, shown: &Shown) -> bool
+    ensures within { IsTrue result → place < length values.now }
+    ensures same { IsTrue result → slice_get values.now place ≡ Some (spec.value_by field.now shown.now) }
+{
+    let Some(value) = values.get(place) else {
+        return false;
+    };
+    let Some(word) = &shown.uncompressed else {
+        return false;
+    };
+    is_value(value, field, word)
+}
+
+/// Whether the value has the name of the field, and these bits.
+fn is_value(value: &AskedValue, field: &Field, word: &Word) -> bool
+    ensures { IsTrue result → value.now ≡ record { name = field.now.declared.name; bits = word.now } }
+{
+    are_same(
+        value.name.as_str().as_bytes(),
+        field.declared.name.as_str().as_bytes(),
+    ) && word.is_all_of(&value.bits)
 }
 
 fn format_of(methods: &[Method], method: usize, index: usize) -> Option<&Format>

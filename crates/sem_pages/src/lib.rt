@@ -6,13 +6,13 @@
 //! would not be there, nothing is read, though a filling may fit.
 #![tactic(auto)]
 
-pub use coding::{Source, coded, is_summed, natural};
+pub use coding::{Source, coded, encoded, natural, summed};
 pub use constraints::constraint_holds;
-pub use entries::{advance, asked_values};
+pub use entries::{advance, asked_values, has_asked};
 pub use expressions::{add_values, is_number, value};
 pub use frame::PageFrame;
 pub use page::{BothSides, Page, Shown};
-pub use sides::{are_unsent, whole_of};
+pub use sides::{are_unsent, header_of, packed_of};
 pub use view::View;
 pub use word::Word;
 

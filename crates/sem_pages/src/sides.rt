@@ -9,33 +9,15 @@ ghost use Rattle.sem_pages.specs.Pages as spec;
 use crate::page::Shown;
 use crate::word::Word;
 use sem_bits::{Bits, BitsError};
-use sem_filling::WholeSides;
 use sem_profile::{Field, Format, Part};
 use std::alloc::{AllocError, Global};
 
-/// The header and the packed bits of a level of a format. None where there are more or fewer fields than the format has, where a side of them isn't read, and
-/// above the limit of `Bits`.
-pub fn whole_of(
-    alloc: Global,
-    format: &Format,
-    shown: &[Shown],
-) -> Result<Option<WholeSides>, AllocError>
-    ensures { IfOk result (λ o. IfSome o (λ w. (length shown.now ≡ length format.now.fields) × (w.header ≡ header_bits (spec.level_by format.now.fields shown.now)) × (w.packed ≡ packed_bits format.now.listing (spec.level_by format.now.fields shown.now)))) }
-{
-    if shown.len() != format.fields.len() {
-        return Ok(None);
-    }
-    let Some(header) = header_of(alloc, format.fields.as_slice(), shown)? else {
-        return Ok(None);
-    };
-    let Some(packed) = packed_of(alloc, format, shown)? else {
-        return Ok(None);
-    };
-    Ok(Some(WholeSides { header, packed }))
-}
-
 /// The uncompressed sides of the header fields, joined in field order. None where one isn't read, and above the limit of `Bits`.
-fn header_of(alloc: Global, fields: &[Field], shown: &[Shown]) -> Result<Option<Bits>, AllocError>
+pub fn header_of(
+    alloc: Global,
+    fields: &[Field],
+    shown: &[Shown],
+) -> Result<Option<Bits>, AllocError>
     requires { length shown.now ≡ length fields.now }
     ensures { IfOk result (λ o. IfSome o (λ b. b ≡ header_bits (spec.level_by fields.now shown.now))) }
 {
@@ -104,6 +86,11 @@ fn is_ended(alloc: Global, whole: &mut Bits, tail: &Word) -> Result<bool, AllocE
     ensures { IfOk result (λ b. IsTrue b → whole.new ≡ whole.old ++ tail.now) }
 {
     let bits = tail.to_bits(alloc)?;
+    // Most levels have no more than this.
+    if whole.is_empty() {
+        *whole = bits;
+        return Ok(true);
+    }
     match whole.append(&bits) {
         Ok(()) => Ok(true),
         Err(BitsError::Full) => Ok(false),
@@ -132,7 +119,11 @@ fn adds_packed(
 }
 
 /// The compressed sides of the listed fields, joined in the listing's order. None above the limit of `Bits`, and where a listed field isn't there or isn't read.
-fn packed_of(alloc: Global, format: &Format, shown: &[Shown]) -> Result<Option<Bits>, AllocError>
+pub fn packed_of(
+    alloc: Global,
+    format: &Format,
+    shown: &[Shown],
+) -> Result<Option<Bits>, AllocError>
     requires { length shown.now ≡ length format.now.fields }
     ensures { IfOk result (λ o. IfSome o (λ b. b ≡ packed_bits format.now.listing (spec.level_by format.now.fields shown.now))) }
 {

@@ -1,6 +1,6 @@
 //! A level as its expressions see it on the way.
 
-ghost use Rattle.std.specs.Prelude.{◌≡◌, IfSome, Some};
+ghost use Rattle.std.specs.Prelude.{◌≡◌, IfSome, None, Some};
 ghost use Rattle.sem_expr.specs.declared.expr.Subject.TheVariants as subject;
 ghost use Rattle.sem_filling.specs.Fits.{measured};
 ghost use Rattle.sem_pages.specs.Pages as spec;
@@ -12,12 +12,13 @@ use sem_expr::{Attribute, Measure, Side, Subject};
 use sem_filling::WholeSides;
 use std::marker::Model;
 
-/// What is seen of a level: what is read of its fields, the values of the parameters, and both sides of the whole, once they are known.
+/// What is seen of a level: what is there of its fields, the values of the parameters, and each side of the whole, once it is known.
 #[derive(Drop)]
 pub struct View<'a> {
     fields: &'a [Shown],
     arguments: &'a [i64],
-    whole: Option<&'a WholeSides>,
+    header: Option<&'a Bits>,
+    packed: Option<&'a Bits>,
 }
 
 // Clauses see what is seen.
@@ -31,7 +32,7 @@ impl<'a> Model for View<'a> {
 
     ghost coded = { Prim.hlevel (codes, shown.the_row.coded) };
 
-    ghost view = { λ v. record { fields = v.fields.now; arguments = v.arguments.now; whole = option_copied v.whole } };
+    ghost view = { λ v. record { fields = v.fields.now; arguments = v.arguments.now; header = option_copied v.header; packed = option_copied v.packed } };
 }
 
 impl<'a> View<'a> {
@@ -43,19 +44,34 @@ impl<'a> View<'a> {
         View {
             fields,
             arguments,
-            whole: None,
+            header: None,
+            packed: None,
+        }
+    }
+
+    /// What is seen once the header is known.
+    #[inline(always)]
+    pub fn with_header(fields: &'a [Shown], arguments: &'a [i64], header: &'a Bits) -> View<'a>
+        ensures { result ≡ record { fields = fields.now; arguments = arguments.now; header = Some header.now; packed = None } }
+    {
+        View {
+            fields,
+            arguments,
+            header: Some(header),
+            packed: None,
         }
     }
 
     /// What is seen at the end.
     #[inline(always)]
     pub fn at_end(fields: &'a [Shown], arguments: &'a [i64], whole: &'a WholeSides) -> View<'a>
-        ensures { result ≡ record { fields = fields.now; arguments = arguments.now; whole = Some whole.now } }
+        ensures { result ≡ spec.seen_at_end fields.now arguments.now whole.now }
     {
         View {
             fields,
             arguments,
-            whole: Some(whole),
+            header: Some(&whole.header),
+            packed: Some(&whole.packed),
         }
     }
 
@@ -100,10 +116,9 @@ impl<'a> View<'a> {
     pub fn whole_side(&self, side: Side) -> Option<&Bits>
         ensures { IfSome result (λ b. spec.seen_side self.now subject.This side ≡ Some b.now) }
     {
-        let whole = self.whole?;
         match side {
-            Side::Uncompressed => Some(&whole.header),
-            Side::Compressed => Some(&whole.packed),
+            Side::Uncompressed => self.header,
+            Side::Compressed => self.packed,
         }
     }
 }

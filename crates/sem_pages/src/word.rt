@@ -95,6 +95,17 @@ impl Word {
         self.count == other.count && self.value == other.value
     }
 
+    /// Whether the bits are these.
+    #[inline(always)]
+    pub fn is_all_of(&self, bits: &Bits) -> bool
+        ensures { IsTrue result → bits.now ≡ self.now }
+    {
+        match Word::of(bits) {
+            Some(other) => other.is(self),
+            None => false,
+        }
+    }
+
     /// The bits with others after them, if they are at most 64.
     #[inline(always)]
     pub fn joined(&self, other: &Word) -> Option<Word>

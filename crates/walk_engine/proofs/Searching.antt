@@ -113,7 +113,7 @@ module _ (a : Accepting) (ctx : Entries) (it : Item) where
     counted = checked.are_counts
 
     -- what fits and has the item and the number is the only one
-    found_for : (c : ℕ) (f : Filling) → Fitting a ctx f → item f ≡ it → number a.profile.methods a.certificate.methods a.counts f a.profile.top ≡ c → IsFound a ctx it c f
+    pub found_for : (c : ℕ) (f : Filling) → Fitting a ctx f → item f ≡ it → number a.profile.methods a.certificate.methods a.counts f a.profile.top ≡ c → IsFound a ctx it c f
     found_for c f holds has numbered = record {
       fits = holds;
       has = has;

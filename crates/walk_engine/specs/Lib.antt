@@ -4,3 +4,4 @@ pub mod Reading
 pub mod Writing
 pub mod Searching
 pub mod Laws
+pub mod Sending

@@ -3,6 +3,7 @@
 
 pub use reader::{UnpackFault, Unpacked, unpack, unpack_drawn};
 pub use search::{Candidate, Packed, has_item};
+pub use sender::{Sent, pack_page};
 pub use top::{item_of, most_octets};
 pub use writer::{PackFault, pack, pack_from};
 
@@ -10,5 +11,6 @@ mod asked;
 pub mod laws;
 pub mod reader;
 mod search;
+mod sender;
 mod top;
 pub mod writer;

@@ -72,7 +72,7 @@ pub(crate) fn first_from(
 }
 
 /// How many candidates from this number on fail at looks, up to one of which these tell nothing.
-fn looked_past(
+pub(crate) fn looked_past(
     alloc: Global,
     accepted: &Accepted,
     context: &Context,
@@ -100,7 +100,7 @@ fn looked_past(
 }
 
 /// What the candidate with this number tells.
-fn try_number(
+pub(crate) fn try_number(
     alloc: Global,
     accepted: &Accepted,
     context: &Context,
@@ -119,7 +119,7 @@ fn try_number(
 
 /// What the walk that writes tells of it.
 #[inline(never)]
-fn walked(
+pub(crate) fn walked(
     alloc: Global,
     accepted: &Accepted,
     context: &Context,

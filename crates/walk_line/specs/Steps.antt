@@ -85,6 +85,13 @@ pub record IsHeardWhole (p : Accepting) (s t : Contexts) (octets : List ℕ) (n 
   pub within : n ≤ length octets
   pub heard : Heard p s (take n octets) found [] t
 
+-- the flow's octet and those of the filling's packed bits were added, and the context is the one that it leaves
+pub record AddsPacket (old new : Entries) (flow : ℕ) (f : Filling) (before after : List ℕ) : Type 0 where
+  pub octets : List ℕ
+  pub holds : Holds octets (packed f)
+  pub next_is : new ≡ next old f
+  pub after_is : after ≡ before ++ flow ∷ octets
+
 -- the packet of an item was added to the octets, after the flow's octet, and the context is the next one
 pub record IsPacked (p : Accepting) (old new : Entries) (flow : ℕ) (it : Item) (before after : List ℕ) : Type 0 where
   pub filling : Filling

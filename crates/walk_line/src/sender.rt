@@ -1,13 +1,16 @@
 //! The sending end of a line.
 
-ghost use Rattle.std.specs.Prelude.{◌≡◌, ◌<◌, ◌≤◌, ◌+◌, ◌/◌, List, ℕ, ◌++◌, length, vec_len, vec_capacity, IfOk, IfErr, OnOk, OnErr};
+ghost use Rattle.std.specs.Prelude.{◌≡◌, ◌<◌, ◌≤◌, ◌+◌, ◌/◌, List, ℕ, false, ◌∷◌, ◌++◌, length, vec_len, vec_capacity, IfOk, IfErr, IsTrue, OnOk, OnErr};
 ghost use Rattle.std.specs.Option.{SomeIff};
 ghost use Rattle.sem_bits.specs.Octets.{Holds};
 ghost use Rattle.walk_engine.specs.Writing as writing;
 ghost use Rattle.walk_line.specs.Lines.{no_entries};
 ghost use Rattle.walk_line.specs.Lines.Act.{Send, Reset};
 ghost use Rattle.walk_line.specs.States.{IsNotPut, IsPut};
-ghost use Rattle.walk_line.specs.Steps.{IsPacked};
+ghost use Rattle.sem_filling.specs.declared.filling.Filling.{Filling};
+ghost use Rattle.sem_filling.specs.Fillings.{packed};
+ghost use Rattle.walk_engine.specs.Sending.{ShowsPacked};
+ghost use Rattle.walk_line.specs.Steps.{AddsPacket, IsPacked};
 
 use crate::flow::{Flow, LineVersion, no_contexts};
 use cert_accepted::Accepted;
@@ -16,7 +19,8 @@ use sem_context::Context;
 use sem_filling::{Item, advance};
 use std::alloc::{AllocError, Global};
 use std::marker::Model;
-use walk_engine::{PackFault, Packed, pack};
+use walk_engine::{PackFault, Packed, Sent, pack, pack_page};
+use walk_pages::{WrittenPage, goes_on};
 
 /// The sending end: it packs the items of each flow in the flow's context.
 #[derive(Drop)]
@@ -105,9 +109,39 @@ impl<'a> Sender<'a> {
 }
 
 /// Adds the packet of an item to the octets, after the flow's octet, and moves the context on. A refusal changes neither.
-///
-/// All room is made before anything changes.
 fn put_packet(
+    alloc: Global,
+    accepted: &Accepted,
+    context: &mut Context,
+    flow: u8,
+    item: &Item,
+    out: &mut Vec<u8>,
+) -> Result<(), PackFault>
+    ensures ok { OnOk result (IsPacked accepted.now context.old context.new flow item.now out.old.items out.new.items) }
+    ensures err { OnErr result ((context.new ≡ context.old) × (out.new.items ≡ out.old.items)) }
+    ensures fault { IfErr result (λ e. writing.Blames e accepted.now context.old item.now) }
+{
+    // In an empty context no page tells what is left in it.
+    if context.len() == 0 {
+        return put_best(alloc, accepted, context, flow, item, out);
+    }
+    match pack_page(alloc, accepted, context, item) {
+        Ok(Sent::Page(written)) => {
+            if put_page(alloc, accepted, context, flow, &written, out)? {
+                return Ok(());
+            }
+            put_best(alloc, accepted, context, flow, item, out)
+        }
+        Ok(Sent::Filling(found)) => {
+            put_filling(alloc, context, flow, found, out)?;
+            Ok(())
+        }
+        Err(fault) => Err(fault),
+    }
+}
+
+/// The same by a filling.
+fn put_best(
     alloc: Global,
     accepted: &Accepted,
     context: &mut Context,
@@ -123,15 +157,63 @@ fn put_packet(
         Ok(found) => found,
         Err(fault) => return Err(fault),
     };
+    put_filling(alloc, context, flow, found, out)?;
+    Ok(())
+}
+
+/// Adds the packed bits of what a page shows, after the flow's octet, and moves the context on. False where the context, which stays then, has not the paths of
+/// the page first: then nothing is added. Where memory runs out nothing changes.
+///
+/// All room is made before anything changes.
+fn put_page(
+    alloc: Global,
+    accepted: &Accepted,
+    context: &mut Context,
+    flow: u8,
+    written: &WrittenPage,
+    out: &mut Vec<u8>,
+) -> Result<bool, AllocError>
+    ensures ok { IfOk result (λ is. IsTrue is → (f : Filling) → ShowsPacked accepted.now f written.now → AddsPacket context.old context.new flow f out.old.items out.new.items) }
+    ensures stays { IfOk result (λ is. is ≡ false → (context.new ≡ context.old) × (out.new.items ≡ out.old.items)) }
+    ensures err { OnErr result ((context.new ≡ context.old) × (out.new.items ≡ out.old.items)) }
+{
+    out.reserve((written.packed.len() + 7) / 8 + 1)?;
+    if !goes_on(alloc, accepted, context, &written.page)? {
+        return Ok(false);
+    }
+    push_packet(flow, &written.packed, out);
+    Ok(true)
+}
+
+/// The same of a filling.
+fn put_filling(
+    alloc: Global,
+    context: &mut Context,
+    flow: u8,
+    found: Packed,
+    out: &mut Vec<u8>,
+) -> Result<(), AllocError>
+    requires { found.packed ≡ packed found.filling }
+    ensures ok { OnOk result (AddsPacket context.old context.new flow found.filling out.old.items out.new.items) }
+    ensures err { OnErr result ((context.new ≡ context.old) × (out.new.items ≡ out.old.items)) }
+{
     let Packed { filling, packed } = found;
     out.reserve((packed.len() + 7) / 8 + 1)?;
     advance(alloc, context, &filling)?;
+    push_packet(flow, &packed, out);
+    Ok(())
+}
+
+/// Adds the flow's octet, and then those that hold the bits, where there is room for them.
+fn push_packet(flow: u8, bits: &Bits, out: &mut Vec<u8>)
+    requires { vec_len out.old + ((length bits.now + 7) / 8 + 1) ≤ vec_capacity out.old }
+    ensures { (octets : List ℕ) × Holds octets bits.now × (out.new.items ≡ out.old.items ++ flow ∷ octets) }
+{
     match out.push(flow) {
         Ok(()) => {}
         Err(_) => unreachable!(),
     }
-    push_bits(&packed, out);
-    Ok(())
+    push_bits(bits, out);
 }
 
 /// Adds the octets that hold bits, the last filled with zero bits, where there is room for them.

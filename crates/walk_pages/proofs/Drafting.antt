@@ -116,11 +116,7 @@ put_called frame i w t u c old new put up down inner u_is c_is called = put_goes
       inside = record { page = w.page; page_is = inner; is_page = rw (up, down, u_is, c_is) called.is_page };
     }))
 
--- ---- a field without an encoding
-
-pub valued_goes : (frame : PageFrame) (i : ℕ) (o : Option ℕ) (field : Field) (old new : Draft) → HasValue i o old new → slice_get old.format.now.fields i ≡ Some field → field.encoding ≡ encoding.Bare → GoesOn frame old new
-valued_goes frame i o field old new has here bare = put_plain frame i has.after has.bits [] field old new has.put has.plain here
-    (λ s plain l bears. bare_plain frame.methods.now (bits_at frame.context.now) frame.path.now l field s has.bits [] bare plain has.short refl)
+-- ---- what is solved
 
 equated_holds : (side : Subject → Side → List Bool) (a : Assignment) (t : Attribute) (k : Constraint) (e : Expr) (n : ℤ) → equated t k ≡ Some e → val a e ≡ Some n → a.attribute t ≡ Some n → Holds side a k
 equated_holds side a t (Enforce (Compare s Equal x y) place) e n h value number =
@@ -138,50 +134,48 @@ last_or (x ∷ xs) j k zero at P old new = old zero at
 last_or (x ∷ xs) j k (suc n) at P old new = last_or xs j k n at P (λ m here. old (suc m) here) new
 
 -- what was solved
-pub solved_goes : (i j : ℕ) (e : Expr) (o : Option ℕ) (old mid new : Draft) → HasValue i o old mid → ((n : ℕ) → o ≡ Some n → val (numbers_seen (seen_of old)) e ≡ Some (pos n))
-    → new.format.now ≡ mid.format.now → new.arguments.now ≡ mid.arguments.now → new.fields.items ≡ mid.fields.items → new.solved.items ≡ mid.solved.items ++ j ∷ [] → IsSolved i j e old new
-solved_goes i j e o old mid new has value format_is arguments_are fields_are solved_are frame field constraint here bare there given =
-    let one = valued_goes frame i o field old mid has here bare in
+pub solved_goes : (frame : PageFrame) (i j : ℕ) (e : Expr) (bits : List Bool) (n : ℕ) (old mid new : Draft) → GoesOn frame old mid → HasValue i bits old mid → num bits ≡ n → val (numbers_seen (seen_of old)) e ≡ Some (pos n)
+    → new.format.now ≡ mid.format.now → new.arguments.now ≡ mid.arguments.now → new.fields.items ≡ mid.fields.items → new.solved.items ≡ mid.solved.items ++ j ∷ [] → IsSolved frame i j e old new
+solved_goes frame i j e bits n old mid new one has spelled value format_is arguments_are fields_are solved_are constraint there given =
     record {
       right = λ r.
           moved frame.methods.now (bits_at frame.context.now) frame.path.now mid.format.now new.format.now mid.fields.items new.fields.items mid.arguments.now new.arguments.now (mid.solved.items ++ j ∷ []) new.solved.items
-          format_is fields_are arguments_are solved_are (with_one r (one.right r));
+          format_is fields_are arguments_are solved_are (with_one (one.right r));
       same = record { format_is = format_is ∙ one.same.format_is; arguments_are = arguments_are ∙ one.same.arguments_are };
     }
   where
+    here_set : {A : Type 0} (xs : List A) (k : ℕ) (x y : A) → slice_get xs k ≡ Some x → slice_get (slice_set xs k y) k ≡ Some y
+    here_set [] k x y at = let wrong : None ≡ Some x = at in absurd cc
+    here_set (z ∷ xs) zero x y at = refl
+    here_set (z ∷ xs) (suc k) x y at = here_set xs k x y at
+
+    set_side : shown_side (slice_get (slice_set old.fields.items i has.after) i) Uncompressed ≡ Some bits
+    set_side = ap (λ s. shown_side s Uncompressed) (here_set old.fields.items i has.put.before has.after has.put.before_is) ∙ has.plain.sides_are.uncompressed_is
+
+    moved_side : (x : Subject) (side : Side) (b : List Bool) → seen_side (seen_with (seen_of old) i has.after) x side ≡ Some b → seen_side (seen_of mid) x side ≡ Some b
+    moved_side (subject.Field k) side b at = ap (λ ss. shown_side (slice_get ss k) side) has.put.fields_are ∙ at
+    moved_side subject.This Uncompressed b at = at
+    moved_side subject.This Compressed b at = at
+
     holds : HoldsOn (seen_of mid) constraint
     holds l bears =
         let v = seen_of old in
         let put = has.put in
-        let args : mid.arguments.now ≡ old.arguments.now = put.same.arguments_are in
         let bears_set : Bears l (seen_with v i has.after) = record {
-          arguments_are = bears.arguments_are ∙ args;
+          arguments_are = bears.arguments_are ∙ put.same.arguments_are;
           sides_are = λ x side b at. bears.sides_are x side b (moved_side x side b at);
         } in
         let before : Bears l v = bears_less v i put.before has.after put.before_is (nothing_keeps put.before has.after put.not_up put.not_down) l bears_set in
-        let there_is : shown_side (slice_get (slice_set old.fields.items i has.after) i) Uncompressed ≡ Some has.bits = set_side in
-        let bits_are : side_in l (subject.Field i) Uncompressed ≡ has.bits = bears_set.sides_are (subject.Field i) Uncompressed has.bits there_is in
-        equated_holds (side_in l) (numbers_in l) (attribute_of i Uncompressed measure.Value) constraint e (pos has.number) given (value_on l v before e (pos has.number) (value has.number has.number_is))
-        (ap (λ (b : List Bool). Some (pos (num b))) bits_are ∙ ap (λ n. Some (pos n)) has.spelled)
-      where
-        moved_side : (x : Subject) (side : Side) (b : List Bool) → seen_side (seen_with (seen_of old) i has.after) x side ≡ Some b → seen_side (seen_of mid) x side ≡ Some b
-        moved_side (subject.Field k) side b at = ap (λ ss. shown_side (slice_get ss k) side) has.put.fields_are ∙ at
-        moved_side subject.This side b at = at
+        let bits_are : side_in l (subject.Field i) Uncompressed ≡ bits = bears_set.sides_are (subject.Field i) Uncompressed bits set_side in
+        equated_holds (side_in l) (numbers_in l) (attribute_of i Uncompressed measure.Value) constraint e (pos n) given (value_on l v before e (pos n) value)
+        (ap (λ (b : List Bool). Some (pos (num b))) bits_are ∙ ap (λ k. Some (pos k)) spelled)
 
-        here_set : {A : Type 0} (xs : List A) (k : ℕ) (x y : A) → slice_get xs k ≡ Some x → slice_get (slice_set xs k y) k ≡ Some y
-        here_set [] k x y at = let wrong : None ≡ Some x = at in absurd cc
-        here_set (z ∷ xs) zero x y at = refl
-        here_set (z ∷ xs) (suc k) x y at = here_set xs k x y at
-
-        set_side : shown_side (slice_get (slice_set old.fields.items i has.after) i) Uncompressed ≡ Some has.bits
-        set_side = ap (λ s. shown_side s Uncompressed) (here_set old.fields.items i has.put.before has.after has.put.before_is) ∙ has.plain.sides_are.uncompressed_is
-
-    with_one : IsRight frame old → IsRight frame mid → AreRead frame.methods.now (bits_at frame.context.now) frame.path.now mid.format.now (seen_of mid) (mid.solved.items ++ j ∷ [])
-    with_one old_right r = record {
+    with_one : IsRight frame mid → AreRead frame.methods.now (bits_at frame.context.now) frame.path.now mid.format.now (seen_of mid) (mid.solved.items ++ j ∷ [])
+    with_one r = record {
       count = r.count;
       fields = r.fields;
-      constraints = λ n k c at is. last_or mid.solved.items j k n at (λ x. slice_get mid.format.now.constraints x ≡ Some c → HoldsOn (seen_of mid) c) (λ m found. r.constraints m k c found)
-          (λ first. let one : Some constraint ≡ Some c = sym there ∙ ap (λ f. slice_get f.constraints j) (sym has.put.same.format_is) ∙ first in let same : constraint ≡ c = cc in subst (HoldsOn (seen_of mid)) same holds) is;
+      constraints = λ m k c at is. last_or mid.solved.items j k m at (λ x. slice_get mid.format.now.constraints x ≡ Some c → HoldsOn (seen_of mid) c) (λ p found. r.constraints p k c found)
+          (λ first. let one_is : Some constraint ≡ Some c = sym there ∙ ap (λ f. slice_get f.constraints j) (sym has.put.same.format_is) ∙ first in let same : constraint ≡ c = cc in subst (HoldsOn (seen_of mid)) same holds) is;
     }
 
 pub half_up : (c : Option (List Bool)) (o : Option Page) → (out-Shown (roll-Shown record { uncompressed = None; compressed = c; inner = o })).uncompressed ≡ None

@@ -1,3 +1,4 @@
 pub mod Judged
 pub mod Drafting
 pub mod Ending
+pub mod NumbersShown

@@ -1,6 +1,5 @@
 -- What is known of a level that is being read.
 use Rattle.std.specs.Prelude.{◌≡◌, ℕ, ◌≤◌, ℤ, Bool, List, [], length, Option, None, Some, slice_get, slice_set}
-use Rattle.sem_bits.specs.Number.{num}
 use Rattle.sem_context.specs.Entries.{bits_at}
 use Rattle.cert_rules.specs.Rules.{value_given}
 use Rattle.sem_expr.specs.declared.expr.Expr.{Expr}
@@ -9,7 +8,7 @@ use Rattle.sem_profile.specs.declared.profile.Constraint.{Constraint}
 use Rattle.sem_profile.specs.declared.profile.Field.{Field}
 use Rattle.sem_profile.specs.declared.profile.Format.{Format}
 use Rattle.sem_profile.specs.declared.profile.Method.{Method}
-use Rattle.sem_filling.specs.declared.whole_sides.WholeSides.{WholeSides}
+use Rattle.sem_filling.specs.Fillings.{header_bits}
 use Rattle.sem_filling.specs.Entries.{Path, below}
 use Rattle.sem_filling.specs.Fits.{Context, vals}
 use Rattle.sem_pages.specs.declared.frame.PageFrame.{PageFrame}
@@ -50,21 +49,16 @@ pub record GoesOn (frame : PageFrame) (old new : Draft) : Type 0 where
   pub right : IsRight frame old → IsRight frame new
   pub same : IsSame old new
 
--- Of a field nothing was read; it has bits now that spell the number, and none that are sent.
-pub record HasValue (i : ℕ) (o : Option ℕ) (old new : Draft) : Type 0 where
-  pub number : ℕ
-  pub number_is : o ≡ Some number
-  pub bits : List Bool
-  pub spelled : num bits ≡ number
-  pub short : length bits ≤ 64
+-- Of a field nothing was there; it has these bits now, and those that are sent.
+pub record HasValue (i : ℕ) (bits : List Bool) (old new : Draft) : Type 0 where
+  pub down : List Bool
   pub after : Shown
-  pub plain : IsPlain after bits []
+  pub plain : IsPlain after bits down
   pub put : IsPut i after old new
 
--- the constraint of that number, if it says that the field without an encoding has that value, is solved now
-abbrev pub IsSolved : ℕ → ℕ → Expr → Draft → Draft → Type 0
-IsSolved i j e old new = (frame : PageFrame) (d : Field) (c : Constraint) → slice_get old.format.now.fields i ≡ Some d → d.encoding ≡ encoding.Bare →
-    slice_get old.format.now.constraints j ≡ Some c → value_given i c ≡ Some e → GoesOn frame old new
+-- the draft goes on with the constraint of that number, if that says that the field's value is that of the expression
+abbrev pub IsSolved : PageFrame → ℕ → ℕ → Expr → Draft → Draft → Type 0
+IsSolved frame i j e old new = (c : Constraint) → slice_get old.format.now.constraints j ≡ Some c → value_given i c ≡ Some e → GoesOn frame old new
 
 -- the page is that of a filling that fits the frame, with these sides of its whole
 abbrev pub IsWholePage : PageFrame → WholePage → Type 0
@@ -85,11 +79,12 @@ pub record IsCalled (frame : PageFrame) (d : Draft) (i : ℕ) (w : WholePage) : 
 abbrev pub IsSummed : Seen → Field → List Bool → Type 0
 IsSummed v d c = (methods : List Method) (ctx : Context) (path : Path) → ReadsAs methods ctx path v d [] c
 
--- what is seen at the end
-abbrev pub seen_at_end : List Shown → List ℤ → WholeSides → Seen
-seen_at_end ss args w = record { fields = ss; arguments = args; whole = Some w }
+-- what is seen once the header is known
+abbrev pub seen_with_header : List Shown → List ℤ → List Bool → Seen
+seen_with_header ss args h = record { fields = ss; arguments = args; header = Some h; packed = None }
 
--- the fields are as right as they were, and the level has the same sides
-pub record AreEnded (format : Format) (args : List ℤ) (w : WholeSides) (old new : List Shown) : Type 0 where
-  pub read : (methods : List Method) (ctx : Context) (path : Path) (solved : List ℕ) → AreRead methods ctx path format (seen_at_end old args w) solved → AreRead methods ctx path format (seen_at_end new args w) solved
-  pub level_is : level_by format.fields new ≡ level_by format.fields old
+-- the fields are as right as they were, and the header is the same
+pub record AreEnded (format : Format) (args : List ℤ) (h : List Bool) (old new : List Shown) : Type 0 where
+  pub read : (methods : List Method) (ctx : Context) (path : Path) (solved : List ℕ) → AreRead methods ctx path format (seen_with_header old args h) solved → AreRead methods ctx path format (seen_with_header new args h) solved
+  pub count_is : length new ≡ length old
+  pub header_is : header_bits (level_by format.fields new) ≡ header_bits (level_by format.fields old)

@@ -1,2 +1,3 @@
 pub mod Drafts
 pub mod Reader
+pub mod Writer

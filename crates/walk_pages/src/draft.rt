@@ -7,19 +7,22 @@ ghost use Rattle.sem_pages.specs.declared.frame.PageFrame.{PageFrame};
 ghost use Rattle.sem_pages.specs.Pages.{IsPlain};
 ghost use Rattle.walk_pages.specs.Drafts as spec;
 
+use crate::choices::Choices;
 use cert_compiled::PageOperation;
 use cert_rules::equations::{length_given, remainder_form, value_given};
 use sem_bits::Cursor;
 use sem_expr::{Expr, Side};
 use sem_filling::WholeSides;
-use sem_pages::{BothSides, Page, PageFrame, Shown, Source, View, Word, coded, natural, value};
+use sem_pages::{
+    BothSides, Page, PageFrame, Shown, Source, View, Word, coded, encoded, natural, value,
+};
 use sem_profile::{Constraint, Encoding, Field, Format, Library};
 use smallvec::SmallVec;
 use sqlite_items::at;
 use std::alloc::{AllocError, Global};
 
 /// A level that is being read: its format, the values of the parameters, the fields so far, how many places after the cursor's what is next of the source
-/// stands, and the constraints that hold of each level that has what is read, by their indices.
+/// stands, the constraints that hold of each level that has what is read, by their indices, and in writing what is left of the number.
 #[derive(Drop)]
 pub(crate) struct Draft<'a> {
     pub(crate) format: &'a Format,
@@ -27,6 +30,7 @@ pub(crate) struct Draft<'a> {
     pub(crate) fields: Vec<Shown>,
     pub(crate) ahead: usize,
     pub(crate) solved: SmallVec<usize, 4>,
+    pub(crate) choices: Choices,
 }
 
 /// A call: the field that calls, and whether the page inside takes from the source.
@@ -45,6 +49,7 @@ pub(crate) struct WholePage {
 
 impl<'a> Draft<'a> {
     /// Nothing is read of the format.
+    #[inline(always)]
     pub(crate) fn new(
         alloc: Global,
         format: &'a Format,
@@ -59,6 +64,7 @@ impl<'a> Draft<'a> {
             fields: blank(alloc, format.fields.len())?,
             ahead: from,
             solved: SmallVec::new(alloc),
+            choices: Choices::NONE,
         })
     }
 
@@ -91,7 +97,10 @@ impl<'a> Draft<'a> {
                 field,
                 length,
                 value,
-            } => self.solve(alloc, *field, *length, *value),
+            } => match self.count_given(*field, *length) {
+                Some(count) => self.solve(alloc, frame, *field, count, *value),
+                None => Ok(false),
+            },
             PageOperation::Call { .. } => Ok(false),
         }
     }
@@ -110,7 +119,7 @@ impl<'a> Draft<'a> {
 
     /// Reads a field by its library method.
     #[inline(always)]
-    fn code(
+    pub(crate) fn code(
         &mut self,
         alloc: Global,
         frame: &PageFrame<'_>,
@@ -137,6 +146,31 @@ impl<'a> Draft<'a> {
         Ok(true)
     }
 
+    /// Gives a field that uncompressed side, and the packed one by its encoding.
+    #[inline(always)]
+    pub(crate) fn write(
+        &mut self,
+        alloc: Global,
+        frame: &PageFrame<'_>,
+        field: usize,
+        up: Word,
+    ) -> Result<bool, AllocError>
+        ensures goes { IfOk result (λ b. IsTrue b → spec.GoesOn frame.now self.old self.new) }
+        ensures value { IfOk result (λ b. IsTrue b → spec.HasValue field up self.old self.new) }
+    {
+        let Some(declared) = self.format.fields.get(field) else {
+            return Ok(false);
+        };
+        let Some(down) = encoded(alloc, frame, &self.view(), declared, up)? else {
+            return Ok(false);
+        };
+        let both = BothSides {
+            uncompressed: up,
+            compressed: down,
+        };
+        Ok(self.put(field, plain(both)))
+    }
+
     /// Puts the page inside the field, with both sides. False where one has more than 64 bits.
     pub(crate) fn put_page(&mut self, inside: Inside, found: WholePage) -> bool
         ensures { (frame : PageFrame) → IsTrue result → spec.IsCalled frame self.old inside.field found → spec.GoesOn frame self.old self.new }
@@ -160,9 +194,23 @@ impl<'a> Draft<'a> {
         true
     }
 
+    /// The next digit of the number, where the step goes on in so many ways.
+    pub(crate) fn choose(&mut self, ways: u64) -> Option<u64>
+        ensures { (frame : PageFrame) → spec.GoesOn frame self.old self.new }
+    {
+        self.choices.next(ways)
+    }
+
+    /// Begins with a number among so many candidates of the format.
+    pub(crate) fn begin(&mut self, choices: Choices)
+        ensures { (frame : PageFrame) → spec.GoesOn frame self.old self.new }
+    {
+        self.choices = choices;
+    }
+
     /// Goes on in the source, where it takes.
     #[inline(always)]
-    fn pass(&mut self, takes: bool, count: usize)
+    pub(crate) fn pass(&mut self, takes: bool, count: usize)
         ensures { (frame : PageFrame) → spec.GoesOn frame self.old self.new }
     {
         if takes {
@@ -204,7 +252,7 @@ impl<'a> Draft<'a> {
     }
 
     /// Passes the packed side of the field, which is read.
-    fn skip(&mut self, field: usize) -> bool
+    pub(crate) fn skip(&mut self, field: usize) -> bool
         ensures { (frame : PageFrame) → IsTrue result → spec.GoesOn frame self.old self.new }
     {
         let Some(count) = self.packed_count(field) else {
@@ -214,6 +262,24 @@ impl<'a> Draft<'a> {
         true
     }
 
+    /// Passes the uncompressed side of the field, which is written.
+    pub(crate) fn skip_up(&mut self, field: usize) -> bool
+        ensures { (frame : PageFrame) → IsTrue result → spec.GoesOn frame self.old self.new }
+    {
+        let Some(count) = self.header_count(field) else {
+            return false;
+        };
+        self.pass(true, count);
+        true
+    }
+
+    fn header_count(&self, field: usize) -> Option<usize> {
+        match &at(self.fields.as_slice(), field)?.uncompressed {
+            Some(word) => Some(word.len()),
+            None => None,
+        }
+    }
+
     fn packed_count(&self, field: usize) -> Option<usize> {
         match &at(self.fields.as_slice(), field)?.compressed {
             Some(word) => Some(word.len()),
@@ -221,76 +287,61 @@ impl<'a> Draft<'a> {
         }
     }
 
-    /// Gives a field without an encoding the length that the one constraint says, and the value that the other one says.
+    /// Gives the field so many bits that spell the value which the constraint says.
     #[inline(never)]
-    fn solve(
+    pub(crate) fn solve(
         &mut self,
         alloc: Global,
+        frame: &PageFrame<'_>,
         field: usize,
-        length: usize,
+        count: usize,
         number: usize,
     ) -> Result<bool, AllocError>
-        ensures { IfOk result (λ b. (frame : PageFrame) → IsTrue b → spec.GoesOn frame self.old self.new) }
+        ensures { IfOk result (λ b. IsTrue b → spec.GoesOn frame.now self.old self.new) }
     {
-        let Some(declared) = self.format.fields.get(field) else {
-            return Ok(false);
-        };
-        if !is_bare(declared) {
-            return Ok(false);
-        }
-        let Some(count) = self.count_given(field, length) else {
-            return Ok(false);
-        };
         let Some(constraint) = self.format.constraints.get(number) else {
             return Ok(false);
         };
         match value_given(field, constraint.get()) {
-            Some(given) => self.solve_equation(field, number, count, given),
+            Some(given) => self.solve_equation(alloc, frame, field, count, number, given),
             None => {
-                let found = remaining(alloc, &self.view(), field, constraint.get());
-                Ok(self.put_value(field, count, found))
+                let Some(found) = remaining(alloc, &self.view(), field, constraint.get()) else {
+                    return Ok(false);
+                };
+                let Some(up) = Word::spelled(count, found) else {
+                    return Ok(false);
+                };
+                self.write(alloc, frame, field, up)
             }
         }
     }
 
     /// The length that the constraint gives the uncompressed side of the field.
-    fn count_given(&self, field: usize, length: usize) -> Option<usize> {
+    pub(crate) fn count_given(&self, field: usize, length: usize) -> Option<usize> {
         let constraint = self.format.constraints.get(length)?;
         let given = length_given(field, Side::Uncompressed, constraint.get())?;
         usize::try_from(natural(given, &self.view())?).ok()
     }
 
-    /// Gives the field a value of that length.
-    fn put_value(&mut self, field: usize, count: usize, found: Option<u64>) -> bool
-        ensures { IsTrue result → spec.HasValue field found self.old self.new }
-    {
-        let Some(number) = found else {
-            return false;
-        };
-        let Some(uncompressed) = Word::spelled(count, number) else {
-            return false;
-        };
-        self.put(
-            field,
-            plain(BothSides {
-                uncompressed,
-                compressed: Word::new(),
-            }),
-        )
-    }
-
-    /// Gives the field the value that the constraint says, which is solved then.
+    /// Gives the field the value of the expression, by which the constraint is solved then.
     fn solve_equation(
         &mut self,
+        alloc: Global,
+        frame: &PageFrame<'_>,
         field: usize,
-        number: usize,
         count: usize,
+        number: usize,
         given: &Expr,
     ) -> Result<bool, AllocError>
-        ensures { IfOk result (λ b. IsTrue b → spec.IsSolved field number given.now self.old self.new) }
+        ensures { IfOk result (λ b. IsTrue b → spec.IsSolved frame.now field number given.now self.old self.new) }
     {
-        let found = natural(given, &self.view());
-        if !self.put_value(field, count, found) {
+        let Some(found) = natural(given, &self.view()) else {
+            return Ok(false);
+        };
+        let Some(up) = Word::spelled(count, found) else {
+            return Ok(false);
+        };
+        if !self.write(alloc, frame, field, up)? {
             return Ok(false);
         }
         self.solved.push(number)?;
@@ -299,6 +350,7 @@ impl<'a> Draft<'a> {
 }
 
 /// So many fields of which nothing is read.
+#[inline(always)]
 fn blank(alloc: Global, count: usize) -> Result<Vec<Shown>, AllocError>
     ensures { IfOk result (λ v. v.items ≡ replicate count spec.blank) }
 {
@@ -333,14 +385,13 @@ fn plain(both: BothSides) -> Shown
     }
 }
 
-fn is_bare(field: &Field) -> bool
-    ensures { IsTrue result → field.now.encoding ≡ encoding.Bare }
-{
-    matches!(field.encoding.get(), Encoding::Bare)
-}
-
 /// The value of the field that the constraint leaves of a remainder.
-fn remaining(alloc: Global, view: &View<'_>, field: usize, constraint: &Constraint) -> Option<u64> {
+pub(crate) fn remaining(
+    alloc: Global,
+    view: &View<'_>,
+    field: usize,
+    constraint: &Constraint,
+) -> Option<u64> {
     let given = remainder_form(alloc, field, constraint)?;
     let left = value(given.left, view)?;
     let more = value(given.more, view)?;

@@ -1,21 +1,24 @@
 //! The end of a level that is read.
 
-ghost use Rattle.std.specs.Prelude.{◌≡◌, ℕ, Some, IfOk, IfSome, IsTrue, slice_get};
+ghost use Rattle.std.specs.Prelude.{◌≡◌, ℕ, List, Bool, Some, IfOk, IfSome, IsTrue, slice_get};
 ghost use Rattle.sem_filling.specs.Fits.{format_at};
+ghost use Rattle.sem_pages.specs.declared.page.Shown.{out-Shown};
 ghost use Rattle.sem_pages.specs.Pages as pages;
 ghost use Rattle.sem_profile.specs.declared.profile.Constraint.{Constraint};
 ghost use Rattle.walk_pages.specs.Drafts as spec;
 
 use crate::draft::{Draft, WholePage};
+use sem_bits::Bits;
 use sem_filling::WholeSides;
 use sem_pages::{
-    Page, PageFrame, Shown, View, Word, are_unsent, constraint_holds, is_summed, whole_of,
+    Page, PageFrame, Shown, View, Word, are_unsent, constraint_holds, header_of, packed_of, summed,
 };
-use sem_profile::{Constraint, CrcArguments, Encoding, Field, Format, Library, Shared};
+use sem_profile::{Constraint, Encoding, Field, Format, Library, Shared};
 use sqlite_items::Items;
 use std::alloc::{AllocError, Global};
 
-/// The page of a draft of the frame's method, where each field of the format is read, and all else holds that the format says.
+/// The page of a draft of the frame's method, where each field of the format is there, and all else holds that the format says.
+#[inline(always)]
 pub(crate) fn ended(
     alloc: Global,
     frame: &PageFrame<'_>,
@@ -33,17 +36,25 @@ pub(crate) fn ended(
         fields,
         ahead: _ahead,
         solved,
+        choices: _choices,
     } = draft;
     let mut fields = fields;
-    let Some(whole) = whole_of(alloc, format, fields.as_slice())? else {
-        return Ok(None);
-    };
-    if !end_sums(alloc, format, arguments, &mut fields, &whole)? {
+    if fields.len() != format.fields.len() {
         return Ok(None);
     }
+    let Some(header) = header_of(alloc, format.fields.as_slice(), fields.as_slice())? else {
+        return Ok(None);
+    };
+    if !end_sums(alloc, format, arguments, &mut fields, &header)? {
+        return Ok(None);
+    }
+    let Some(packed) = packed_of(alloc, format, fields.as_slice())? else {
+        return Ok(None);
+    };
     if !are_unsent(format.listing.get().as_slice(), fields.as_slice()) {
         return Ok(None);
     }
+    let whole = WholeSides { header, packed };
     let view = View::at_end(fields.as_slice(), arguments, &whole);
     if !constraints_hold(format.constraints.as_slice(), &view, solved.as_slice()) {
         return Ok(None);
@@ -88,18 +99,18 @@ fn is_solved(solved: &[usize], number: usize) -> bool
     solved.iter().any(|known| *known == number)
 }
 
-/// Whether each field whose uncompressed side isn't read is a checksum, which is right. It has that side, without bits, then.
+/// Whether each field whose uncompressed side isn't there is a checksum, which is right where it is there. It has both sides then, the one without bits.
 fn end_sums(
     alloc: Global,
     format: &Format,
     arguments: &[i64],
     fields: &mut Vec<Shown>,
-    whole: &WholeSides,
+    header: &Bits,
 ) -> Result<bool, AllocError>
-    ensures { IfOk result (λ b. IsTrue b → spec.AreEnded format.now arguments.now whole.now fields.old.items fields.new.items) }
+    ensures { IfOk result (λ b. IsTrue b → spec.AreEnded format.now arguments.now header.now fields.old.items fields.new.items) }
 {
     for i in 0..fields.len() {
-        if !is_ended(alloc, format, arguments, fields, whole, i)? {
+        if !is_ended(alloc, format, arguments, fields, header, i)? {
             return Ok(false);
         }
     }
@@ -113,10 +124,10 @@ fn is_ended(
     format: &Format,
     arguments: &[i64],
     fields: &mut Vec<Shown>,
-    whole: &WholeSides,
+    header: &Bits,
     index: usize,
 ) -> Result<bool, AllocError>
-    ensures { IfOk result (λ b. IsTrue b → spec.AreEnded format.now arguments.now whole.now fields.old.items fields.new.items) }
+    ensures { IfOk result (λ b. IsTrue b → spec.AreEnded format.now arguments.now header.now fields.old.items fields.new.items) }
 {
     let Some(shown) = fields.get(index) else {
         return Ok(false);
@@ -124,35 +135,41 @@ fn is_ended(
     if shown.uncompressed.is_some() {
         return Ok(true);
     }
-    let Some(packed) = shown.compressed else {
-        return Ok(false);
-    };
     let Some(field) = format.fields.get(index) else {
         return Ok(false);
     };
-    let view = View::at_end(fields.as_slice(), arguments, whole);
-    if !is_right_sum(alloc, &view, field, &packed)? {
+    let view = View::with_header(fields.as_slice(), arguments, header);
+    let Some(sum) = sum_of(alloc, &view, field)? else {
+        return Ok(false);
+    };
+    if !is_sum(&fields[index], &sum) {
         return Ok(false);
     }
     fields[index] = Shown {
         uncompressed: Some(Word::new()),
-        compressed: Some(packed),
+        compressed: Some(sum),
         inner: None,
     };
     Ok(true)
 }
 
-/// Whether the field is a checksum, and these are its bits.
-fn is_right_sum(
-    alloc: Global,
-    view: &View<'_>,
-    field: &Field,
-    packed: &Word,
-) -> Result<bool, AllocError>
-    ensures { IfOk result (λ b. IsTrue b → spec.IsSummed view.now field.now packed.now) }
+/// Whether the packed side isn't there, or is this checksum.
+#[inline(always)]
+fn is_sum(shown: &Shown, sum: &Word) -> bool
+    ensures { IsTrue result → (b : List Bool) → (out-Shown shown.now).compressed ≡ Some b → b ≡ sum.now }
+{
+    match &shown.compressed {
+        Some(word) => word.is(sum),
+        None => true,
+    }
+}
+
+/// The packed side of a field that is a checksum.
+fn sum_of(alloc: Global, view: &View<'_>, field: &Field) -> Result<Option<Word>, AllocError>
+    ensures { IfOk result (λ o. IfSome o (spec.IsSummed view.now field.now)) }
 {
     match field.encoding.get() {
-        Encoding::Library(Library::Crc(crc)) => is_summed(alloc, view, crc.get(), packed),
-        _ => Ok(false),
+        Encoding::Library(Library::Crc(crc)) => summed(alloc, view, crc.get()),
+        _ => Ok(None),
     }
 }

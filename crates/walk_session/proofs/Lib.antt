@@ -5,3 +5,4 @@ mod Steps
 mod ReadingBack
 mod ReadingHeld
 pub mod Crossing
+pub mod Packing

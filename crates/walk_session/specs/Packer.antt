@@ -52,6 +52,18 @@ pub record IsTooLong (a : Accepting) (ctx : Entries) (it : Item) (room n : ℕ) 
   pub bits_are : n ≡ length p.packed
   pub short : room < (n + 7) / 8
 
+-- what was packed was written to the room, so many bits, and the context has gone on
+pub record IsSentAs (old new : Entries) (p : Packed) (room written : List ℕ) (n : ℕ) : Type 0 where
+  pub output : IsWritten p.packed room written
+  pub bits_are : n ≡ length p.packed
+  pub new_is : new ≡ next old p.filling
+
+-- there is no room for what was packed, or memory ran out
+abbrev pub BlamesRoom : PackRefusal → Packed → ℕ → Type 0
+BlamesRoom (NoRoom n) p room = (n ≡ length p.packed) × (room < (n + 7) / 8)
+BlamesRoom OutOfMemory p room = Unit {0}
+BlamesRoom e p room = ⊥
+
 -- what is told for a fault of `pack`
 abbrev pub refusal_of : PackFault → PackRefusal
 refusal_of pack.HeaderLength = HeaderLength

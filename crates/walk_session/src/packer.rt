@@ -14,7 +14,8 @@ use sem_context::Context;
 use sem_filling::{Item, advance};
 use sem_profile::AskedField;
 use std::alloc::Global;
-use walk_engine::{PackFault, Packed, pack};
+use walk_engine::{PackFault, Packed, Sent, pack, pack_page};
+use walk_pages::goes_on;
 use walk_robust::{Robust, RobustFault};
 
 /// The item of a header and of the values of the asked fields, in octets.
@@ -67,17 +68,61 @@ fn send_plain(
     ensures stays { OnErr result ((context.new ≡ context.old) × (room.new ≡ room.old)) }
     ensures fault { IfErr result (λ e. spec.BlamesPlain e accepted.now context.old item.now (length room.old)) }
 {
-    match pack(alloc, accepted, context, item) {
-        Ok(Packed { filling, packed }) => {
-            if !has_room(packed.len(), room) {
-                return Err(PackRefusal::NoRoom(packed.len()));
+    // In an empty context no page tells what is left in it.
+    if context.len() == 0 {
+        return send_best(alloc, accepted, context, item, room);
+    }
+    match pack_page(alloc, accepted, context, item) {
+        Ok(Sent::Page(written)) => {
+            if !has_room(written.packed.len(), room) {
+                return Err(PackRefusal::NoRoom(written.packed.len()));
             }
-            advance(alloc, context, &filling)?;
-            write_bits(&packed, room);
-            Ok(packed.len())
+            if !goes_on(alloc, accepted, context, &written.page)? {
+                return send_best(alloc, accepted, context, item, room);
+            }
+            write_bits(&written.packed, room);
+            Ok(written.packed.len())
         }
+        Ok(Sent::Filling(found)) => put(alloc, context, &found, room),
         Err(fault) => Err(refusal_of(fault)),
     }
+}
+
+/// The same by a filling.
+fn send_best(
+    alloc: Global,
+    accepted: &Accepted,
+    context: &mut Context,
+    item: &Item,
+    room: &mut [u8],
+) -> Result<usize, PackRefusal>
+    ensures ok { IfOk result (spec.IsSentPlain accepted.now context.old context.new item.now room.old room.new) }
+    ensures stays { OnErr result ((context.new ≡ context.old) × (room.new ≡ room.old)) }
+    ensures fault { IfErr result (λ e. spec.BlamesPlain e accepted.now context.old item.now (length room.old)) }
+{
+    match pack(alloc, accepted, context, item) {
+        Ok(found) => put(alloc, context, &found, room),
+        Err(fault) => Err(refusal_of(fault)),
+    }
+}
+
+/// Writes what was packed to the start of the room, and goes on. A refusal changes neither. How many bits the packet has.
+fn put(
+    alloc: Global,
+    context: &mut Context,
+    found: &Packed,
+    room: &mut [u8],
+) -> Result<usize, PackRefusal>
+    ensures ok { IfOk result (spec.IsSentAs context.old context.new found.now room.old room.new) }
+    ensures stays { OnErr result ((context.new ≡ context.old) × (room.new ≡ room.old)) }
+    ensures fault { IfErr result (λ e. spec.BlamesRoom e found.now (length room.old)) }
+{
+    if !has_room(found.packed.len(), room) {
+        return Err(PackRefusal::NoRoom(found.packed.len()));
+    }
+    advance(alloc, context, &found.filling)?;
+    write_bits(&found.packed, room);
+    Ok(found.packed.len())
 }
 
 /// The same for all that a receiver may hold. Room is wanted for any packet of the profile.

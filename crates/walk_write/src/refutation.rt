@@ -355,12 +355,24 @@ fn is_other(
 fn is_telling(accepted: &Accepted, told: &Premises<'_>, encoding: &Encoding) -> bool {
     match encoding {
         Encoding::Library(library) => match library {
-            Library::UncompressedValue { .. } => true,
+            Library::UncompressedValue { value, .. } => {
+                !told.choices.is_empty() || is_without_fields(value)
+            }
             Library::Static | Library::Lsb { .. } => told.choices.is_empty(),
             _ => false,
         },
         Encoding::Call { method, .. } => !has_more(accepted, *method),
         Encoding::Bare => false,
+    }
+}
+
+/// Whether no field is asked for: before any choice a value is told of such an expression alone.
+fn is_without_fields(expr: &Expr) -> bool {
+    match expr {
+        Expr::Number(_, _) | Expr::Parameter(_, _) => true,
+        Expr::Attribute(_, _) => false,
+        // Of a long sum the last term is on the right.
+        Expr::Binary(_, _, left, right) => is_without_fields(right) && is_without_fields(left),
     }
 }
 
@@ -409,10 +421,14 @@ fn lacks_news(
     requires within { begin ≤ length source.now.left }
     ensures { IfOk result (λ is. IsTrue is → spec.Lacks place.now.accepted.now.profile (numbers told.now) encoding.now (drop begin source.now.left)) }
 {
-    if let Encoding::Call { method, arguments } = encoding {
-        if has_more(place.accepted, *method) || !told.are_news(arguments.as_slice()) {
-            return Ok(false);
+    match encoding {
+        Encoding::Call { method, arguments } => {
+            if has_more(place.accepted, *method) || !told.are_news(arguments.as_slice()) {
+                return Ok(false);
+            }
         }
+        Encoding::Library(Library::Static | Library::Lsb { .. }) => return Ok(false),
+        _ => {}
     }
     lacks(
         DEPTH_LIMIT,

@@ -1,16 +1,26 @@
-use Rattle.std.proofs.Common.{◌+◌, ◌/◌, length, rules, arith}
+use Rattle.std.proofs.Common.{◌+◌, ◌/◌, length, arith}
 use Rattle.walk_session.proofs.Writing.{no_room}
+use Rattle.walk_session.proofs.Packing.{filling_packed, page_sent, page_too_long, put_plain, put_blames}
 use Rattle.walk_session.proofs.packer.send_plain.Goals as goal
 
 pub returns-then-not-has_room-clause-fault : goal.returns-then-not-has_room-clause-fault
-returns-then-not-has_room-clause-fault c = record {
-  p = c.in-Ok.field-0;
-  packed = c.in-Ok.ensures.packed;
-  bits_are = search rules;
-  short = (
-      let short = no_room ((c.len.result + 7) / 8) (length c.args.room.now) c.if-not-has_room.ensures.1 in
-      let n = c.len.ensures.value in
-      let m = c.len-then-not-has_room.ensures.value in
-      omega (arith, n, m, short)
-      );
-}
+returns-then-not-has_room-clause-fault c =
+    let short = no_room ((c.len-in-Ok-Page.result + 7) / 8) (length c.args.room.now) c.if-not-has_room.ensures.1 in
+    let n = c.len-in-Ok-Page.ensures.value in
+    let m = c.len-then-not-has_room.ensures.value in
+    page_too_long c.args.accepted.now c.args.context.now c.args.item.now c.in-Ok-Page.written (rw c.in-Ok-Page.field-0-is at c.in-Ok-Page.ensures.sent) (length c.args.room.now) c.len-then-not-has_room.result m (omega (arith, n, m, short))
+
+pub returns-else-not-branch-clause-ok : goal.returns-else-not-branch-clause-ok
+returns-else-not-branch-clause-ok c =
+    page_sent c.args.accepted.now c.args.context.now c.args.item.now c.in-Ok-Page.written (rw c.in-Ok-Page.field-0-is at c.in-Ok-Page.ensures.sent) c.goes_on.new.context c.args.room.now c.write_bits.new.room c.len-in-Ok-Page-2.result
+    c.write_bits.ensures c.len-in-Ok-Page-2.ensures.value (c.in_ok-goes_on-in-Ok-Page.ensures.ok c.if-not-branch.false)
+
+pub returns-in-Ok-Filling-clause-ok : goal.returns-in-Ok-Filling-clause-ok
+returns-in-Ok-Filling-clause-ok c =
+    put_plain c.args.accepted.now c.args.context.now c.args.item.now c.put.new.context c.in-Ok-Filling.found c.args.room.now c.put.new.room c.put.result
+    (filling_packed c.args.accepted.now c.args.context.now c.args.item.now c.in-Ok-Filling.found (rw c.in-Ok-Filling.field-0-is at c.in-Ok-Filling.ensures.sent)) c.put.ensures.ok
+
+pub returns-in-Ok-Filling-clause-fault : goal.returns-in-Ok-Filling-clause-fault
+returns-in-Ok-Filling-clause-fault c =
+    put_blames c.args.accepted.now c.args.context.now c.args.item.now c.in-Ok-Filling.found (length c.args.room.now) c.put.result
+    (filling_packed c.args.accepted.now c.args.context.now c.args.item.now c.in-Ok-Filling.found (rw c.in-Ok-Filling.field-0-is at c.in-Ok-Filling.ensures.sent)) c.put.ensures.fault

@@ -1,0 +1,9 @@
+use Rattle.std.proofs.Common.{◌-◌}
+use Rattle.walk_engine.proofs.Searching.{Searched}
+use Rattle.walk_engine.proofs.sender.first_sent.Given as goal
+
+abbrev pub invariant-loop-number : goal.invariant-loop-number
+invariant-loop-number l = Searched l.accepted l.context l.item 0 l.count l.number
+
+abbrev pub decreases-loop-number : goal.decreases-loop-number
+decreases-loop-number l = l.count - l.number

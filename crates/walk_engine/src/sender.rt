@@ -1,0 +1,140 @@
+//! From an item to packed bits, by a page where that is told at once.
+
+ghost use Rattle.std.specs.Prelude.{◌≡◌, ◌<◌, ◌≤◌, Err, IsTrue, IfOk, IfErr, IfSome, IfNone, length};
+ghost use Rattle.sem_filling.specs.declared.filling.Filling as filling;
+ghost use Rattle.sem_pages.specs.Pages.{Shows};
+ghost use Rattle.sem_profile.specs.HeaderLimit.{header_limit};
+ghost use Rattle.walk_engine.specs.Searching as searching;
+ghost use Rattle.walk_engine.specs.Sending as spec;
+ghost use Rattle.walk_engine.specs.Writing as writing;
+
+use crate::asked::wrong_asked;
+use crate::search::{Packed, Tried, looked_past, try_number, walked};
+use crate::writer::PackFault;
+use cert_accepted::Accepted;
+use cert_candidates::Candidates;
+use sem_context::Context;
+use sem_filling::Item;
+use sem_pages::Page;
+use sem_profile::HEADER_LIMIT;
+use std::alloc::{AllocError, Global};
+use walk_pages::{WrittenPage, has_operations, page_number, write_page};
+
+/// What was packed: a page that shows the best filling, or that itself, each with the packed bits.
+#[derive(Drop)]
+pub enum Sent {
+    Page(WrittenPage),
+    Filling(Packed),
+}
+
+/// The same as `pack`, for who needs no filling: it is a page where one is written at once.
+pub fn pack_page(
+    alloc: Global,
+    accepted: &Accepted,
+    context: &Context,
+    item: &Item,
+) -> Result<Sent, PackFault>
+    ensures sent { IfOk result (spec.IsPackedAs accepted.now context.now item.now) }
+    // as for `pack`
+    ensures fault { IfErr result (λ e. writing.Blames e accepted.now context.now item.now) }
+    ensures long { header_limit < length item.now.header → result ≡ Err PackFault.HeaderLength }
+{
+    if item.header.len() > HEADER_LIMIT {
+        return Err(PackFault::HeaderLength);
+    }
+    if let Some(name) = wrong_asked(accepted.profile().asked(), item.asked.as_slice()) {
+        return Err(PackFault::Asked(name.share()?));
+    }
+    match first_sent(alloc, accepted, context, item)? {
+        Some(found) => Ok(found),
+        None => Err(PackFault::NoFormat),
+    }
+}
+
+/// The first candidate that fits and has the item, or None where there is none.
+fn first_sent(
+    alloc: Global,
+    accepted: &Accepted,
+    context: &Context,
+    item: &Item,
+) -> Result<Option<Sent>, AllocError>
+    requires { length item.now.header ≤ header_limit }
+    ensures found { IfOk result (λ o. IfSome o (spec.IsBestSent accepted.now context.now item.now)) }
+    ensures none { IfOk result (λ o. IfNone o (searching.NoneFrom accepted.now context.now item.now 0)) }
+{
+    accepted.keeps();
+    let profile = accepted.profile();
+    profile.keeps();
+    let count = accepted.counts()[profile.top()];
+    let mut number = 0;
+    while number < count {
+        number += looked_past(alloc, accepted, context, item, number)?;
+        if number < count {
+            if let Some(written) = written(alloc, accepted, context, item, number)? {
+                return Ok(Some(Sent::Page(written)));
+            }
+            match not_written(alloc, accepted, context, item, number)? {
+                Tried::Found(packed) => return Ok(Some(Sent::Filling(packed))),
+                Tried::Passed(skipped) => number += skipped,
+            }
+        }
+    }
+    Ok(None)
+}
+
+/// What a candidate tells that is written by no page. Where there are operations for it, it mostly fails, and nothing is drawn up for it.
+fn not_written(
+    alloc: Global,
+    accepted: &Accepted,
+    context: &Context,
+    item: &Item,
+    number: u64,
+) -> Result<Tried, AllocError>
+    requires short { length item.now.header ≤ header_limit }
+    requires below { searching.IsBelow accepted.now number }
+    ensures { IfOk result (searching.IsTried accepted.now context.now item.now number) }
+{
+    if has_operations(accepted, number) {
+        walked(alloc, accepted, context, item, number)
+    } else {
+        try_number(alloc, accepted, context, item, number)
+    }
+}
+
+/// The page of the candidate with this number, where it is written at once.
+fn written(
+    alloc: Global,
+    accepted: &Accepted,
+    context: &Context,
+    item: &Item,
+    number: u64,
+) -> Result<Option<WrittenPage>, AllocError>
+    ensures { IfOk result (λ o. IfSome o (spec.IsWrittenFor accepted.now context.now item.now number)) }
+{
+    accepted.keeps();
+    accepted.profile().keeps();
+    let Some(written) = write_page(alloc, accepted, context, item, number)? else {
+        return Ok(None);
+    };
+    let has_it = has_number(alloc, accepted, &written.page, number);
+    if has_it { Ok(Some(written)) } else { Ok(None) }
+}
+
+/// Whether what the page shows has the number, as far as that is told.
+fn has_number(alloc: Global, accepted: &Accepted, page: &Page, number: u64) -> bool
+    ensures { IsTrue result → (f : filling.Filling) → Shows accepted.now.profile.methods accepted.now.profile.top page.now f → searching.number_in accepted.now f ≡ number }
+{
+    accepted.keeps();
+    let profile = accepted.profile();
+    profile.keeps();
+    let candidates = Candidates {
+        methods: profile.methods(),
+        entries: accepted.certificate().methods(),
+        counts: accepted.counts(),
+        spans: accepted.spans(),
+    };
+    match page_number(page, alloc, &candidates, profile.top()) {
+        Some(own) => own == number,
+        None => false,
+    }
+}

@@ -1,0 +1,23 @@
+use Rattle.std.proofs.Common.{rules, ◌∙◌, refl}
+use Rattle.walk_pages.proofs.Drafting.{goes_trans}
+use Rattle.walk_pages.proofs.writing.+writing.Goals as goal
+
+pub write_method-loop-operation-preserved : goal.write_method-loop-operation-preserved
+write_method-loop-operation-preserved t c =
+    let goes = c.in_ok-step.ensures c.if-not-branch.false in
+    let was = c.loop-operation.invariant in
+    ((search rules), goes.right was.1, goes.same.format_is ∙ was.2, goes.same.arguments_are ∙ was.3)
+
+pub call-returns : goal.call-returns
+call-returns t c = λ is.
+    let found = rw c.in-Some-2.is at c.in_ok-found.ensures in
+    goes_trans c.args.frame.now c.args.draft.now c.choose.new.self c.put_written.new.draft (c.choose.ensures c.args.frame.now) (c.put_written.ensures c.args.frame.now is found)
+
+pub step-returns-in-Skip : goal.step-returns-in-Skip
+step-returns-in-Skip t c = λ is. c.skip_up.ensures c.args.frame.now is
+
+pub write_method-loop-operation-init : goal.write_method-loop-operation-init
+write_method-loop-operation-init t c =
+    let goes = c.begin.ensures c.args.frame.now in
+    let new = c.in_ok-draft.ensures in
+    (refl, goes.right new.0, goes.same.format_is ∙ new.1, goes.same.arguments_are ∙ new.2)

@@ -1,0 +1,368 @@
+//! Pages by the numbers of candidates and the write plans of an accepted profile.
+
+ghost use Rattle.std.specs.Prelude.{◌≡◌, IfOk, IfSome, IsTrue, Some};
+ghost use Rattle.sem_filling.specs.Fits.{format_at};
+ghost use Rattle.sem_pages.specs.declared.frame.PageFrame.{PageFrame};
+ghost use Rattle.walk_pages.specs.Drafts as spec;
+
+use crate::choices::Choices;
+use crate::draft::{Draft, Inside, WholePage};
+use crate::ends::ended;
+use cert_accepted::Accepted;
+use cert_compiled::{Origin, PageWriting};
+use sem_bits::Cursor;
+use sem_filling::whole_sides::reference_below;
+use sem_filling::{AskedValue, FieldPath};
+use sem_pages::{PageFrame, Source, Word, add_values, natural};
+use sem_profile::{Encoding, Format, Library, Method};
+use smallvec::SmallVec;
+use sqlite_items::at;
+use std::alloc::{AllocError, Global};
+
+/// What is written: the header from a place of the cursor on, the values of the asked fields, and the number of the candidate.
+#[derive(Clone, Copy)]
+pub(crate) struct Given<'a, 'b> {
+    pub(crate) header: &'a Cursor<'b>,
+    pub(crate) from: usize,
+    pub(crate) asked: &'a [AskedValue],
+    pub(crate) number: u64,
+}
+
+impl<'a, 'b> Given<'a, 'b> {
+    /// What is given of a filling inside: none of its fields is asked.
+    fn inside(&self, from: usize, number: u64) -> Given<'a, 'b> {
+        Given {
+            header: self.header,
+            from,
+            asked: &self.asked[..0],
+            number,
+        }
+    }
+}
+
+/// The page of the method that may be the candidate with this number for what is given.
+#[cycle(writing)]
+pub(crate) fn write_method(
+    depth: usize,
+    alloc: Global,
+    accepted: &Accepted,
+    frame: &PageFrame<'_>,
+    given: &Given<'_, '_>,
+) -> Result<Option<WholePage>, AllocError>
+    ensures { IfOk result (λ o. IfSome o (spec.IsWholePage frame.now)) }
+{
+    let Some(start) = start_of(accepted, frame.methods, frame.method, given.number) else {
+        return Ok(None);
+    };
+    let mut draft = Draft::new(alloc, start.format, frame, given.from)?;
+    draft.begin(start.choices);
+    for operation in start.operations {
+        if !step(depth, alloc, accepted, frame, &mut draft, operation, given)? {
+            return Ok(None);
+        }
+    }
+    ended(alloc, frame, start.index, draft)
+}
+
+/// Does what an operation says. Whether that is done.
+#[cycle(writing)]
+#[inline(always)]
+fn step(
+    depth: usize,
+    alloc: Global,
+    accepted: &Accepted,
+    frame: &PageFrame<'_>,
+    draft: &mut Draft<'_>,
+    operation: &PageWriting,
+    given: &Given<'_, '_>,
+) -> Result<bool, AllocError>
+    ensures { IfOk result (λ b. IsTrue b → spec.GoesOn frame.now draft.old draft.new) }
+{
+    match operation {
+        PageWriting::Call { field, takes } => {
+            let inside = Inside {
+                field: *field,
+                takes: *takes,
+            };
+            call(depth, alloc, accepted, frame, draft, inside, given)
+        }
+        PageWriting::Skip(field) => Ok(draft.skip_up(*field)),
+        PageWriting::Field {
+            field,
+            origin,
+            length,
+        } => {
+            let wanted = FieldWriting {
+                field: *field,
+                origin: *origin,
+                length: *length,
+            };
+            write_field(alloc, frame, draft, wanted, given)
+        }
+    }
+}
+
+/// A field that is written: where its bits come from, and the constraint that gives their length, where there is one.
+#[derive(Clone, Copy)]
+struct FieldWriting {
+    field: usize,
+    origin: Origin,
+    length: Option<usize>,
+}
+
+/// Writes a field that calls no method.
+fn write_field(
+    alloc: Global,
+    frame: &PageFrame<'_>,
+    draft: &mut Draft<'_>,
+    wanted: FieldWriting,
+    given: &Given<'_, '_>,
+) -> Result<bool, AllocError>
+    ensures { IfOk result (λ b. IsTrue b → spec.GoesOn frame.now draft.old draft.new) }
+{
+    let field = wanted.field;
+    match wanted.origin {
+        Origin::Library => draft.code(alloc, frame, field, false, given.header),
+        Origin::Header => take_field(alloc, frame, draft, field, wanted.length, given.header),
+        Origin::Asked(place) => match asked_at(given.asked, place) {
+            Some(up) => draft.write(alloc, frame, field, up),
+            None => Ok(false),
+        },
+        Origin::Chosen(width) => choose_field(alloc, frame, draft, field, width),
+        Origin::Solved(number) => {
+            let Some(count) = count_of(alloc, frame, draft, field, wanted.length)? else {
+                return Ok(false);
+            };
+            draft.solve(alloc, frame, field, count, number)
+        }
+    }
+}
+
+fn asked_at(asked: &[AskedValue], place: usize) -> Option<Word> {
+    Word::of(&at(asked, place)?.bits)
+}
+
+/// Writes a field whose bits are the next digit.
+fn choose_field(
+    alloc: Global,
+    frame: &PageFrame<'_>,
+    draft: &mut Draft<'_>,
+    field: usize,
+    width: usize,
+) -> Result<bool, AllocError>
+    ensures { IfOk result (λ b. IsTrue b → spec.GoesOn frame.now draft.old draft.new) }
+{
+    if width >= 64 {
+        return Ok(false);
+    }
+    let Some(digit) = draft.choose(1 << width) else {
+        return Ok(false);
+    };
+    let Some(up) = Word::spelled(width, digit) else {
+        return Ok(false);
+    };
+    draft.write(alloc, frame, field, up)
+}
+
+/// Writes a field whose bits are the next ones of the header.
+fn take_field(
+    alloc: Global,
+    frame: &PageFrame<'_>,
+    draft: &mut Draft<'_>,
+    field: usize,
+    length: Option<usize>,
+    header: &Cursor<'_>,
+) -> Result<bool, AllocError>
+    ensures { IfOk result (λ b. IsTrue b → spec.GoesOn frame.now draft.old draft.new) }
+{
+    let Some(count) = count_of(alloc, frame, draft, field, length)? else {
+        return Ok(false);
+    };
+    let source = Source {
+        cursor: header,
+        ahead: draft.ahead,
+    };
+    let Some(up) = source.word(count) else {
+        return Ok(false);
+    };
+    if !draft.write(alloc, frame, field, up)? {
+        return Ok(false);
+    }
+    draft.pass(true, count);
+    Ok(true)
+}
+
+/// How many bits the uncompressed side of the field has: by the constraint, or by its library method.
+fn count_of(
+    alloc: Global,
+    frame: &PageFrame<'_>,
+    draft: &Draft<'_>,
+    field: usize,
+    length: Option<usize>,
+) -> Result<Option<usize>, AllocError> {
+    if let Some(length) = length {
+        return Ok(draft.count_given(field, length));
+    }
+    let Some(declared) = draft.format.fields.get(field) else {
+        return Ok(None);
+    };
+    match declared.encoding.get() {
+        Encoding::Library(Library::Irregular { length }) => match natural(length, &draft.view()) {
+            Some(count) => Ok(usize::try_from(count).ok()),
+            None => Ok(None),
+        },
+        Encoding::Library(Library::Lsb { .. } | Library::Static) => {
+            match reference_below(alloc, frame.context, frame.path, declared)? {
+                Some(reference) => Ok(Some(reference.len())),
+                None => Ok(None),
+            }
+        }
+        _ => Ok(None),
+    }
+}
+
+/// Writes what is inside a field that calls a method. Whether that is done.
+#[cycle(writing)]
+#[inline(never)]
+fn call(
+    depth: usize,
+    alloc: Global,
+    accepted: &Accepted,
+    frame: &PageFrame<'_>,
+    draft: &mut Draft<'_>,
+    inside: Inside,
+    given: &Given<'_, '_>,
+) -> Result<bool, AllocError>
+    ensures { IfOk result (λ b. IsTrue b → spec.GoesOn frame.now draft.old draft.new) }
+{
+    let Some(ways) = ways_of(accepted, draft, inside.field) else {
+        return Ok(false);
+    };
+    let Some(number) = draft.choose(ways) else {
+        return Ok(false);
+    };
+    let inner = given.inside(draft.ahead, number);
+    let Some(found) = called(depth, alloc, accepted, frame, draft, inside, &inner)? else {
+        return Ok(false);
+    };
+    Ok(put_written(draft, inside, found))
+}
+
+/// Puts the page inside the field, whose header is passed where it takes.
+fn put_written(draft: &mut Draft<'_>, inside: Inside, found: WholePage) -> bool
+    ensures { (frame : PageFrame) → IsTrue result → spec.IsCalled frame draft.old inside.field found → spec.GoesOn frame draft.old draft.new }
+{
+    let count = found.whole.header.len();
+    let unread = Inside {
+        field: inside.field,
+        takes: false,
+    };
+    if !draft.put_page(unread, found) {
+        return false;
+    }
+    draft.pass(inside.takes, count);
+    true
+}
+
+/// How many candidates the method has that the field calls.
+fn ways_of(accepted: &Accepted, draft: &Draft<'_>, field: usize) -> Option<u64> {
+    let Encoding::Call { method, .. } = draft.format.fields.get(field)?.encoding.get() else {
+        return None;
+    };
+    at(accepted.counts(), *method).copied()
+}
+
+/// The page inside the field.
+#[cycle(writing)]
+fn called(
+    depth: usize,
+    alloc: Global,
+    accepted: &Accepted,
+    frame: &PageFrame<'_>,
+    draft: &Draft<'_>,
+    inside: Inside,
+    given: &Given<'_, '_>,
+) -> Result<Option<WholePage>, AllocError>
+    ensures { IfOk result (λ o. IfSome o (spec.IsCalled frame.now draft.now inside.field)) }
+{
+    let Some(field) = draft.format.fields.get(inside.field) else {
+        return Ok(None);
+    };
+    let Encoding::Call { method, arguments } = field.encoding.get() else {
+        return Ok(None);
+    };
+    let mut values = SmallVec::<i64, 4>::new(alloc);
+    if !add_values(arguments.as_slice(), &draft.view(), &mut values)? {
+        return Ok(None);
+    }
+    let here = FieldPath::of(alloc, frame.path, field.declared.name.as_str())?;
+    let inner = PageFrame {
+        methods: frame.methods,
+        context: frame.context,
+        method: *method,
+        arguments: values.as_slice(),
+        path: here.as_str(),
+    };
+    if !inside.takes {
+        return Ok(None);
+    }
+    write_inside(depth, alloc, accepted, &inner, given)
+}
+
+/// The page of a method that is called.
+#[cycle(writing)]
+fn write_inside(
+    depth: usize,
+    alloc: Global,
+    accepted: &Accepted,
+    frame: &PageFrame<'_>,
+    given: &Given<'_, '_>,
+) -> Result<Option<WholePage>, AllocError>
+    ensures { IfOk result (λ o. IfSome o (spec.IsWholePage frame.now)) }
+{
+    if depth == 0 {
+        return Ok(None);
+    }
+    write_method(depth - 1, alloc, accepted, frame, given)
+}
+
+/// Whether there are operations by which the top's candidate with this number is written.
+pub fn has_operations(accepted: &Accepted, number: u64) -> bool {
+    let profile = accepted.profile();
+    start_of(accepted, profile.methods(), profile.top(), number).is_some()
+}
+
+/// Where a candidate begins: its format, its operations, and what is left of its number.
+#[derive(Clone, Copy)]
+pub(crate) struct Start<'a, 'b> {
+    index: usize,
+    format: &'a Format,
+    operations: &'b [PageWriting],
+    choices: Choices,
+}
+
+fn start_of<'a, 'b>(
+    accepted: &'b Accepted,
+    methods: &'a [Method],
+    method: usize,
+    number: u64,
+) -> Option<Start<'a, 'b>>
+    ensures { IfSome result (λ s. format_at methods.now method s.index ≡ Some s.format.now) }
+{
+    let spans = at(accepted.spans(), method)?;
+    let mut rest = number;
+    for (index, span) in spans.as_slice().iter().enumerate() {
+        if rest < *span {
+            let plans = at(accepted.compiled().plan_acts.as_slice(), method)?.get(index)?;
+            let operations = plans.page_writing.as_ref()?;
+            return Some(Start {
+                index,
+                format: methods.get(method)?.formats.get(index)?,
+                operations: operations.as_slice(),
+                choices: Choices::new(rest, *span),
+            });
+        }
+        rest -= *span;
+    }
+    None
+}
