@@ -2,7 +2,7 @@
 
 use cert_rules::choice_of;
 use cert_types::Step;
-use sem_expr::Side;
+use sem_expr::{Expr, Side, Subject};
 use sem_profile::{Encoding, Format, Library, Part};
 use sqlite_items::{Items, at};
 use std::alloc::{AllocError, Global};
@@ -105,6 +105,9 @@ impl<'a> WritingSoFar<'a> {
                     self.operations.push(PageWriting::Skip(field))?;
                     return Ok(true);
                 }
+                if !self.is_reckoned(field) {
+                    return Ok(false);
+                }
                 self.write(field, Origin::Header)
             }
             Step::Call(field) => {
@@ -135,6 +138,29 @@ impl<'a> WritingSoFar<'a> {
         match at(self.are_written.as_slice(), field) {
             Some(is_written) => *is_written,
             None => false,
+        }
+    }
+
+    /// Whether the value that the field's library method gives the bits of the header, if it gives one, can be reckoned by now.
+    fn is_reckoned(&self, field: usize) -> bool {
+        let Some(declared) = self.format.fields.get(field) else {
+            return false;
+        };
+        match declared.encoding.get() {
+            Encoding::Library(Library::UncompressedValue { value, .. }) => self.is_told(value),
+            _ => true,
+        }
+    }
+
+    /// Whether each field that the expression asks for is written.
+    fn is_told(&self, expr: &Expr) -> bool {
+        match expr {
+            Expr::Number(_, _) | Expr::Parameter(_, _) => true,
+            Expr::Attribute(_, attribute) => match attribute.subject {
+                Subject::Field(field) => self.is_written(field),
+                Subject::This => false,
+            },
+            Expr::Binary(_, _, left, right) => self.is_told(left) && self.is_told(right),
         }
     }
 

@@ -122,6 +122,7 @@ fn compares(comparison: Comparison, left: i64, right: i64) -> bool
 }
 
 /// Makes an empty list that of the values of several expressions. Whether each of them is found.
+#[inline(always)]
 pub fn add_values(
     exprs: &[Expr],
     view: &View<'_>,

@@ -13,6 +13,7 @@ use sem_profile::{Field, Format, Part};
 use std::alloc::{AllocError, Global};
 
 /// The uncompressed sides of the header fields, joined in field order. None where one isn't read, and above the limit of `Bits`.
+#[inline(always)]
 pub fn header_of(
     alloc: Global,
     fields: &[Field],
@@ -119,6 +120,7 @@ fn adds_packed(
 }
 
 /// The compressed sides of the listed fields, joined in the listing's order. None above the limit of `Bits`, and where a listed field isn't there or isn't read.
+#[inline(always)]
 pub fn packed_of(
     alloc: Global,
     format: &Format,
@@ -141,6 +143,7 @@ pub fn packed_of(
 }
 
 /// Whether each field is read, and has no packed bits unless it is listed.
+#[inline(always)]
 pub fn are_unsent(listing: &[usize], shown: &[Shown]) -> bool
     ensures { IsTrue result → (i : ℕ) (s : page.Shown) → slice_get shown.now i ≡ Some s → spec.IsUnsent listing.now i s }
 {

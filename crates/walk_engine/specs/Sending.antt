@@ -8,7 +8,6 @@ use Rattle.sem_pages.specs.Pages.{Shows}
 use Rattle.cert_accepted.specs.Accepted.{Accepting}
 use Rattle.cert_candidates.specs.Best.{Best}
 use Rattle.walk_pages.specs.declared.writer.WrittenPage.{WrittenPage}
-use Rattle.walk_engine.specs.declared.search.Packed.{Packed}
 use Rattle.walk_engine.specs.declared.sender.Sent.{Sent}
 use Rattle.walk_engine.specs.declared.sender.Sent.TheVariants as sent
 use Rattle.walk_engine.specs.Searching.{IsFound}

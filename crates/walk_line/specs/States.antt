@@ -1,7 +1,6 @@
 -- What senders and receivers keep, and what a call does to it.
 use Rattle.std.specs.Prelude.{◌≡◌, ℕ, List, [], ◌∷◌, ◌++◌, ◌<◌, ◌≤◌, length, take, slice_get, Option, Some, None}
 use Rattle.sem_context.specs.Entries.{Entries}
-use Rattle.sem_filling.specs.declared.filling.Item.{Item}
 use Rattle.cert_accepted.specs.Accepted.{Accepting}
 use Rattle.walk_engine.specs.declared.writer.PackFault.{PackFault}
 use Rattle.walk_engine.specs.declared.writer.PackFault.TheVariants as pack

@@ -15,7 +15,6 @@ use Rattle.sem_expr.specs.declared.expr.Subject.TheVariants as subject
 use Rattle.sem_expr.specs.Values.{Assignment, both, compare, truth, val}
 use Rattle.sem_profile.specs.declared.profile.Constraint.{Constraint}
 use Rattle.sem_profile.specs.declared.profile.Constraint.TheVariants.{Enforce}
-use Rattle.sem_profile.specs.declared.profile.Encoding.TheVariants as encoding
 use Rattle.sem_profile.specs.declared.profile.Field.{Field}
 use Rattle.sem_profile.specs.declared.profile.Format.{Format}
 use Rattle.sem_profile.specs.declared.profile.Method.{Method}
@@ -27,7 +26,7 @@ use Rattle.sem_pages.specs.declared.frame.PageFrame.{PageFrame}
 use Rattle.sem_pages.specs.declared.page.Page.{Page}
 use Rattle.sem_pages.specs.declared.page.Shown.{Shown, out-Shown, roll-Shown, out-roll-Shown}
 use Rattle.sem_pages.specs.Pages.{AreRead, Bears, FitsOn, HoldsOn, IsPlain, IsWhole, Keeps, numbers_in, numbers_seen, seen_in, seen_side, shown_side, side_in}
-use Rattle.sem_pages.proofs.Pages.{bare_plain, called_has}
+use Rattle.sem_pages.proofs.Pages.{called_has}
 use Rattle.sem_pages.proofs.Reading.{bears_less, seen_with, set_read}
 use Rattle.sem_pages.proofs.Seeing.{value_on, values_on}
 use Rattle.walk_pages.specs.declared.draft.Draft.{Draft}

@@ -19,7 +19,7 @@ use Rattle.sem_filling.specs.Fits.{Context, format_at}
 use Rattle.sem_pages.specs.declared.frame.PageFrame.{PageFrame}
 use Rattle.sem_pages.specs.declared.page.Page.{Page, out-Page}
 use Rattle.sem_pages.specs.declared.page.Shown.{Shown, out-Shown}
-use Rattle.sem_pages.specs.Pages.{AreRead, Bears, FitsOn, HoldsOn, IsPageOf, IsPlain, IsUnsent, Keeps, Looked, Seen, level_by, seen_in, seen_side, sides_by, seen_at_end}
+use Rattle.sem_pages.specs.Pages.{AreRead, Bears, FitsOn, HoldsOn, IsPageOf, IsPlain, IsUnsent, Keeps, Looked, Seen, level_by, seen_in, seen_side, seen_at_end}
 use Rattle.sem_pages.proofs.Pages.{page_read}
 use Rattle.sem_pages.proofs.Reading.{set_read}
 use Rattle.walk_pages.specs.declared.draft.Draft.{Draft}

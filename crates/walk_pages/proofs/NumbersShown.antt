@@ -8,7 +8,6 @@ use Rattle.sem_profile.specs.declared.profile.Format.{Format}
 use Rattle.sem_profile.specs.declared.profile.Method.{Method}
 use Rattle.sem_profile.specs.declared.profile.Encoding as normal
 use Rattle.sem_profile.specs.declared.profile.Encoding.TheVariants as encoding
-use Rattle.sem_expr.specs.declared.expr.Expr.{Expr}
 use Rattle.sem_filling.specs.declared.filling.Filling.{Filling, out-Filling}
 use Rattle.sem_filling.specs.declared.filling.FilledField.{FilledField}
 use Rattle.sem_filling.specs.Fillings.{sides_of, inner_of, fields_of}
@@ -24,7 +23,7 @@ use Rattle.cert_candidates.proofs.CodesLevels.{inner_shown}
 use Rattle.cert_candidates.proofs.NumbersCounted.{whole_number}
 use Rattle.sem_pages.specs.declared.page.Page.{Page, out-Page}
 use Rattle.sem_pages.specs.declared.page.Shown.{Shown, out-Shown}
-use Rattle.sem_pages.specs.Pages.{Shows, ShowsInside, StandsFor, shows}
+use Rattle.sem_pages.specs.Pages.{Shows, StandsFor, shows}
 use Rattle.sem_pages.proofs.Leaving.{field_shown, inside_call}
 use Rattle.sem_pages.proofs.Levels.{level_at}
 

@@ -1,5 +1,5 @@
 -- What is known of a level that is being read.
-use Rattle.std.specs.Prelude.{◌≡◌, ℕ, ◌≤◌, ℤ, Bool, List, [], length, Option, None, Some, slice_get, slice_set}
+use Rattle.std.specs.Prelude.{◌≡◌, ℕ, ℤ, Bool, List, [], length, None, Some, slice_get, slice_set}
 use Rattle.sem_context.specs.Entries.{bits_at}
 use Rattle.cert_rules.specs.Rules.{value_given}
 use Rattle.sem_expr.specs.declared.expr.Expr.{Expr}

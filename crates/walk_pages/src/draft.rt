@@ -172,6 +172,7 @@ impl<'a> Draft<'a> {
     }
 
     /// Puts the page inside the field, with both sides. False where one has more than 64 bits.
+    #[inline(always)]
     pub(crate) fn put_page(&mut self, inside: Inside, found: WholePage) -> bool
         ensures { (frame : PageFrame) → IsTrue result → spec.IsCalled frame self.old inside.field found → spec.GoesOn frame self.old self.new }
     {

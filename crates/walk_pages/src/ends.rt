@@ -100,6 +100,7 @@ fn is_solved(solved: &[usize], number: usize) -> bool
 }
 
 /// Whether each field whose uncompressed side isn't there is a checksum, which is right where it is there. It has both sides then, the one without bits.
+#[inline(always)]
 fn end_sums(
     alloc: Global,
     format: &Format,
@@ -110,6 +111,10 @@ fn end_sums(
     ensures { IfOk result (λ b. IsTrue b → spec.AreEnded format.now arguments.now header.now fields.old.items fields.new.items) }
 {
     for i in 0..fields.len() {
+        // Most fields are no checksums, for which nothing has to be called.
+        if fields[i].uncompressed.is_some() {
+            continue;
+        }
         if !is_ended(alloc, format, arguments, fields, header, i)? {
             return Ok(false);
         }
@@ -118,7 +123,7 @@ fn end_sums(
 }
 
 /// The same of one field.
-#[inline(always)]
+#[inline(never)]
 fn is_ended(
     alloc: Global,
     format: &Format,

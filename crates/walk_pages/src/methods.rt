@@ -87,6 +87,7 @@ fn call(
 
 /// The page inside the field.
 #[cycle(reading)]
+#[inline(always)]
 fn called(
     depth: usize,
     alloc: Global,
@@ -126,6 +127,7 @@ fn called(
 
 /// The page of a method that is called.
 #[cycle(reading)]
+#[inline(always)]
 fn read_inside(
     depth: usize,
     alloc: Global,

@@ -207,7 +207,9 @@ fn count_of(
         return Ok(None);
     };
     match declared.encoding.get() {
-        Encoding::Library(Library::Irregular { length }) => match natural(length, &draft.view()) {
+        Encoding::Library(
+            Library::Irregular { length } | Library::UncompressedValue { length, .. },
+        ) => match natural(length, &draft.view()) {
             Some(count) => Ok(usize::try_from(count).ok()),
             None => Ok(None),
         },
@@ -249,6 +251,7 @@ fn call(
 }
 
 /// Puts the page inside the field, whose header is passed where it takes.
+#[inline(always)]
 fn put_written(draft: &mut Draft<'_>, inside: Inside, found: WholePage) -> bool
     ensures { (frame : PageFrame) → IsTrue result → spec.IsCalled frame draft.old inside.field found → spec.GoesOn frame draft.old draft.new }
 {
@@ -265,6 +268,7 @@ fn put_written(draft: &mut Draft<'_>, inside: Inside, found: WholePage) -> bool
 }
 
 /// How many candidates the method has that the field calls.
+#[inline(always)]
 fn ways_of(accepted: &Accepted, draft: &Draft<'_>, field: usize) -> Option<u64> {
     let Encoding::Call { method, .. } = draft.format.fields.get(field)?.encoding.get() else {
         return None;
@@ -274,6 +278,7 @@ fn ways_of(accepted: &Accepted, draft: &Draft<'_>, field: usize) -> Option<u64> 
 
 /// The page inside the field.
 #[cycle(writing)]
+#[inline(always)]
 fn called(
     depth: usize,
     alloc: Global,
@@ -311,6 +316,7 @@ fn called(
 
 /// The page of a method that is called.
 #[cycle(writing)]
+#[inline(always)]
 fn write_inside(
     depth: usize,
     alloc: Global,
@@ -341,6 +347,7 @@ pub(crate) struct Start<'a, 'b> {
     choices: Choices,
 }
 
+#[inline(always)]
 fn start_of<'a, 'b>(
     accepted: &'b Accepted,
     methods: &'a [Method],

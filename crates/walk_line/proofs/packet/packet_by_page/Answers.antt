@@ -1,4 +1,4 @@
-use Rattle.std.proofs.Common.{◌∙◌, refl, sym, ap, ◌+◌, ◌/◌, ◌≤◌, subst, length}
+use Rattle.std.proofs.Common.{◌∙◌, refl, sym, ◌/◌, ◌≤◌, subst, length}
 use Rattle.sem_filling.specs.Entries.{entries}
 use Rattle.walk_line.proofs.StepsTrying.{count_within, told_at_once}
 use Rattle.walk_line.proofs.packet.packet_by_page.Goals as goal

@@ -1,5 +1,4 @@
-use Rattle.std.proofs.Common.{rules, ◌≡◌, ◌∙◌, ap, refl}
-use Rattle.std.specs.Prelude.{Some}
+use Rattle.std.proofs.Common.{rules, ◌∙◌, ap, refl}
 use Rattle.sem_filling.specs.declared.whole_sides.WholeSides.{WholeSides}
 use Rattle.sem_pages.specs.declared.page.Page.{out-roll-Page}
 use Rattle.sem_pages.specs.Pages.{seen_at_end}

@@ -1,4 +1,4 @@
-use Rattle.std.proofs.Common.{◌∙◌, [], sym, ap, rules, List, Bool}
+use Rattle.std.proofs.Common.{[], rules, List, Bool}
 use Rattle.sem_profile.specs.declared.profile.Library.TheVariants as library
 use Rattle.sem_filling.specs.Entries.{Path}
 use Rattle.sem_filling.specs.Fits.{Context}

@@ -1,4 +1,4 @@
-use Rattle.std.proofs.Common.{◌∙◌, refl, sym, ap, subst, [], ◌++◌, append_assoc, arith}
+use Rattle.std.proofs.Common.{◌∙◌, sym, ap, subst, [], ◌++◌, append_assoc, arith}
 use Rattle.std.proofs.lemmas.List.{append-nil}
 use Rattle.walk_line.specs.States.{Receiving, Hears}
 use Rattle.walk_line.proofs.LinesBegun.{hears_nothing, hears_further, fails_next, slice_from, slice_left, within_piece}

@@ -1,4 +1,4 @@
-use Rattle.std.proofs.Common.{◌≡◌, ◌∙◌, refl, subst, sym, ◌<◌, length, arith}
+use Rattle.std.proofs.Common.{◌≡◌, refl, subst, sym, ◌<◌, length, arith}
 use Rattle.std.specs.Prelude.{slice_get, Some}
 use Rattle.std.proofs.lemmas.Option.{slice_get_read}
 use Rattle.walk_line.specs.Lines.Act.{Send}
