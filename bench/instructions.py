@@ -13,7 +13,7 @@ from .packing import bundled, PROFILES, stream
 NAMES = ["plain", "tick", "opt", "six", "mode", "turn"]
 FEW, MANY = 500, 2000
 # the most instructions that an event or a packet of real headers may cost
-BOUNDS = {("udp", "line"): 57000, ("udp", "line --receive"): 34000, ("rtp", "line"): 91000, ("rtp", "line --receive"): 46500}
+BOUNDS = {("udp", "line"): 55000, ("udp", "line --receive"): 34000, ("rtp", "line"): 88000, ("rtp", "line --receive"): 46500}
 
 
 def of_run(program, data, due):
