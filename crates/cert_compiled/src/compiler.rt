@@ -4,7 +4,7 @@ use crate::operations::{CompiledPlan, Operations};
 use crate::pages::{page_operations, page_writing};
 use crate::steps::OperationsSoFar;
 use cert_types::{Direction, FormatPlans, MethodPlans, Step};
-use sem_profile::{Format, Method};
+use sem_profile::{Constraint, Format, Method};
 use sqlite_items::{Items, at};
 use std::alloc::{AllocError, Global};
 
@@ -44,6 +44,7 @@ fn method_acts(
 }
 
 const NONE: CompiledPlan = CompiledPlan {
+    conditions: None,
     read: None,
     page: None,
     page_writing: None,
@@ -57,6 +58,7 @@ fn format_acts(
 ) -> Result<CompiledPlan, AllocError> {
     match &entry.plans {
         Some(plans) => Ok(CompiledPlan {
+            conditions: Some(conditions(alloc, format)?),
             read: operations(alloc, format, Direction::Read, plans.read.as_slice())?,
             page: page_operations(alloc, format, plans.read.as_slice())?,
             page_writing: page_writing(alloc, format, plans.write.as_slice())?,
@@ -80,4 +82,15 @@ fn operations(
         }
     }
     Ok(Some(so_far.into_operations()))
+}
+
+/// The conditions of a format.
+fn conditions(alloc: Global, format: &Format) -> Result<Items<usize>, AllocError> {
+    let mut found = Items::new(alloc);
+    for (index, constraint) in format.constraints.as_slice().iter().enumerate() {
+        if let Constraint::Enforce { .. } = constraint.get() {
+            found.push(index)?;
+        }
+    }
+    Ok(found)
 }

@@ -116,6 +116,8 @@ pub struct Operations {
 /// The operations of a format's plans, none of one that doesn't take its source from the front to the end.
 #[derive(Drop)]
 pub struct CompiledPlan {
+    /// The constraints that are conditions of ENFORCE, by their indices. A look goes over these alone.
+    pub conditions: Option<Items<usize>>,
     pub read: Option<Operations>,
     /// Those by which a page is read, and those by which it is written.
     pub page: Option<Items<PageOperation>>,

@@ -4,7 +4,7 @@ use crate::compiler::plan_acts;
 use crate::operations::CompiledPlan;
 use cert_types::MethodPlans;
 use sem_profile::Method;
-use sqlite_items::Items;
+use sqlite_items::{Items, at};
 use std::alloc::{AllocError, Global};
 
 /// Ways through plans that are made once.
@@ -23,5 +23,14 @@ impl CompiledPlans {
     ) -> Result<CompiledPlans, AllocError> {
         let plan_acts = plan_acts(alloc, methods, entries)?;
         Ok(CompiledPlans { plan_acts })
+    }
+
+    /// The conditions of the format of the method, both by their indices, where they are listed: each by its index among the constraints.
+    pub fn conditions(&self, method: usize, format: usize) -> Option<&[usize]> {
+        let plans = at(self.plan_acts.as_slice(), method)?;
+        match &at(plans.as_slice(), format)?.conditions {
+            Some(conditions) => Some(conditions.as_slice()),
+            None => None,
+        }
     }
 }

@@ -57,9 +57,15 @@ pub(crate) fn is_refuted_else(
     requires found { format_at place.now.accepted.now.profile.methods place.now.frame.method format ≡ Some found.now }
     ensures { IfOk result (λ is. IsTrue is → spec.IsRefuted place.now format (drop from source.now.left)) }
 {
-    let is_contrary = contradicts(alloc, place, found)?;
-    if is_contrary {
-        return Ok(true);
+    if let Some(conditions) = place
+        .accepted
+        .compiled()
+        .conditions(place.frame.method, format)
+    {
+        let is_contrary = contradicts(alloc, place, found, conditions)?;
+        if is_contrary {
+            return Ok(true);
+        }
     }
     let Some(sizes) = sizes_of(place.accepted, place.frame.method, format) else {
         return Ok(false);
@@ -72,16 +78,20 @@ pub(crate) fn is_refuted_else(
     differs(alloc, place, &told, sizes.fields.as_slice(), source, from)
 }
 
-/// Whether one of the format's constraints is false by the arguments and by the references of `static` fields, whatever the fields hold. Those that have
-/// arguments alone aren't looked at. The error is out of memory.
+/// Whether one of these constraints of the format, by their indices, is false by the arguments and by the references of `static` fields, whatever the fields
+/// hold. Those that have arguments alone aren't looked at. The error is out of memory.
 fn contradicts(
     alloc: Global,
     place: &AcceptedFrame<'_>,
     format: &Format,
+    conditions: &[usize],
 ) -> Result<bool, AllocError>
     ensures { IfOk result (λ is. IsTrue is → spec.HasFalse (spec.known_operand place.now format.now.fields) format.now.constraints) }
 {
-    for constraint in format.constraints.as_slice() {
+    for index in conditions {
+        let Some(constraint) = at(format.constraints.as_slice(), *index) else {
+            continue;
+        };
         if let Constraint::Enforce { condition, .. } = constraint.get() {
             let is_false = is_contradicted(
                 alloc,

@@ -12,6 +12,6 @@ returns c =
     let place = c.args.place.now in
     let bits = drop c.args.from c.args.source.now.left in
     told c.differs.result
-    (λ h. by_header c.args.found.now c.in-Some.sizes.now c.requires.found (sym c.in-Some.ensures)
+    (λ h. by_header c.args.found.now c.in-Some-sizes_of.sizes.now c.requires.found (sym c.in-Some-sizes_of.ensures)
     (subst (λ z. Differs place (told_numbers c.args.found.now place.frame.arguments.now []) c.args.found.now.fields z bits) c.as_slice.ensures h))
     c.differs.ensures
