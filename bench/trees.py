@@ -1,7 +1,7 @@
 """What trees cost in instructions, by callgrind, on the built program or on another that is given as an argument; beside it those of a second one, if that is given.
 
-A packet of `unpack` in a tree of up to 4,096 nodes may cost at most twice one in a tree of 63: in a bushy tree, in one with a long way over offsets that rise one by one, and in one with a long way
-whose tests are so far apart that a table takes one alone. `check` of a big profile (check.py) may cost at most 1.1 times that of the second program, and a packet of `six` (packing.py) no more than by
+A packet of `unpack` in a bushy tree of up to 4,096 nodes may cost at most twice one in a tree of 63. Each test of a long way may cost at most 75 instructions beyond the packet in a tree of 63: over
+offsets that rise one by one, and by tests so far apart that a table takes one alone. `check` of a big profile (check.py) may cost at most 1.1 times that of the second program, and a packet of `six` (packing.py) no more than by
 it. Without a bound: `check` of these trees, and of one whose tables would go beyond the limit of entries."""
 import random
 import sys
@@ -34,13 +34,14 @@ def paired(depth, offset=0):
     return ["bit %d" % offset, *paired(depth - 1, offset + 8), "bit %d" % (offset + 7), *paired(depth - 1, offset + 8), "leaf -"] if depth else ["leaf -"]
 
 
+OFFSETS = 127
 # each with the nodes and whether the packets are all one bits
 TREES = {
     "63 nodes": (bushy(5), False),
     "4,095 nodes": (bushy(11), False),
     "63 nodes, one bits": (bushy(5), True),
-    "a way of 127 offsets": (long(range(127)), True),
-    "a way of 127 offsets 63 or 64 apart": (long([place // 2 + 64 * (place % 2) for place in range(127)]), True),
+    "a way of 127 offsets": (long(range(OFFSETS)), True),
+    "a way of 127 offsets 63 or 64 apart": (long([place // 2 + 64 * (place % 2) for place in range(OFFSETS)]), True),
 }
 
 
@@ -79,9 +80,11 @@ def main():
     costs = row("check of a big profile", "", lambda it: of_run(it, big[1], big[3]))
     for name, nodes in [*[(it, TREES[it][0]) for it in ("63 nodes", "4,095 nodes", "a way of 127 offsets")], ("the limit of entries", paired(9))]:
         row("check, " + name, len(nodes), lambda it: checked_of(it, nodes))
-    bushy_ratio, rising, apart = packets["4,095 nodes"] / packets["63 nodes"], *[packets[it] / packets["63 nodes, one bits"] for it in list(TREES)[3:]]
-    print("a packet over one in a tree of 63 nodes, at most 2: bushy %.2f, a way of rising offsets %.2f, by tests far apart %.2f" % (bushy_ratio, rising, apart))
-    report("trees", max(bushy_ratio, rising, apart) <= 2 and costs[0] <= 1.1 * costs[-1] and six[0] <= six[-1])
+    ratio = packets["4,095 nodes"] / packets["63 nodes"]
+    rising, apart = [(packets[name] - packets["63 nodes, one bits"]) / OFFSETS for name in list(TREES)[3:]]
+    print("a packet in the bushy tree over one in a tree of 63 nodes, at most 2: %.2f" % ratio)
+    print("instructions for a test of a way, at most 75: over rising offsets %.1f, by tests far apart %.1f" % (rising, apart))
+    report("trees", ratio <= 2 and max(rising, apart) <= 75 and costs[0] <= 1.1 * costs[-1] and six[0] <= six[-1])
 
 
 if __name__ == "__main__":

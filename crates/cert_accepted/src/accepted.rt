@@ -3,6 +3,7 @@
 ghost use Rattle.std.specs.Prelude.{◌≡◌, drop, length, slice_get, IfOk};
 ghost use Rattle.sem_context.specs.Entries.{bits_at};
 ghost use Rattle.cert_accepted.specs.Accepted.{IsAccepted, IsDeterminate};
+ghost use Rattle.cert_compiled.specs.Compiled.{AreCompiled};
 ghost use Rattle.cert_rules.specs.Trees.{references};
 ghost use Rattle.cert_tables.specs.Kept.{AreTables};
 ghost use Rattle.cert_tables.specs.Picked.{formats_of, picks};
@@ -31,6 +32,7 @@ pub struct Accepted {
 
 impl Model for Accepted {
     ghost use Rattle.cert_accepted.specs.Accepted.{Accepting, IsAccepted};
+    ghost use Rattle.cert_compiled.specs.Compiled.{AreCompiled};
     ghost use Rattle.cert_tables.specs.Kept.{AreTables};
     ghost use Rattle.sem_expr.specs.contracts.expr.Expr as expr;
     ghost use Rattle.sem_expr.specs.contracts.expr.Cond as cond;
@@ -42,7 +44,7 @@ impl Model for Accepted {
 
     ghost view = { λ a. record { profile = a.profile; certificate = a.certificate; counts = a.counts; spans = a.spans } };
 
-    ghost invariant = { λ a. IsAccepted (record { profile = a.profile; certificate = a.certificate; counts = a.counts; spans = a.spans }) × AreTables a.certificate.methods a.tables };
+    ghost invariant = { λ a. IsAccepted (record { profile = a.profile; certificate = a.certificate; counts = a.counts; spans = a.spans }) × AreTables a.certificate.methods a.tables × AreCompiled a.profile.methods a.compiled.plan_acts };
 }
 
 impl Accepted {
@@ -57,6 +59,7 @@ impl Accepted {
     ) -> Accepted
         requires accepted { IsAccepted (record { profile = profile; certificate = certificate; counts = counts; spans = spans }) }
         requires tables { AreTables certificate.methods tables }
+        requires compiled { AreCompiled profile.methods compiled.plan_acts }
         ensures profile { result.profile ≡ profile }
         ensures certificate { result.certificate ≡ certificate }
     {
@@ -133,8 +136,11 @@ impl Accepted {
         self.tables.count(&self.certificate)
     }
 
-    /// What shortens the way of who draws fillings up and judges them. Nothing is promised of it.
-    pub fn compiled(&self) -> &CompiledPlans {
+    /// What shortens the way of who draws fillings up and judges them, or reads and writes pages. What is prepared of a format is promised to be of that; of all
+    /// else nothing is promised.
+    pub fn compiled(&self) -> &CompiledPlans
+        ensures { AreCompiled self.now.profile.methods result.now.plan_acts }
+    {
         &self.compiled
     }
 

@@ -9,5 +9,6 @@ mod compiler;
 mod header;
 pub mod operations;
 mod pages;
+mod places;
 pub mod plans;
 mod steps;

@@ -3,6 +3,7 @@
 use crate::pages::{PageOperation, PageWriting};
 use cert_types::Step;
 use sem_expr::Side;
+use sem_pages::Prepared;
 use sqlite_items::Items;
 
 /// How many bits.
@@ -118,6 +119,10 @@ pub struct Operations {
 pub struct CompiledPlan {
     /// The constraints that are conditions of ENFORCE, by their indices. A look goes over these alone.
     pub conditions: Option<Items<usize>>,
+    /// For each field, in field order, how many entries a level leaves before its own, where each called method has its first format.
+    pub places: Option<Items<usize>>,
+    /// What the format tells of its levels.
+    pub prepared: Option<Prepared>,
     pub read: Option<Operations>,
     /// Those by which a page is read, and those by which it is written.
     pub page: Option<Items<PageOperation>>,

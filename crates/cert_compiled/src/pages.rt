@@ -3,6 +3,7 @@
 use cert_rules::choice_of;
 use cert_types::Step;
 use sem_expr::{Expr, Side, Subject};
+use sem_pages::Prepared;
 use sem_profile::{Encoding, Format, Library, Part};
 use sqlite_items::{Items, at};
 use std::alloc::{AllocError, Global};
@@ -69,12 +70,13 @@ pub enum PageWriting {
 pub(crate) fn page_writing(
     alloc: Global,
     format: &Format,
+    prepared: &Prepared,
     plan: &[Step],
 ) -> Result<Option<Items<PageWriting>>, AllocError> {
     let mut pages = WritingSoFar {
         alloc,
         format,
-        are_written: falses(alloc, format.fields.len())?,
+        are_written: constants(alloc, prepared)?,
         lengths: blanks(alloc, format.fields.len())?,
         operations: Items::new(alloc),
     };
@@ -233,11 +235,12 @@ impl<'a> WritingSoFar<'a> {
 pub(crate) fn page_operations(
     alloc: Global,
     format: &Format,
+    prepared: &Prepared,
     plan: &[Step],
 ) -> Result<Option<Items<PageOperation>>, AllocError> {
     let mut pages = PagesSoFar {
         format,
-        are_read: falses(alloc, format.fields.len())?,
+        are_read: constants(alloc, prepared)?,
         lengths: blanks(alloc, format.fields.len())?,
         operations: Items::new(alloc),
     };
@@ -362,10 +365,11 @@ impl<'a> PagesSoFar<'a> {
     }
 }
 
-fn falses(alloc: Global, count: usize) -> Result<Vec<bool>, AllocError> {
-    let mut all = Vec::with_capacity(alloc, count)?;
-    for _ in 0..count {
-        all.push(false)?;
+/// For each field whether it is a constant, so that both its sides are there from the start.
+fn constants(alloc: Global, prepared: &Prepared) -> Result<Vec<bool>, AllocError> {
+    let mut all = Vec::with_capacity(alloc, prepared.constants.len())?;
+    for constant in prepared.constants.as_slice() {
+        all.push(constant.is_some())?;
     }
     Ok(all)
 }

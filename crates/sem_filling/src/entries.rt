@@ -237,7 +237,8 @@ fn add_next<'a>(
 }
 
 /// Whether a path is that of a field of that name below another.
-fn is_below(here: &str, path: &str, name: &str) -> bool
+#[inline(always)]
+pub fn is_below(here: &str, path: &str, name: &str) -> bool
     ensures { IsTrue result → here.now ≡ below path.now name.now }
 {
     let octets = here.as_bytes();

@@ -2,7 +2,7 @@
 //! notation. And the types of what may keep a filling from a format, which sem_lint and sem_reasons find.
 #![tactic(auto)]
 
-pub use entries::{FieldPath, advance, below};
+pub use entries::{FieldPath, advance, below, is_below};
 pub use filling::{AskedValue, FilledField, Filling, Item};
 pub use frame::Frame;
 pub use whole_sides::WholeSides;

@@ -1,13 +1,13 @@
 //! The two sides of a whole filling, and of what its format covers.
 
-ghost use Rattle.std.specs.Prelude.{◌≡◌, ◌≢◌, [], ◌≤◌, ◌^◌, ◌<◌, ◌↔◌, IsTrue, IfOk, MatchOption, length};
+ghost use Rattle.std.specs.Prelude.{◌≡◌, ◌≢◌, [], ◌≤◌, ◌^◌, ◌<◌, ◌↔◌, IsTrue, IfOk, IfSome, MatchOption, Some, length};
 ghost use Rattle.std.specs.Option.{option_copied};
 ghost use Rattle.sem_context.specs.Entries.{bits_at};
 ghost use Rattle.sem_filling.specs.Entries.{below};
 ghost use Rattle.sem_filling.specs.Fillings.{header, packed};
 ghost use Rattle.sem_filling.specs.Fits as spec;
 
-use crate::{Filling, below};
+use crate::{Filling, below, is_below};
 use arrayvec::ArrayString;
 use sem_bits::{Bits, BitsError, Cursor};
 use sem_context::Context;
@@ -128,4 +128,39 @@ fn reference_inside<'a>(
     }
     let here = below(alloc, path, name)?;
     Ok(reference_of(context, field, here.as_str()))
+}
+
+/// The reference of a field below a path likewise, which is looked for at a place of the context first: where it mostly stands.
+#[inline(always)]
+pub fn reference_near<'a>(
+    alloc: Global,
+    context: &'a Context,
+    path: &str,
+    field: &'a Field,
+    place: usize,
+) -> Result<Option<&'a Bits>, AllocError>
+    ensures { IfOk result (λ o. option_copied o ≡ spec.reference_of field.now.declared.part (bits_at context.now) (below path.now field.now.declared.name) field.now.initial) }
+{
+    match entry_near(context, path, field, place) {
+        Some(bits) => Ok(Some(bits)),
+        None => reference_below(alloc, context, path, field),
+    }
+}
+
+/// The reference of a field that has an entry, where that stands at the place.
+#[inline(always)]
+fn entry_near<'a>(context: &'a Context, path: &str, field: &Field, place: usize) -> Option<&'a Bits>
+    ensures { IfSome result (λ b. Some b.now ≡ spec.reference_of field.now.declared.part (bits_at context.now) (below path.now field.now.declared.name) field.now.initial) }
+{
+    if let Part::Local = field.declared.part {
+        return None;
+    }
+    let Some((here, bits)) = context.entry_at(place) else {
+        return None;
+    };
+    if is_below(here, path, field.declared.name.as_str()) {
+        Some(bits)
+    } else {
+        None
+    }
 }

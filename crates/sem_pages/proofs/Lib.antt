@@ -6,3 +6,6 @@ pub mod Pages
 pub mod CodedSides
 pub mod InOrder
 pub mod Leaving
+pub mod Growing
+mod Preparing
+mod Standing

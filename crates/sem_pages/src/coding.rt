@@ -20,7 +20,7 @@ use crate::view::View;
 use crate::word::Word;
 use sem_bits::{Bits, Cursor};
 use sem_expr::{Expr, Subject};
-use sem_filling::whole_sides::reference_below;
+use sem_filling::whole_sides::reference_near;
 use sem_library::{crc_down, lsb_down, lsb_up};
 use sem_profile::{CrcArguments, Encoding, Field, Library};
 use std::alloc::{AllocError, Global};
@@ -43,19 +43,23 @@ impl<'a, 'b> Source<'a, 'b> {
     }
 }
 
-/// Both sides of a field that a library method encodes; its packed bits, if it has some, are the next ones. None where that isn't told, and of a checksum.
+/// Both sides of a field that a library method encodes; its packed bits, if it has some, are the next ones. None where that isn't told, and of a checksum. Its
+/// entry may stand at that place of the context.
 #[inline(always)]
 pub fn coded(
     alloc: Global,
     frame: &PageFrame<'_>,
     view: &View<'_>,
     field: &Field,
+    place: usize,
     source: &Source<'_, '_>,
 ) -> Result<Option<BothSides>, AllocError>
     ensures { IfOk result (λ o. IfSome o (λ b. spec.ReadsAs frame.now.methods.now (bits_at frame.now.context.now) frame.now.path.now view.now field.now b.uncompressed b.compressed)) }
 {
     match field.encoding.get() {
-        Encoding::Library(library) => coded_by(alloc, frame, view, field, library, source),
+        Encoding::Library(library) => {
+            coded_by(alloc, frame, view, field, place, library, source)
+        }
         Encoding::Bare | Encoding::Call { .. } => Ok(None),
     }
 }
@@ -67,6 +71,7 @@ fn coded_by(
     frame: &PageFrame<'_>,
     view: &View<'_>,
     field: &Field,
+    place: usize,
     library: &Library,
     source: &Source<'_, '_>,
 ) -> Result<Option<BothSides>, AllocError>
@@ -76,31 +81,33 @@ fn coded_by(
         Library::UncompressedValue { length, value } => Ok(constant_up(view, length, value)),
         Library::CompressedValue { length, value } => Ok(constant_down(view, length, value)),
         Library::Irregular { length } => Ok(carried(view, length, source)),
-        Library::Static => kept(alloc, frame, field),
+        Library::Static => kept(alloc, frame, field, place),
         Library::Lsb { bits, offset } => {
             let Some(arguments) = lsb_arguments(view, bits, offset) else {
                 return Ok(None);
             };
-            raised(alloc, frame, field, arguments, source)
+            raised(alloc, frame, field, place, arguments, source)
         }
         Library::Crc(_) => Ok(None),
     }
 }
 
-/// The packed side that a field with that uncompressed side has by its encoding. None where that isn't told, and of a field that calls a method.
+/// The packed side that a field with that uncompressed side has by its encoding. None where that isn't told, and of a field that calls a method. Its entry may
+/// stand at that place of the context.
 #[inline(always)]
 pub fn encoded(
     alloc: Global,
     frame: &PageFrame<'_>,
     view: &View<'_>,
     field: &Field,
+    place: usize,
     up: Word,
 ) -> Result<Option<Word>, AllocError>
     ensures { IfOk result (λ o. IfSome o (λ down. spec.ReadsAs frame.now.methods.now (bits_at frame.now.context.now) frame.now.path.now view.now field.now up down)) }
 {
     match field.encoding.get() {
         Encoding::Bare => Ok(Some(Word::new())),
-        Encoding::Library(library) => encoded_by(alloc, frame, view, field, library, up),
+        Encoding::Library(library) => { encoded_by(alloc, frame, view, field, place, library, up) }
         Encoding::Call { .. } => Ok(None),
     }
 }
@@ -112,6 +119,7 @@ fn encoded_by(
     frame: &PageFrame<'_>,
     view: &View<'_>,
     field: &Field,
+    place: usize,
     library: &Library,
     up: Word,
 ) -> Result<Option<Word>, AllocError>
@@ -127,12 +135,12 @@ fn encoded_by(
             &up,
         )),
         Library::Irregular { length } => Ok(carried_down(view, length, up)),
-        Library::Static => kept_down(alloc, frame, field, &up),
+        Library::Static => kept_down(alloc, frame, field, place, &up),
         Library::Lsb { bits, offset } => {
             let Some(arguments) = lsb_arguments(view, bits, offset) else {
                 return Ok(None);
             };
-            lowered(alloc, frame, field, arguments, up)
+            lowered(alloc, frame, field, place, arguments, up)
         }
         Library::Crc(_) => Ok(None),
     }
@@ -157,11 +165,12 @@ fn kept_down(
     alloc: Global,
     frame: &PageFrame<'_>,
     field: &Field,
+    place: usize,
     up: &Word,
 ) -> Result<Option<Word>, AllocError>
     ensures { IfOk result (λ o. IfSome o (λ down. (v : spec.Seen) → spec.IsCodedOn (bits_at frame.now.context.now) frame.now.path.now v field.now library.Static up.now down)) }
 {
-    let found = kept(alloc, frame, field)?;
+    let found = kept(alloc, frame, field, place)?;
     Ok(down_of(found, up))
 }
 
@@ -182,12 +191,13 @@ fn lowered(
     alloc: Global,
     frame: &PageFrame<'_>,
     field: &Field,
+    place: usize,
     arguments: LsbArguments,
     up: Word,
 ) -> Result<Option<Word>, AllocError>
     ensures { IfOk result (λ o. IfSome o (λ down. Lib (lib.lsb arguments.bits arguments.offset) (reference_of field.now.declared.part (bits_at frame.now.context.now) (below frame.now.path.now field.now.declared.name) field.now.initial) up down)) }
 {
-    let reference = reference_below(alloc, frame.context, frame.path, field)?;
+    let reference = reference_near(alloc, frame.context, frame.path, field, place)?;
     let (bits, offset) = (wide(arguments.bits), wide(arguments.offset));
     let Some(down) = lsb_down(alloc, bits, offset, reference, &up.to_bits(alloc)?)? else {
         return Ok(None);
@@ -254,10 +264,11 @@ fn kept(
     alloc: Global,
     frame: &PageFrame<'_>,
     field: &Field,
+    place: usize,
 ) -> Result<Option<BothSides>, AllocError>
     ensures { IfOk result (λ o. IfSome o (λ b. (v : spec.Seen) → spec.IsCodedOn (bits_at frame.now.context.now) frame.now.path.now v field.now library.Static b.uncompressed b.compressed)) }
 {
-    let Some(reference) = reference_below(alloc, frame.context, frame.path, field)? else {
+    let Some(reference) = reference_near(alloc, frame.context, frame.path, field, place)? else {
         return Ok(None);
     };
     let Some(uncompressed) = Word::of(reference) else {
@@ -292,6 +303,7 @@ fn raised(
     alloc: Global,
     frame: &PageFrame<'_>,
     field: &Field,
+    place: usize,
     arguments: LsbArguments,
     source: &Source<'_, '_>,
 ) -> Result<Option<BothSides>, AllocError>
@@ -304,7 +316,7 @@ fn raised(
         return Ok(None);
     };
     let packed = compressed.to_bits(alloc)?;
-    let reference = reference_below(alloc, frame.context, frame.path, field)?;
+    let reference = reference_near(alloc, frame.context, frame.path, field, place)?;
     let (bits, offset) = (wide(arguments.bits), wide(arguments.offset));
     let Some(up) = lsb_up(alloc, bits, offset, reference, &packed)? else {
         return Ok(None);

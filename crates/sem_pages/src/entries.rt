@@ -17,7 +17,7 @@ use crate::word::Word;
 use sem_bits::Bits;
 use sem_context::Context;
 use sem_context::path::are_same;
-use sem_filling::AskedValue;
+use sem_filling::{AskedValue, is_below};
 use sem_profile::{Encoding, Field, Format, Method, Part};
 use sqlite_items::Items;
 use std::alloc::{AllocError, Global};
@@ -251,6 +251,7 @@ fn add_field(
 }
 
 /// Adds the bits of the entry, if there is one, that a field of that part and name leaves below a path. Whether the path that comes next is its path.
+#[inline(always)]
 fn add_plain(
     alloc: Global,
     values: &mut Vec<Bits>,
@@ -272,6 +273,7 @@ fn add_plain(
 }
 
 /// Adds the bits of the entry that a field of that part and name leaves below a path, where the context's entry that comes next has this path, which is given.
+#[inline(always)]
 fn add_next<'a>(
     alloc: Global,
     values: &mut Vec<Bits>,
@@ -294,19 +296,4 @@ fn add_next<'a>(
     }
     values.push(bits_of(alloc, bits)?)?;
     Ok(Some(here))
-}
-
-/// Whether a path is that of a field of that name below another.
-fn is_below(here: &str, path: &str, name: &str) -> bool
-    ensures { IsTrue result → here.now ≡ below path.now name.now }
-{
-    let octets = here.as_bytes();
-    if path.is_empty() {
-        return are_same(octets, name.as_bytes());
-    }
-    let front = path.len();
-    if front >= octets.len() || octets[front] != b'.' {
-        return false;
-    }
-    are_same(&octets[front + 1..], name.as_bytes()) && are_same(&octets[..front], path.as_bytes())
 }

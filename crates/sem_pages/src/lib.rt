@@ -12,7 +12,8 @@ pub use entries::{advance, asked_values, has_asked};
 pub use expressions::{add_values, is_number, value};
 pub use frame::PageFrame;
 pub use page::{BothSides, Page, Shown};
-pub use sides::{are_unsent, header_of, packed_of};
+pub use prepared::{LengthTest, Prepared, have_lengths};
+pub use sides::{are_unsent, header_of, is_header, packed_of};
 pub use view::View;
 pub use word::Word;
 
@@ -22,6 +23,7 @@ mod entries;
 mod expressions;
 mod frame;
 mod page;
+mod prepared;
 mod sides;
 mod view;
 mod word;

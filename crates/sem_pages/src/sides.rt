@@ -1,6 +1,6 @@
 //! The two sides of the whole of a level, and whether what isn't listed is not sent.
 
-ghost use Rattle.std.specs.Prelude.{◌≡◌, ◌++◌, ◌∷◌, [], ℕ, false, true, IsTrue, IfOk, IfSome, length, option_and_then, slice_get, unwrap_or};
+ghost use Rattle.std.specs.Prelude.{◌≡◌, ◌≤◌, ◌++◌, ◌∷◌, [], ℕ, false, true, IsTrue, IfOk, IfSome, length, option_and_then, slice_get, take, unwrap_or};
 ghost use Rattle.sem_filling.specs.Fillings.{header_bits, packed_bits};
 ghost use Rattle.sem_profile.specs.Fields.{lists};
 ghost use Rattle.sem_pages.specs.declared.page.Shown as page;
@@ -8,7 +8,7 @@ ghost use Rattle.sem_pages.specs.Pages as spec;
 
 use crate::page::Shown;
 use crate::word::Word;
-use sem_bits::{Bits, BitsError};
+use sem_bits::{Bits, BitsError, Cursor};
 use sem_profile::{Field, Format, Part};
 use std::alloc::{AllocError, Global};
 
@@ -33,6 +33,53 @@ pub fn header_of(
         return Ok(None);
     }
     Ok(Some(header))
+}
+
+/// Whether the bits are the uncompressed sides of the header fields, joined in field order. It takes no memory.
+#[inline(always)]
+pub fn is_header(bits: &Bits, fields: &[Field], shown: &[Shown]) -> bool
+    requires { length shown.now ≡ length fields.now }
+    ensures { IsTrue result → bits.now ≡ header_bits (spec.level_by fields.now shown.now) }
+{
+    let cursor = Cursor::new(bits);
+    let mut place = 0;
+    for i in 0..fields.len() {
+        let Some(next) = past(&cursor, place, &fields[i], &shown[i]) else {
+            return false;
+        };
+        place = next;
+    }
+    place == bits.len()
+}
+
+/// The place after the uncompressed side of the field, where that stands at this one, if the field is one of the header.
+#[inline(always)]
+fn past(cursor: &Cursor<'_>, place: usize, field: &Field, shown: &Shown) -> Option<usize>
+    requires { place ≤ length cursor.now.left }
+    ensures { IfSome result (λ next. (next ≤ length cursor.now.left) × (take next cursor.now.left ≡ take place cursor.now.left ++ header_bits (spec.sides_by field.now shown.now ∷ []))) }
+{
+    match field.declared.part {
+        Part::Header => match &shown.uncompressed {
+            Some(word) => past_word(cursor, place, word),
+            None => None,
+        },
+        Part::Control | Part::Local => Some(place),
+    }
+}
+
+#[inline(always)]
+fn past_word(cursor: &Cursor<'_>, place: usize, word: &Word) -> Option<usize>
+    requires { place ≤ length cursor.now.left }
+    ensures { IfSome result (λ next. (next ≤ length cursor.now.left) × (take next cursor.now.left ≡ take place cursor.now.left ++ word.now)) }
+{
+    let count = word.len();
+    let found = cursor.peek(place, count)?;
+    let _most = cursor.rest();
+    if found == word.value() {
+        Some(place + count)
+    } else {
+        None
+    }
 }
 
 /// Adds the uncompressed side at the end of the tail, if the field is one of the header. False where it isn't read, and above the limit.

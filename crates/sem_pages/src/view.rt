@@ -9,7 +9,6 @@ use crate::page::Shown;
 use crate::word::Word;
 use sem_bits::Bits;
 use sem_expr::{Attribute, Measure, Side, Subject};
-use sem_filling::WholeSides;
 use std::marker::Model;
 
 /// What is seen of a level: what is there of its fields, the values of the parameters, and each side of the whole, once it is known.
@@ -64,14 +63,19 @@ impl<'a> View<'a> {
 
     /// What is seen at the end.
     #[inline(always)]
-    pub fn at_end(fields: &'a [Shown], arguments: &'a [i64], whole: &'a WholeSides) -> View<'a>
-        ensures { result ≡ spec.seen_at_end fields.now arguments.now whole.now }
+    pub fn at_end(
+        fields: &'a [Shown],
+        arguments: &'a [i64],
+        header: &'a Bits,
+        packed: &'a Bits,
+    ) -> View<'a>
+        ensures { result ≡ spec.seen_at_end fields.now arguments.now record { header = header.now; packed = packed.now } }
     {
         View {
             fields,
             arguments,
-            header: Some(&whole.header),
-            packed: Some(&whole.packed),
+            header: Some(header),
+            packed: Some(packed),
         }
     }
 

@@ -1,5 +1,6 @@
 -- A level that goes on.
-use Rattle.std.proofs.Common.{◌≡◌, ◌∙◌, refl, sym, ap, subst, ℕ, zero, suc, length, Bool, true, List, [], ◌∷◌, ◌++◌, replicate}
+use Rattle.std.proofs.Common.{◌≡◌, ◌∙◌, refl, sym, ap, subst, ℕ, zero, suc, ◌<◌, length, Bool, true, List, [], ◌∷◌, ◌++◌, arith}
+use Rattle.std.proofs.lemmas.Option.{slice_get_within}
 use Rattle.std.specs.Prelude.{slice_get, slice_set, Option, Some, None, IfSome, ℤ, pos}
 use Rattle.sem_bits.specs.Number.{num}
 use Rattle.sem_context.specs.Entries.{bits_at}
@@ -25,24 +26,19 @@ use Rattle.cert_rules.proofs.RulesConstraints.{attribute_value, first_cases, num
 use Rattle.sem_pages.specs.declared.frame.PageFrame.{PageFrame}
 use Rattle.sem_pages.specs.declared.page.Page.{Page}
 use Rattle.sem_pages.specs.declared.page.Shown.{Shown, out-Shown, roll-Shown, out-roll-Shown}
-use Rattle.sem_pages.specs.Pages.{AreRead, Bears, FitsOn, HoldsOn, IsPlain, IsWhole, Keeps, numbers_in, numbers_seen, seen_in, seen_side, shown_side, side_in}
+use Rattle.sem_pages.specs.Pages.{AreRead, Bears, FitsOn, HoldsOn, IsPlain, IsWhole, Keeps, Seen, numbers_in, numbers_seen, seen_in, seen_side, shown_side, side_in}
+use Rattle.sem_pages.specs.declared.page.BothSides.{BothSides}
+use Rattle.sem_pages.specs.declared.prepared.Prepared.{Prepared}
+use Rattle.sem_pages.specs.Made.{AreMade}
+use Rattle.sem_pages.specs.Prepared.{AreConstants, HasConstant, IsPrepared}
 use Rattle.sem_pages.proofs.Pages.{called_has}
 use Rattle.sem_pages.proofs.Reading.{bears_less, seen_with, set_read}
 use Rattle.sem_pages.proofs.Seeing.{value_on, values_on}
 use Rattle.walk_pages.specs.declared.draft.Draft.{Draft}
 use Rattle.walk_pages.specs.declared.draft.WholePage.{WholePage}
-use Rattle.walk_pages.specs.Drafts.{GoesOn, HasValue, IsCalled, IsPut, IsRight, IsSolved, blank, seen_of}
+use Rattle.walk_pages.specs.Drafts.{BeginsWith, GoesOn, HasValue, IsCalled, IsPut, IsRight, IsSolved, blank, seen_of}
 
 -- ---- the start
-
-blank_at : (n i : ℕ) (s : Shown) → slice_get (replicate n blank) i ≡ Some s → blank ≡ s
-blank_at zero i s at = let wrong : None ≡ Some s = at in absurd cc
-blank_at (suc n) zero s at = let one : Some blank ≡ Some s = at in cc
-blank_at (suc n) (suc i) s at = blank_at n i s at
-
-length_blank : (n : ℕ) → length (replicate n blank) ≡ n
-length_blank zero = refl
-length_blank (suc n) = ap suc (length_blank n)
 
 not_whole : (s : Shown) (u c : List Bool) → blank ≡ s → IsWhole s u c → ⊥
 not_whole s u c is whole =
@@ -50,13 +46,29 @@ not_whole s u c is whole =
     let wrong : None ≡ Some u = sym out ∙ ap (λ x. (out-Shown x).uncompressed) is ∙ whole.uncompressed_is in
     absurd cc
 
-pub blank_read : (methods : List Method) (ctx : Context) (path : Path) (format : Format) (args : List ℤ) (ss : List Shown) (js : List ℕ) (n : ℕ) → ss ≡ replicate n blank → js ≡ [] → n ≡ length format.fields
-    → AreRead methods ctx path format (seen_in ss args) js
-blank_read methods ctx path format args ss js n ss_are js_are count = record {
-  count = ap length ss_are ∙ length_blank n ∙ count;
-  fields = λ i d s u c here there whole. absurd (not_whole s u c (blank_at n i s (ap (λ z. slice_get z i) (sym ss_are) ∙ there)) whole);
-  constraints = λ k j c here there. let wrong : None ≡ Some j = ap (λ z. slice_get z k) (sym js_are) ∙ here in absurd cc;
-}
+begun_field : (methods : List Method) (ctx : Context) (path : Path) (v : Seen) (d : Field) (o : Option BothSides) (s : Shown) (u c : List Bool) → HasConstant d o → BeginsWith o s → IsWhole s u c → FitsOn methods ctx path v d s
+begun_field methods ctx path v d None s u c has begins whole = absurd (not_whole s u c (sym begins) whole)
+begun_field methods ctx path v d (Some b) s u c has begins whole = has methods ctx path v s begins
+
+-- an element of a list that is as long as another
+made_there : {A : Type 0} (xs : List A) (i : ℕ) → i < length xs → (x : A) × (slice_get xs i ≡ Some x)
+made_there [] i lt = absurd (omega (arith, lt))
+made_there (x ∷ xs) zero lt = (x, refl)
+made_there (x ∷ xs) (suc i) lt = made_there xs i (omega (arith, lt))
+
+-- the constants alone are read
+pub begun_read : (methods : List Method) (ctx : Context) (path : Path) (format : Format) (args : List ℤ) (ss : List Shown) (js : List ℕ) (p : Prepared) (os : List (Option BothSides)) → IsPrepared format p → os ≡ p.constants
+    → AreMade BeginsWith os ss (length os) → js ≡ [] → AreRead methods ctx path format (seen_in ss args) js
+begun_read methods ctx path format args ss js p os prepared os_are made js_are =
+    let told : AreConstants format.fields os = subst (AreConstants format.fields) (sym os_are) prepared.constants in
+    record {
+      count = made.count ∙ told.count;
+      fields = λ i d s u c here there whole.
+          let under : i < length os = omega (arith, slice_get_within ss i s there, made.count) in
+          let o = made_there os i under in
+          begun_field methods ctx path (seen_in ss args) d o.0 s u c (told.each i d o.0 here o.1) (made.each i o.0 s o.1 there) whole;
+      constraints = λ k j c here there. let wrong : None ≡ Some j = ap (λ z. slice_get z k) (sym js_are) ∙ here in absurd cc;
+    }
 
 -- ---- one step
 
@@ -67,15 +79,15 @@ moved methods ctx path f f' ss ss' args args' js js' f_is ss_are args_are js_are
 pub goes_trans : (frame : PageFrame) (old mid new : Draft) → GoesOn frame old mid → GoesOn frame mid new → GoesOn frame old new
 goes_trans frame old mid new one other = record {
   right = λ r. other.right (one.right r);
-  same = record { format_is = other.same.format_is ∙ one.same.format_is; arguments_are = other.same.arguments_are ∙ one.same.arguments_are };
+  same = record { format_is = other.same.format_is ∙ one.same.format_is; arguments_are = other.same.arguments_are ∙ one.same.arguments_are; prepared_is = other.same.prepared_is ∙ one.same.prepared_is };
 }
 
 -- where no field is read or solved
-pub ahead_goes : (frame : PageFrame) (old new : Draft) → new.format.now ≡ old.format.now → new.arguments.now ≡ old.arguments.now → new.fields.items ≡ old.fields.items → new.solved.items ≡ old.solved.items → GoesOn frame old new
-ahead_goes frame old new format_is arguments_are fields_are solved_are = record {
+pub ahead_goes : (frame : PageFrame) (old new : Draft) → new.format.now ≡ old.format.now → new.arguments.now ≡ old.arguments.now → new.fields.items ≡ old.fields.items → new.solved.items ≡ old.solved.items → new.told.prepared.now ≡ old.told.prepared.now → GoesOn frame old new
+ahead_goes frame old new format_is arguments_are fields_are solved_are prepared_is = record {
   right = λ r. moved frame.methods.now (bits_at frame.context.now) frame.path.now old.format.now new.format.now old.fields.items new.fields.items old.arguments.now new.arguments.now old.solved.items new.solved.items
       format_is fields_are arguments_are solved_are r;
-  same = record { format_is = format_is; arguments_are = arguments_are };
+  same = record { format_is = format_is; arguments_are = arguments_are; prepared_is = prepared_is };
 }
 
 nothing_keeps : (s t : Shown) → (out-Shown s).uncompressed ≡ None → (out-Shown s).compressed ≡ None → Keeps s t
@@ -134,13 +146,13 @@ last_or (x ∷ xs) j k (suc n) at P old new = last_or xs j k n at P (λ m here. 
 
 -- what was solved
 pub solved_goes : (frame : PageFrame) (i j : ℕ) (e : Expr) (bits : List Bool) (n : ℕ) (old mid new : Draft) → GoesOn frame old mid → HasValue i bits old mid → num bits ≡ n → val (numbers_seen (seen_of old)) e ≡ Some (pos n)
-    → new.format.now ≡ mid.format.now → new.arguments.now ≡ mid.arguments.now → new.fields.items ≡ mid.fields.items → new.solved.items ≡ mid.solved.items ++ j ∷ [] → IsSolved frame i j e old new
-solved_goes frame i j e bits n old mid new one has spelled value format_is arguments_are fields_are solved_are constraint there given =
+    → new.format.now ≡ mid.format.now → new.arguments.now ≡ mid.arguments.now → new.fields.items ≡ mid.fields.items → new.solved.items ≡ mid.solved.items ++ j ∷ [] → new.told.prepared.now ≡ mid.told.prepared.now → IsSolved frame i j e old new
+solved_goes frame i j e bits n old mid new one has spelled value format_is arguments_are fields_are solved_are prepared_is constraint there given =
     record {
       right = λ r.
           moved frame.methods.now (bits_at frame.context.now) frame.path.now mid.format.now new.format.now mid.fields.items new.fields.items mid.arguments.now new.arguments.now (mid.solved.items ++ j ∷ []) new.solved.items
           format_is fields_are arguments_are solved_are (with_one (one.right r));
-      same = record { format_is = format_is ∙ one.same.format_is; arguments_are = arguments_are ∙ one.same.arguments_are };
+      same = record { format_is = format_is ∙ one.same.format_is; arguments_are = arguments_are ∙ one.same.arguments_are; prepared_is = prepared_is ∙ one.same.prepared_is };
     }
   where
     here_set : {A : Type 0} (xs : List A) (k : ℕ) (x y : A) → slice_get xs k ≡ Some x → slice_get (slice_set xs k y) k ≡ Some y

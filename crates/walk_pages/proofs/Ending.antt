@@ -2,6 +2,7 @@
 use Rattle.std.proofs.Common.{◌≡◌, ◌∙◌, refl, sym, ap, subst, ℕ, zero, suc, Bool, false, List, [], ◌∷◌, ◌++◌, length, true}
 use Rattle.std.specs.Prelude.{slice_get, slice_set, Some, None, ℤ, unwrap_or}
 use Rattle.std.proofs.lemmas.List.{length-set}
+use Rattle.std.proofs.lemmas.Option.{slice_get_within}
 use Rattle.sem_context.specs.Entries.{bits_at}
 use Rattle.sem_expr.specs.declared.expr.Side.{Side}
 use Rattle.sem_expr.specs.declared.expr.Side.TheVariants.{Uncompressed, Compressed}
@@ -23,7 +24,9 @@ use Rattle.sem_pages.specs.Pages.{AreRead, Bears, FitsOn, HoldsOn, IsPageOf, IsP
 use Rattle.sem_pages.proofs.Pages.{page_read}
 use Rattle.sem_pages.proofs.Reading.{set_read}
 use Rattle.walk_pages.specs.declared.draft.Draft.{Draft}
-use Rattle.walk_pages.specs.Drafts.{AreEnded, IsRight, IsSummed, seen_with_header}
+use Rattle.sem_pages.specs.declared.prepared.LengthTest.{LengthTest}
+use Rattle.sem_pages.specs.Prepared.{AreCovered, IsCovered, Passes, by_test, by_value}
+use Rattle.walk_pages.specs.Drafts.{AreEnded, IsRight, IsSettled, IsSummed, seen_with_header}
 
 -- ---- checksums
 
@@ -129,8 +132,19 @@ page_ended frame d index p w ss right at args_are index_is fields_are ended head
     (header_is ∙ sym ended.header_is ∙ ap (λ zs. header_bits (level_by format.fields zs)) (sym fields_are))
     (packed_is ∙ ap (λ zs. packed_bits format.listing (level_by format.fields zs)) (sym fields_are)))
 
--- what is said of the constraints, by what the code reads
-pub constraints_moved : (v v' : Seen) (cs cs' : List Constraint) (js js' : List ℕ) → v ≡ v' → cs ≡ cs' → js ≡ js'
-    → (((n j : ℕ) (c : Constraint) → slice_get js n ≡ Some j → slice_get cs j ≡ Some c → HoldsOn v c) → (j : ℕ) (c : Constraint) → slice_get cs j ≡ Some c → HoldsOn v c)
-    → ((n j : ℕ) (c : Constraint) → slice_get js' n ≡ Some j → slice_get cs' j ≡ Some c → HoldsOn v' c) → (j : ℕ) (c : Constraint) → slice_get cs' j ≡ Some c → HoldsOn v' c
-constraints_moved v v' cs cs' js js' v_is cs_are js_are holds = rw (sym v_is, sym cs_are, sym js_are) holds
+-- each constraint has a test that is passed, or is settled
+settled_by : (v : Seen) (cs : List Constraint) (tests : List LengthTest) (others solved : List ℕ) → ((m : ℕ) (t : LengthTest) → slice_get tests m ≡ Some t → Passes v t)
+    → ((m j : ℕ) → slice_get others m ≡ Some j → IsSettled v cs solved j) → (j : ℕ) (c : Constraint) → slice_get cs j ≡ Some c → ((n : ℕ) → slice_get solved n ≡ Some j → HoldsOn v c) → IsCovered tests others j c → HoldsOn v c
+settled_by v cs tests others solved passed settled j c here is (by_test m t at test) = test v (passed m t at)
+settled_by v cs tests others solved passed settled j c here is (by_value m at) = settled m j at c here is
+
+pub covered_hold : (v : Seen) (cs : List Constraint) (tests : List LengthTest) (others solved : List ℕ) → AreCovered cs tests others (length cs) → ((m : ℕ) (t : LengthTest) → slice_get tests m ≡ Some t → Passes v t)
+    → ((m j : ℕ) → slice_get others m ≡ Some j → IsSettled v cs solved j) → ((n j : ℕ) (c : Constraint) → slice_get solved n ≡ Some j → slice_get cs j ≡ Some c → HoldsOn v c) → (j : ℕ) (c : Constraint) → slice_get cs j ≡ Some c → HoldsOn v c
+covered_hold v cs tests others solved covered passed settled is j c here = settled_by v cs tests others solved passed settled j c here (λ n at. is n j c at here) (covered j c (slice_get_within cs j c here) here)
+
+-- the same by what the code reads
+pub covered_moved : (v v' : Seen) (cs cs' : List Constraint) (tests tests' : List LengthTest) (others others' solved solved' : List ℕ) → v ≡ v' → cs ≡ cs' → tests ≡ tests' → others ≡ others' → solved ≡ solved'
+    → AreCovered cs' tests' others' (length cs') → ((m : ℕ) (t : LengthTest) → slice_get tests m ≡ Some t → Passes v t) → ((m j : ℕ) → slice_get others m ≡ Some j → IsSettled v cs solved j)
+    → ((n j : ℕ) (c : Constraint) → slice_get solved' n ≡ Some j → slice_get cs' j ≡ Some c → HoldsOn v' c) → (j : ℕ) (c : Constraint) → slice_get cs' j ≡ Some c → HoldsOn v' c
+covered_moved v v' cs cs' tests tests' others others' solved solved' v_is cs_are tests_are others_are solved_are covered =
+    rw (sym v_is, sym cs_are, sym solved_are) (covered_hold v cs tests others solved (rw (cs_are, tests_are, others_are) covered))

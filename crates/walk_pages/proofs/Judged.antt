@@ -8,7 +8,7 @@ use Rattle.sem_filling.specs.Fillings.{asked_values, level}
 use Rattle.cert_accepted.specs.Accepted.{Accepting}
 use Rattle.sem_pages.specs.declared.page.Page.{Page}
 use Rattle.sem_pages.specs.Pages.{IsPageOf, Shows}
-use Rattle.walk_pages.specs.declared.draft.WholePage.{WholePage}
+use Rattle.walk_pages.specs.declared.draft.PackedPage.{PackedPage}
 use Rattle.walk_pages.specs.Writer.{IsTopPage, IsWritten}
 use Rattle.walk_pages.specs.Reader.{IsRead}
 
@@ -23,12 +23,12 @@ read_by a ctx old new page h q n is passed count = record {
   bits_is = count ∙ ap length is.packed_same;
 }
 
-pub written_by : (a : Accepting) (ctx : Entries) (it : Item) (w : WholePage) → IsTopPage a ctx w → w.whole.header ≡ it.header → ((f : Filling) → Shows a.profile.methods a.profile.top w.page f → asked_values (level f) ≡ it.asked)
-    → IsWritten a ctx it record { page = w.page; packed = w.whole.packed }
-written_by a ctx it w is same asked = record {
+pub written_by : (a : Accepting) (ctx : Entries) (it : Item) (w : PackedPage) → IsTopPage a ctx it.header w → ((f : Filling) → Shows a.profile.methods a.profile.top w.page f → asked_values (level f) ≡ it.asked)
+    → IsWritten a ctx it record { page = w.page; packed = w.packed }
+written_by a ctx it w is asked = record {
   filling = is.filling;
   fits = is.fits;
-  has = λ i. record { header = (sym is.header_same ∙ same) i; asked = asked is.filling is.shown i };
+  has = λ i. record { header = (sym is.header_same) i; asked = asked is.filling is.shown i };
   shown = is.shown;
   packed_is = is.packed_same;
 }

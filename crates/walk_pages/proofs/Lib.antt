@@ -2,3 +2,4 @@ pub mod Judged
 pub mod Drafting
 pub mod Ending
 pub mod NumbersShown
+pub mod Telling

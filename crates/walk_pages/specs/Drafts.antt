@@ -1,5 +1,5 @@
 -- What is known of a level that is being read.
-use Rattle.std.specs.Prelude.{◌≡◌, ℕ, ℤ, Bool, List, [], length, None, Some, slice_get, slice_set}
+use Rattle.std.specs.Prelude.{◌≡◌, ℕ, ℤ, Bool, List, [], length, Option, None, Some, slice_get, slice_set}
 use Rattle.sem_context.specs.Entries.{bits_at}
 use Rattle.cert_rules.specs.Rules.{value_given}
 use Rattle.sem_expr.specs.declared.expr.Expr.{Expr}
@@ -12,14 +12,21 @@ use Rattle.sem_filling.specs.Fillings.{header_bits}
 use Rattle.sem_filling.specs.Entries.{Path, below}
 use Rattle.sem_filling.specs.Fits.{Context, vals}
 use Rattle.sem_pages.specs.declared.frame.PageFrame.{PageFrame}
+use Rattle.sem_pages.specs.declared.page.BothSides.{BothSides}
 use Rattle.sem_pages.specs.declared.page.Shown.{Shown, out-Shown, roll-Shown}
-use Rattle.sem_pages.specs.Pages.{AreRead, IsPageOf, IsPlain, ReadsAs, Seen, level_by, numbers_seen, seen_in}
+use Rattle.sem_pages.specs.Pages.{AreRead, HoldsOn, IsPageOf, IsPlain, ReadsAs, Seen, level_by, numbers_seen, seen_in}
 use Rattle.walk_pages.specs.declared.draft.Draft.{Draft}
+use Rattle.walk_pages.specs.declared.draft.PackedPage.{PackedPage}
 use Rattle.walk_pages.specs.declared.draft.WholePage.{WholePage}
 
 -- a field of which nothing is read
 abbrev pub blank : Shown
 blank = roll-Shown record { uncompressed = None; compressed = None; inner = None }
+
+-- what a field begins with: a constant has both its sides, and of all else nothing is read
+abbrev pub BeginsWith : Option BothSides → Shown → Type 0
+BeginsWith None s = s ≡ blank
+BeginsWith (Some b) s = IsPlain s b.uncompressed b.compressed
 
 -- what is seen of it
 abbrev pub seen_of : Draft → Seen
@@ -29,10 +36,11 @@ seen_of d = seen_in d.fields.items d.arguments.now
 abbrev pub IsRight : PageFrame → Draft → Type 0
 IsRight frame d = AreRead frame.methods.now (bits_at frame.context.now) frame.path.now d.format.now (seen_of d) d.solved.items
 
--- the format and the values of the parameters stay
+-- the format, what is prepared of it, and the values of the parameters stay
 pub record IsSame (old new : Draft) : Type 0 where
   pub format_is : new.format.now ≡ old.format.now
   pub arguments_are : new.arguments.now ≡ old.arguments.now
+  pub prepared_is : new.told.prepared.now ≡ old.told.prepared.now
 
 -- Of a field nothing was read, and this stands there now; nothing else is read or solved.
 pub record IsPut (i : ℕ) (after : Shown) (old new : Draft) : Type 0 where
@@ -64,6 +72,10 @@ IsSolved frame i j e old new = (c : Constraint) → slice_get old.format.now.con
 abbrev pub IsWholePage : PageFrame → WholePage → Type 0
 IsWholePage frame w = IsPageOf frame.methods.now (bits_at frame.context.now) frame.method frame.arguments.now frame.path.now w.page w.whole.header w.whole.packed
 
+-- the same of a page whose header is this one
+abbrev pub IsPackedPage : PageFrame → List Bool → PackedPage → Type 0
+IsPackedPage frame h w = IsPageOf frame.methods.now (bits_at frame.context.now) frame.method frame.arguments.now frame.path.now w.page h w.packed
+
 -- the field calls a method, of which the page is one under the values of the arguments, below the path of the field
 pub record IsCalled (frame : PageFrame) (d : Draft) (i : ℕ) (w : WholePage) : Type 0 where
   pub field : Field
@@ -82,6 +94,10 @@ IsSummed v d c = (methods : List Method) (ctx : Context) (path : Path) → Reads
 -- what is seen once the header is known
 abbrev pub seen_with_header : List Shown → List ℤ → List Bool → Seen
 seen_with_header ss args h = record { fields = ss; arguments = args; header = Some h; packed = None }
+
+-- the constraint of this index holds of what is seen, if it does where it is solved
+abbrev pub IsSettled : Seen → List Constraint → List ℕ → ℕ → Type 0
+IsSettled v cs solved j = (c : Constraint) → slice_get cs j ≡ Some c → ((n : ℕ) → slice_get solved n ≡ Some j → HoldsOn v c) → HoldsOn v c
 
 -- the fields are as right as they were, and the header is the same
 pub record AreEnded (format : Format) (args : List ℤ) (h : List Bool) (old new : List Shown) : Type 0 where

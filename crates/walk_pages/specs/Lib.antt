@@ -1,3 +1,4 @@
 pub mod Drafts
 pub mod Reader
 pub mod Writer
+pub mod Picks

@@ -1,36 +1,46 @@
 //! A level that is being read.
 
-ghost use Rattle.std.specs.Prelude.{◌≡◌, IfOk, IsTrue, None, replicate};
+ghost use Rattle.std.specs.Prelude.{◌≡◌, IfOk, IsTrue, None, length};
 ghost use Rattle.sem_profile.specs.declared.profile.Encoding.TheVariants as encoding;
 ghost use Rattle.sem_pages.specs.declared.page.Shown.{out-Shown};
 ghost use Rattle.sem_pages.specs.declared.frame.PageFrame.{PageFrame};
 ghost use Rattle.sem_pages.specs.Pages.{IsPlain};
+ghost use Rattle.sem_pages.specs.Made.{AreMade};
+ghost use Rattle.sem_pages.specs.Prepared.{IsPrepared};
 ghost use Rattle.walk_pages.specs.Drafts as spec;
 
 use crate::choices::Choices;
 use cert_compiled::PageOperation;
 use cert_rules::equations::{length_given, remainder_form, value_given};
-use sem_bits::Cursor;
+use sem_bits::{Bits, Cursor};
 use sem_expr::{Expr, Side};
 use sem_filling::WholeSides;
 use sem_pages::{
-    BothSides, Page, PageFrame, Shown, Source, View, Word, coded, encoded, natural, value,
+    BothSides, Page, PageFrame, Prepared, Shown, Source, View, Word, coded, encoded, natural, value,
 };
-use sem_profile::{Constraint, Encoding, Field, Format, Library};
+use sem_profile::{Constraint, Encoding, Format, Library};
 use smallvec::SmallVec;
 use sqlite_items::at;
 use std::alloc::{AllocError, Global};
 
-/// A level that is being read: its format, the values of the parameters, the fields so far, how many places after the cursor's what is next of the source
-/// stands, the constraints that hold of each level that has what is read, by their indices, and in writing what is left of the number.
+/// A level that is being read: its format, what that tells of it, the values of the parameters, the fields so far, how many places after the cursor's what is
+/// next of the source stands, the constraints that hold of each level that has what is read, by their indices, and in writing what is left of the number.
 #[derive(Drop)]
 pub(crate) struct Draft<'a> {
     pub(crate) format: &'a Format,
+    pub(crate) told: Told<'a>,
     pub(crate) arguments: &'a [i64],
     pub(crate) fields: Vec<Shown>,
     pub(crate) ahead: usize,
     pub(crate) solved: SmallVec<usize, 4>,
     pub(crate) choices: Choices,
+}
+
+/// What is told of a format before a level of it is read: by itself, and for each field how many entries of the context may stand before its own.
+#[derive(Clone, Copy)]
+pub(crate) struct Told<'a> {
+    pub(crate) prepared: &'a Prepared,
+    pub(crate) places: &'a [usize],
 }
 
 /// A call: the field that calls, and whether the page inside takes from the source.
@@ -47,21 +57,31 @@ pub(crate) struct WholePage {
     pub(crate) whole: WholeSides,
 }
 
+/// A page with its packed bits, for who has its header.
+#[derive(Drop)]
+pub(crate) struct PackedPage {
+    pub(crate) page: Page,
+    pub(crate) packed: Bits,
+}
+
 impl<'a> Draft<'a> {
-    /// Nothing is read of the format.
+    /// Of the format only the constants are read.
     #[inline(always)]
     pub(crate) fn new(
         alloc: Global,
         format: &'a Format,
+        told: Told<'a>,
         frame: &PageFrame<'a>,
         from: usize,
     ) -> Result<Draft<'a>, AllocError>
-        ensures { IfOk result (λ d. spec.IsRight frame.now d × (d.format.now ≡ format.now) × (d.arguments.now ≡ frame.now.arguments.now)) }
+        requires prepared { IsPrepared format.now told.prepared.now }
+        ensures { IfOk result (λ d. spec.IsRight frame.now d × (d.format.now ≡ format.now) × (d.arguments.now ≡ frame.now.arguments.now) × (d.told.prepared.now ≡ told.entry.prepared.now)) }
     {
         Ok(Draft {
             format,
+            told,
             arguments: frame.arguments,
-            fields: blank(alloc, format.fields.len())?,
+            fields: begun(alloc, told.prepared.constants.as_slice())?,
             ahead: from,
             solved: SmallVec::new(alloc),
             choices: Choices::NONE,
@@ -74,6 +94,15 @@ impl<'a> Draft<'a> {
         ensures { result ≡ spec.seen_of self.now }
     {
         View::of(self.fields.as_slice(), self.arguments)
+    }
+
+    /// The place of the context at which the entry of the field may stand.
+    #[inline(always)]
+    pub(crate) fn place_of(&self, frame: &PageFrame<'_>, field: usize) -> usize {
+        match at(self.told.places, field) {
+            Some(place) => frame.first.saturating_add(*place),
+            None => frame.first,
+        }
     }
 
     /// Does what calls no method. Whether it is done.
@@ -136,7 +165,8 @@ impl<'a> Draft<'a> {
             cursor,
             ahead: self.ahead,
         };
-        let Some(both) = coded(alloc, frame, &self.view(), declared, &source)? else {
+        let place = self.place_of(frame, field);
+        let Some(both) = coded(alloc, frame, &self.view(), declared, place, &source)? else {
             return Ok(false);
         };
         if !self.put(field, plain(both)) {
@@ -161,7 +191,8 @@ impl<'a> Draft<'a> {
         let Some(declared) = self.format.fields.get(field) else {
             return Ok(false);
         };
-        let Some(down) = encoded(alloc, frame, &self.view(), declared, up)? else {
+        let place = self.place_of(frame, field);
+        let Some(down) = encoded(alloc, frame, &self.view(), declared, place, up)? else {
             return Ok(false);
         };
         let both = BothSides {
@@ -350,20 +381,31 @@ impl<'a> Draft<'a> {
     }
 }
 
-/// So many fields of which nothing is read.
+/// A level of which the constants alone are read.
 #[inline(always)]
-fn blank(alloc: Global, count: usize) -> Result<Vec<Shown>, AllocError>
-    ensures { IfOk result (λ v. v.items ≡ replicate count spec.blank) }
+fn begun(alloc: Global, constants: &[Option<BothSides>]) -> Result<Vec<Shown>, AllocError>
+    ensures { IfOk result (λ v. AreMade spec.BeginsWith constants.now v.items (length constants.now)) }
 {
-    let mut fields = Vec::with_capacity(alloc, count)?;
-    for _ in 0..count {
-        fields.push(Shown {
+    let mut fields = Vec::with_capacity(alloc, constants.len())?;
+    for i in 0..constants.len() {
+        fields.push(begun_with(&constants[i]))?;
+    }
+    Ok(fields)
+}
+
+/// A field with what it begins with.
+#[inline(always)]
+fn begun_with(constant: &Option<BothSides>) -> Shown
+    ensures { spec.BeginsWith constant.now result }
+{
+    match constant {
+        Some(both) => plain(*both),
+        None => Shown {
             uncompressed: None,
             compressed: None,
             inner: None,
-        })?;
+        },
     }
-    Ok(fields)
 }
 
 /// Whether nothing is read of the field.

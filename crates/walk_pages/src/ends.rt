@@ -1,20 +1,23 @@
 //! The end of a level that is read.
 
 ghost use Rattle.std.specs.Prelude.{◌≡◌, ℕ, List, Bool, Some, IfOk, IfSome, IsTrue, slice_get};
+ghost use Rattle.sem_filling.specs.Fillings.{header_bits};
 ghost use Rattle.sem_filling.specs.Fits.{format_at};
 ghost use Rattle.sem_pages.specs.declared.page.Shown.{out-Shown};
-ghost use Rattle.sem_pages.specs.Pages as pages;
+ghost use Rattle.sem_pages.specs.Pages.{level_by};
+ghost use Rattle.sem_pages.specs.Prepared.{IsPrepared};
 ghost use Rattle.sem_profile.specs.declared.profile.Constraint.{Constraint};
 ghost use Rattle.walk_pages.specs.Drafts as spec;
 
-use crate::draft::{Draft, WholePage};
+use crate::draft::{Draft, PackedPage, WholePage};
 use sem_bits::Bits;
 use sem_filling::WholeSides;
 use sem_pages::{
-    Page, PageFrame, Shown, View, Word, are_unsent, constraint_holds, header_of, packed_of, summed,
+    Page, PageFrame, Shown, View, Word, are_unsent, constraint_holds, have_lengths, header_of,
+    is_header, packed_of, summed,
 };
 use sem_profile::{Constraint, Encoding, Field, Format, Library, Shared};
-use sqlite_items::Items;
+use sqlite_items::{Items, at};
 use std::alloc::{AllocError, Global};
 
 /// The page of a draft of the frame's method, where each field of the format is there, and all else holds that the format says.
@@ -28,10 +31,76 @@ pub(crate) fn ended(
     requires right { spec.IsRight frame.now draft }
     requires format { format_at frame.now.methods.now frame.now.method index ≡ Some draft.format.now }
     requires arguments { draft.arguments.now ≡ frame.now.arguments.now }
+    requires prepared { IsPrepared draft.format.now draft.told.prepared.now }
     ensures { IfOk result (λ o. IfSome o (spec.IsWholePage frame.now)) }
+{
+    if draft.fields.len() != draft.format.fields.len() {
+        return Ok(None);
+    }
+    let found = header_of(
+        alloc,
+        draft.format.fields.as_slice(),
+        draft.fields.as_slice(),
+    )?;
+    let Some(header) = found else {
+        return Ok(None);
+    };
+    let Some(found) = ended_with(alloc, frame, index, draft, &header)? else {
+        return Ok(None);
+    };
+    let PackedPage { page, packed } = found;
+    let whole = WholeSides { header, packed };
+    Ok(Some(WholePage { page, whole }))
+}
+
+/// The same where the header has to be this one, for who has it.
+#[inline(always)]
+pub(crate) fn ended_as(
+    alloc: Global,
+    frame: &PageFrame<'_>,
+    index: usize,
+    draft: Draft<'_>,
+    header: &Bits,
+) -> Result<Option<PackedPage>, AllocError>
+    requires right { spec.IsRight frame.now draft }
+    requires format { format_at frame.now.methods.now frame.now.method index ≡ Some draft.format.now }
+    requires arguments { draft.arguments.now ≡ frame.now.arguments.now }
+    requires prepared { IsPrepared draft.format.now draft.told.prepared.now }
+    ensures { IfOk result (λ o. IfSome o (spec.IsPackedPage frame.now header.now)) }
+{
+    if draft.fields.len() != draft.format.fields.len() {
+        return Ok(None);
+    }
+    let is_same = is_header(
+        header,
+        draft.format.fields.as_slice(),
+        draft.fields.as_slice(),
+    );
+    if !is_same {
+        return Ok(None);
+    }
+    ended_with(alloc, frame, index, draft, header)
+}
+
+/// The same where the header is this one.
+#[inline(always)]
+fn ended_with(
+    alloc: Global,
+    frame: &PageFrame<'_>,
+    index: usize,
+    draft: Draft<'_>,
+    header: &Bits,
+) -> Result<Option<PackedPage>, AllocError>
+    requires right { spec.IsRight frame.now draft }
+    requires format { format_at frame.now.methods.now frame.now.method index ≡ Some draft.format.now }
+    requires arguments { draft.arguments.now ≡ frame.now.arguments.now }
+    requires prepared { IsPrepared draft.format.now draft.told.prepared.now }
+    requires header { header.now ≡ header_bits (level_by draft.format.now.fields draft.fields.items) }
+    ensures { IfOk result (λ o. IfSome o (spec.IsPackedPage frame.now header.now)) }
 {
     let Draft {
         format,
+        told,
         arguments,
         fields,
         ahead: _ahead,
@@ -39,13 +108,7 @@ pub(crate) fn ended(
         choices: _choices,
     } = draft;
     let mut fields = fields;
-    if fields.len() != format.fields.len() {
-        return Ok(None);
-    }
-    let Some(header) = header_of(alloc, format.fields.as_slice(), fields.as_slice())? else {
-        return Ok(None);
-    };
-    if !end_sums(alloc, format, arguments, &mut fields, &header)? {
+    if !end_sums(alloc, format, arguments, &mut fields, header)? {
         return Ok(None);
     }
     let Some(packed) = packed_of(alloc, format, fields.as_slice())? else {
@@ -54,26 +117,39 @@ pub(crate) fn ended(
     if !are_unsent(format.listing.get().as_slice(), fields.as_slice()) {
         return Ok(None);
     }
-    let whole = WholeSides { header, packed };
-    let view = View::at_end(fields.as_slice(), arguments, &whole);
-    if !constraints_hold(format.constraints.as_slice(), &view, solved.as_slice()) {
+    let view = View::at_end(fields.as_slice(), arguments, header, &packed);
+    if !have_lengths(told.prepared.lengths.as_slice(), &view) {
         return Ok(None);
     }
-    Ok(Some(WholePage {
+    let do_hold = others_hold(
+        format.constraints.as_slice(),
+        told.prepared.others.as_slice(),
+        &view,
+        solved.as_slice(),
+    );
+    if !do_hold {
+        return Ok(None);
+    }
+    Ok(Some(PackedPage {
         page: Page {
             format: index,
             fields: Items::from_vec(fields),
         },
-        whole,
+        packed,
     }))
 }
 
-/// Whether each constraint that isn't solved holds.
-fn constraints_hold(constraints: &[Shared<Constraint>], view: &View<'_>, solved: &[usize]) -> bool
-    ensures { IsTrue result → ((n j : ℕ) (c : Constraint) → slice_get solved.now n ≡ Some j → slice_get constraints.now j ≡ Some c → pages.HoldsOn view.now c) → (j : ℕ) (c : Constraint) → slice_get constraints.now j ≡ Some c → pages.HoldsOn view.now c }
+/// Whether each of these constraints, by their indices, is solved or holds.
+fn others_hold(
+    constraints: &[Shared<Constraint>],
+    others: &[usize],
+    view: &View<'_>,
+    solved: &[usize],
+) -> bool
+    ensures { IsTrue result → (m j : ℕ) → slice_get others.now m ≡ Some j → spec.IsSettled view.now constraints.now solved.now j }
 {
-    for j in 0..constraints.len() {
-        if !is_settled(constraints[j].get(), j, view, solved) {
+    for index in others {
+        if !is_settled(constraints, *index, view, solved) {
             return false;
         }
     }
@@ -82,14 +158,20 @@ fn constraints_hold(constraints: &[Shared<Constraint>], view: &View<'_>, solved:
 
 /// Whether the constraint of that index is solved or holds.
 #[inline(always)]
-fn is_settled(constraint: &Constraint, index: usize, view: &View<'_>, solved: &[usize]) -> bool
-    ensures { IsTrue result → ((n : ℕ) → slice_get solved.now n ≡ Some index → pages.HoldsOn view.now constraint.now) → pages.HoldsOn view.now constraint.now }
+fn is_settled(
+    constraints: &[Shared<Constraint>],
+    index: usize,
+    view: &View<'_>,
+    solved: &[usize],
+) -> bool
+    ensures { IsTrue result → spec.IsSettled view.now constraints.now solved.now index }
 {
-    // No bracket is solved.
-    match constraint {
-        Constraint::Bracket { .. } => constraint_holds(constraint, view),
-        Constraint::Enforce { .. } => is_solved(solved, index)
-            || constraint_holds(constraint, view),
+    if is_solved(solved, index) {
+        return true;
+    }
+    match at(constraints, index) {
+        Some(constraint) => constraint_holds(constraint.get(), view),
+        None => false,
     }
 }
 

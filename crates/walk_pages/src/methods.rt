@@ -25,12 +25,13 @@ pub(crate) fn read_method(
     cursor: &Cursor<'_>,
     from: usize,
 ) -> Result<Option<WholePage>, AllocError>
+    requires { frame.now.methods.now ≡ accepted.now.profile.methods }
     ensures { IfOk result (λ o. IfSome o (spec.IsWholePage frame.now)) }
 {
     let Some(start) = picked(alloc, accepted, frame, cursor, from)? else {
         return Ok(None);
     };
-    let mut draft = Draft::new(alloc, start.format, frame, from)?;
+    let mut draft = Draft::new(alloc, start.format, start.told, frame, from)?;
     for operation in start.operations {
         if !step(depth, alloc, accepted, frame, &mut draft, operation, cursor)? {
             return Ok(None);
@@ -51,6 +52,7 @@ fn step(
     operation: &PageOperation,
     cursor: &Cursor<'_>,
 ) -> Result<bool, AllocError>
+    requires { frame.now.methods.now ≡ accepted.now.profile.methods }
     ensures { IfOk result (λ b. IsTrue b → spec.GoesOn frame.now draft.old draft.new) }
 {
     match operation {
@@ -77,6 +79,7 @@ fn call(
     inside: Inside,
     cursor: &Cursor<'_>,
 ) -> Result<bool, AllocError>
+    requires { frame.now.methods.now ≡ accepted.now.profile.methods }
     ensures { IfOk result (λ b. IsTrue b → spec.GoesOn frame.now draft.old draft.new) }
 {
     let Some(found) = called(depth, alloc, accepted, frame, draft, inside, cursor)? else {
@@ -97,6 +100,7 @@ fn called(
     inside: Inside,
     cursor: &Cursor<'_>,
 ) -> Result<Option<WholePage>, AllocError>
+    requires { frame.now.methods.now ≡ accepted.now.profile.methods }
     ensures { IfOk result (λ o. IfSome o (spec.IsCalled frame.now draft.now inside.field)) }
 {
     let Some(field) = draft.format.fields.get(inside.field) else {
@@ -116,6 +120,7 @@ fn called(
         method: *method,
         arguments: values.as_slice(),
         path: here.as_str(),
+        first: draft.place_of(frame, inside.field).saturating_add(1),
     };
     if inside.takes {
         read_inside(depth, alloc, accepted, &inner, cursor, draft.ahead)
@@ -136,6 +141,7 @@ fn read_inside(
     cursor: &Cursor<'_>,
     from: usize,
 ) -> Result<Option<WholePage>, AllocError>
+    requires { frame.now.methods.now ≡ accepted.now.profile.methods }
     ensures { IfOk result (λ o. IfSome o (spec.IsWholePage frame.now)) }
 {
     if depth == 0 {

@@ -73,6 +73,7 @@ fn top_page(
         method: profile.top(),
         arguments: [].as_slice(),
         path: "",
+        first: 0,
     };
     read_method(DEPTH_LIMIT, alloc, accepted, &frame, cursor, 0)
 }

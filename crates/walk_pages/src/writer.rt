@@ -1,16 +1,15 @@
 //! What is written by a page.
 
-ghost use Rattle.std.specs.Prelude.{◌≡◌, IfOk, IfSome, IsTrue};
+ghost use Rattle.std.specs.Prelude.{IfOk, IfSome};
 ghost use Rattle.walk_pages.specs.Writer as spec;
 
-use crate::draft::WholePage;
-use crate::writing::{Given, write_method};
+use crate::draft::PackedPage;
+use crate::writing::{Given, write_top};
 use cert_accepted::Accepted;
 use sem_bits::{Bits, Cursor};
 use sem_context::Context;
-use sem_filling::{Item, WholeSides};
+use sem_filling::Item;
 use sem_pages::{Page, PageFrame, has_asked};
-use sem_profile::DEPTH_LIMIT;
 use std::alloc::{AllocError, Global};
 
 /// What was written: the page, and its packed bits.
@@ -34,11 +33,7 @@ pub fn write_page(
     let Some(found) = top_page(alloc, accepted, context, item, number)? else {
         return Ok(None);
     };
-    let WholePage { page, whole } = found;
-    let WholeSides { header, packed } = whole;
-    if !is_same(&header, &item.header) {
-        return Ok(None);
-    }
+    let PackedPage { page, packed } = found;
     let profile = accepted.profile();
     let has_values = has_asked(
         profile.methods(),
@@ -52,22 +47,15 @@ pub fn write_page(
     Ok(Some(WrittenPage { page, packed }))
 }
 
-/// Whether these are the same bits.
-fn is_same(one: &Bits, other: &Bits) -> bool
-    ensures { IsTrue result → one.now ≡ other.now }
-{
-    *one == *other
-}
-
-/// The page of the top.
+/// The page of the top with the item's header.
 fn top_page(
     alloc: Global,
     accepted: &Accepted,
     context: &Context,
     item: &Item,
     number: u64,
-) -> Result<Option<WholePage>, AllocError>
-    ensures { IfOk result (λ o. IfSome o (spec.IsTopPage accepted.now context.now)) }
+) -> Result<Option<PackedPage>, AllocError>
+    ensures { IfOk result (λ o. IfSome o (spec.IsTopPage accepted.now context.now item.now.header)) }
 {
     let profile = accepted.profile();
     let frame = PageFrame {
@@ -76,6 +64,7 @@ fn top_page(
         method: profile.top(),
         arguments: [].as_slice(),
         path: "",
+        first: 0,
     };
     let cursor = Cursor::new(&item.header);
     let given = Given {
@@ -84,5 +73,5 @@ fn top_page(
         asked: item.asked.as_slice(),
         number,
     };
-    write_method(DEPTH_LIMIT, alloc, accepted, &frame, &given)
+    write_top(alloc, accepted, &frame, &given, &item.header)
 }

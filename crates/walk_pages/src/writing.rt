@@ -1,20 +1,21 @@
 //! Pages by the numbers of candidates and the write plans of an accepted profile.
 
 ghost use Rattle.std.specs.Prelude.{◌≡◌, IfOk, IfSome, IsTrue, Some};
-ghost use Rattle.sem_filling.specs.Fits.{format_at};
 ghost use Rattle.sem_pages.specs.declared.frame.PageFrame.{PageFrame};
 ghost use Rattle.walk_pages.specs.Drafts as spec;
+ghost use Rattle.walk_pages.specs.Picks as picks;
 
 use crate::choices::Choices;
-use crate::draft::{Draft, Inside, WholePage};
-use crate::ends::ended;
+use crate::draft::{Draft, Inside, PackedPage, Told, WholePage};
+use crate::ends::{ended, ended_as};
+use crate::picks::told_at;
 use cert_accepted::Accepted;
 use cert_compiled::{Origin, PageWriting};
-use sem_bits::Cursor;
-use sem_filling::whole_sides::reference_below;
+use sem_bits::{Bits, Cursor};
+use sem_filling::whole_sides::reference_near;
 use sem_filling::{AskedValue, FieldPath};
 use sem_pages::{PageFrame, Source, Word, add_values, natural};
-use sem_profile::{Encoding, Format, Library, Method};
+use sem_profile::{DEPTH_LIMIT, Encoding, Format, Library, Method};
 use smallvec::SmallVec;
 use sqlite_items::at;
 use std::alloc::{AllocError, Global};
@@ -49,12 +50,13 @@ pub(crate) fn write_method(
     frame: &PageFrame<'_>,
     given: &Given<'_, '_>,
 ) -> Result<Option<WholePage>, AllocError>
+    requires { frame.now.methods.now ≡ accepted.now.profile.methods }
     ensures { IfOk result (λ o. IfSome o (spec.IsWholePage frame.now)) }
 {
     let Some(start) = start_of(accepted, frame.methods, frame.method, given.number) else {
         return Ok(None);
     };
-    let mut draft = Draft::new(alloc, start.format, frame, given.from)?;
+    let mut draft = Draft::new(alloc, start.format, start.told, frame, given.from)?;
     draft.begin(start.choices);
     for operation in start.operations {
         if !step(depth, alloc, accepted, frame, &mut draft, operation, given)? {
@@ -62,6 +64,38 @@ pub(crate) fn write_method(
         }
     }
     ended(alloc, frame, start.index, draft)
+}
+
+/// The page of the top that may be the candidate with this number for what is given, whose header is this one.
+pub(crate) fn write_top(
+    alloc: Global,
+    accepted: &Accepted,
+    frame: &PageFrame<'_>,
+    given: &Given<'_, '_>,
+    header: &Bits,
+) -> Result<Option<PackedPage>, AllocError>
+    requires { frame.now.methods.now ≡ accepted.now.profile.methods }
+    ensures { IfOk result (λ o. IfSome o (spec.IsPackedPage frame.now header.now)) }
+{
+    let Some(start) = start_of(accepted, frame.methods, frame.method, given.number) else {
+        return Ok(None);
+    };
+    let mut draft = Draft::new(alloc, start.format, start.told, frame, given.from)?;
+    draft.begin(start.choices);
+    for operation in start.operations {
+        if !step(
+            DEPTH_LIMIT,
+            alloc,
+            accepted,
+            frame,
+            &mut draft,
+            operation,
+            given,
+        )? {
+            return Ok(None);
+        }
+    }
+    ended_as(alloc, frame, start.index, draft, header)
 }
 
 /// Does what an operation says. Whether that is done.
@@ -76,6 +110,7 @@ fn step(
     operation: &PageWriting,
     given: &Given<'_, '_>,
 ) -> Result<bool, AllocError>
+    requires { frame.now.methods.now ≡ accepted.now.profile.methods }
     ensures { IfOk result (λ b. IsTrue b → spec.GoesOn frame.now draft.old draft.new) }
 {
     match operation {
@@ -214,7 +249,8 @@ fn count_of(
             None => Ok(None),
         },
         Encoding::Library(Library::Lsb { .. } | Library::Static) => {
-            match reference_below(alloc, frame.context, frame.path, declared)? {
+            let place = draft.place_of(frame, field);
+            match reference_near(alloc, frame.context, frame.path, declared, place)? {
                 Some(reference) => Ok(Some(reference.len())),
                 None => Ok(None),
             }
@@ -235,6 +271,7 @@ fn call(
     inside: Inside,
     given: &Given<'_, '_>,
 ) -> Result<bool, AllocError>
+    requires { frame.now.methods.now ≡ accepted.now.profile.methods }
     ensures { IfOk result (λ b. IsTrue b → spec.GoesOn frame.now draft.old draft.new) }
 {
     let Some(ways) = ways_of(accepted, draft, inside.field) else {
@@ -288,6 +325,7 @@ fn called(
     inside: Inside,
     given: &Given<'_, '_>,
 ) -> Result<Option<WholePage>, AllocError>
+    requires { frame.now.methods.now ≡ accepted.now.profile.methods }
     ensures { IfOk result (λ o. IfSome o (spec.IsCalled frame.now draft.now inside.field)) }
 {
     let Some(field) = draft.format.fields.get(inside.field) else {
@@ -307,6 +345,7 @@ fn called(
         method: *method,
         arguments: values.as_slice(),
         path: here.as_str(),
+        first: draft.place_of(frame, inside.field).saturating_add(1),
     };
     if !inside.takes {
         return Ok(None);
@@ -324,6 +363,7 @@ fn write_inside(
     frame: &PageFrame<'_>,
     given: &Given<'_, '_>,
 ) -> Result<Option<WholePage>, AllocError>
+    requires { frame.now.methods.now ≡ accepted.now.profile.methods }
     ensures { IfOk result (λ o. IfSome o (spec.IsWholePage frame.now)) }
 {
     if depth == 0 {
@@ -343,6 +383,7 @@ pub fn has_operations(accepted: &Accepted, number: u64) -> bool {
 pub(crate) struct Start<'a, 'b> {
     index: usize,
     format: &'a Format,
+    told: Told<'b>,
     operations: &'b [PageWriting],
     choices: Choices,
 }
@@ -354,7 +395,7 @@ fn start_of<'a, 'b>(
     method: usize,
     number: u64,
 ) -> Option<Start<'a, 'b>>
-    ensures { IfSome result (λ s. format_at methods.now method s.index ≡ Some s.format.now) }
+    ensures { IfSome result (picks.IsStart accepted.now methods.now method) }
 {
     let spans = at(accepted.spans(), method)?;
     let mut rest = number;
@@ -365,6 +406,7 @@ fn start_of<'a, 'b>(
             return Some(Start {
                 index,
                 format: methods.get(method)?.formats.get(index)?,
+                told: told_at(accepted, method, index)?,
                 operations: operations.as_slice(),
                 choices: Choices::new(rest, *span),
             });

@@ -186,9 +186,10 @@ fn refuted_by_asked(
         format: outlook.format,
         arguments: place.frame.arguments,
         choices: &[],
+        places: &[],
     };
     let cursor = Cursor::new(&value.bits);
-    let has_other = is_other_at(alloc, place, &told, found, &cursor, 0)?;
+    let has_other = is_other_at(alloc, place, &told, field, found, &cursor, 0)?;
     if has_other {
         Ok(Some(digits.alike()))
     } else {
@@ -227,6 +228,7 @@ fn refuted_by_walk(
         format: outlook.format,
         arguments: place.frame.arguments,
         choices,
+        places: &[],
     };
     let mut values = Values::new(alloc);
     let are_told = tells_values(&told, arguments.as_slice(), &mut values)?;

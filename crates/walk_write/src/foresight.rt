@@ -185,6 +185,8 @@ fn foreseen_choice(
         format: outlook.format,
         arguments: place.frame.arguments,
         choices: choices.as_slice(),
+        // (references aren't looked at again)
+        places: &[],
     };
     let source = outlook.source;
     let has_other = differs(
@@ -359,6 +361,7 @@ fn refuted_by_call(
         format: outlook.format,
         arguments: place.frame.arguments,
         choices,
+        places: &[],
     };
     let mut values = Values::new(alloc);
     let are_told = tells_values(&told, arguments.as_slice(), &mut values)?;

@@ -90,6 +90,7 @@ fn lacks_inside(
         format,
         arguments: values.as_slice(),
         choices: &[],
+        places: &[],
     };
     lacks_field(
         depth - 1,

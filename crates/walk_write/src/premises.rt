@@ -11,6 +11,9 @@ use smallvec::SmallVec;
 use sqlite_items::at;
 use std::alloc::AllocError;
 
+/// A place of the context at which no entry stands.
+pub(crate) const NOWHERE: usize = usize::MAX;
+
 /// A field with the digit that chooses its bits.
 #[derive(Clone, Copy, Default)]
 pub(crate) struct Chosen {
@@ -24,9 +27,20 @@ pub(crate) struct Premises<'a> {
     pub(crate) format: &'a Format,
     pub(crate) arguments: &'a [i128],
     pub(crate) choices: &'a [Chosen],
+    /// For each field the place of the context at which its entry may stand; of fields without one nothing is said.
+    pub(crate) places: &'a [usize],
 }
 
 impl<'a> Premises<'a> {
+    /// The place of the context at which the entry of the field may stand.
+    #[inline(always)]
+    pub(crate) fn place_of(&self, field: usize) -> usize {
+        match at(self.places, field) {
+            Some(place) => *place,
+            None => NOWHERE,
+        }
+    }
+
     /// The value of an expression, where what is told is enough for it. It isn't always found where it is.
     pub(crate) fn value(&self, expr: &Expr) -> Option<i128>
         ensures { IfSome result (λ v. val (spec.numbers self.now) expr.now ≡ Some v) }

@@ -15,7 +15,7 @@ use cert_accepted::frame::{format_of, sizes_of};
 use cert_accepted::{Accepted, AcceptedFrame};
 use sem_bits::{Bits, Cursor};
 use sem_expr::{Attribute, Cond, Expr, Measure, Side, Subject, compares};
-use sem_filling::whole_sides::reference_below;
+use sem_filling::whole_sides::{reference_below, reference_near};
 use sem_library::lsb_down;
 use sem_profile::{
     Bounds, Constraint, DEPTH_LIMIT, Encoding, Field, Format, Library, Part, Shared, Sizes,
@@ -74,8 +74,18 @@ pub(crate) fn is_refuted_else(
         format: found,
         arguments: place.frame.arguments,
         choices: &[],
+        places: places_of(place, format),
     };
     differs(alloc, place, &told, sizes.fields.as_slice(), source, from)
+}
+
+/// For each field of the format a place of the context at which its entry may stand. That is told of the top alone, where no other entries come first.
+fn places_of<'a>(place: &AcceptedFrame<'a>, format: usize) -> &'a [usize] {
+    if place.frame.path.is_empty() {
+        place.accepted.compiled().places(place.frame.method, format)
+    } else {
+        &[]
+    }
 }
 
 /// Whether one of these constraints of the format, by their indices, is false by the arguments and by the references of `static` fields, whatever the fields
@@ -303,7 +313,7 @@ pub(crate) fn differs(
         if !is_header(field) {
             continue;
         }
-        let has_other = is_other(alloc, place, told, field, source, from + offset)?;
+        let has_other = is_other(alloc, place, told, index, field, source, from + offset)?;
         if has_other {
             return Ok(true);
         }
@@ -339,12 +349,13 @@ pub(crate) fn only_length(bounds: Bounds, most: usize) -> Option<usize>
 }
 
 /// Whether the field can hold no bits that come next there: a constant that is told, a `static` one or one of `lsb` with numbers. It isn't always told. The
-/// error is out of memory.
+/// field goes by its index, too. The error is out of memory.
 #[inline(always)]
 fn is_other(
     alloc: Global,
     place: &AcceptedFrame<'_>,
     told: &Premises<'_>,
+    index: usize,
     field: &Field,
     source: &Cursor<'_>,
     begin: usize,
@@ -354,7 +365,7 @@ fn is_other(
 {
     // Of most fields nothing is told, for which nothing has to be called.
     if is_telling(place.accepted, told, field.encoding.get()) {
-        is_other_at(alloc, place, told, field, source, begin)
+        is_other_at(alloc, place, told, index, field, source, begin)
     } else {
         Ok(false)
     }
@@ -392,6 +403,7 @@ pub(crate) fn is_other_at(
     alloc: Global,
     place: &AcceptedFrame<'_>,
     told: &Premises<'_>,
+    index: usize,
     field: &Field,
     source: &Cursor<'_>,
     begin: usize,
@@ -412,7 +424,7 @@ pub(crate) fn is_other_at(
         return Ok(false);
     }
     match library {
-        Library::Static => is_changed(alloc, place, field, source, begin),
+        Library::Static => { is_changed(alloc, place, field, told.place_of(index), source, begin) }
         Library::Lsb { bits, offset } => is_far(alloc, place, field, bits, offset, source, begin),
         _ => Ok(false),
     }
@@ -451,20 +463,21 @@ fn lacks_news(
     )
 }
 
-/// Whether the reference of a `static` field is not there.
+/// Whether the reference of a `static` field is not there. Its entry may stand at that place of the context.
 #[inline(never)]
 fn is_changed(
     alloc: Global,
     place: &AcceptedFrame<'_>,
     field: &Field,
+    near: usize,
     source: &Cursor<'_>,
     begin: usize,
 ) -> Result<bool, AllocError>
     requires within { begin ≤ length source.now.left }
     ensures { IfOk result (λ is. IsTrue is → (known : Assignment) → spec.IsOther place.now.accepted.now.profile known (Encoding.Library Library.Static) (spec.reference_at place.now field.now) (drop begin source.now.left)) }
 {
-    let Some(reference) = reference_below(alloc, place.frame.context, place.frame.path, field)?
-    else {
+    let found = reference_near(alloc, place.frame.context, place.frame.path, field, near)?;
+    let Some(reference) = found else {
         return Ok(true);
     };
     Ok(!is_there(reference, source, begin))

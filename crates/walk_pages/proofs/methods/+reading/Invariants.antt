@@ -18,4 +18,4 @@ abbrev pub decreases-read_method : goal.decreases-read_method
 decreases-read_method l = 5 * l.depth + 4
 
 abbrev pub invariant-read_method-loop-operation : goal.invariant-read_method-loop-operation
-invariant-read_method-loop-operation l = (l.depth ≡ l.fn.depth) × IsRight l.frame l.draft × (l.draft.format.now ≡ l.start.format.now) × (l.draft.arguments.now ≡ l.frame.arguments.now)
+invariant-read_method-loop-operation l = (l.depth ≡ l.fn.depth) × IsRight l.frame l.draft × (l.draft.format.now ≡ l.start.format.now) × (l.draft.arguments.now ≡ l.frame.arguments.now) × (l.draft.told.prepared.now ≡ l.start.told.prepared.now)

@@ -1,4 +1,5 @@
-use Rattle.std.proofs.Common.{rules, ◌∙◌, refl}
+use Rattle.std.proofs.Common.{ap, refl, rules, sym, ◌∙◌, ◌≡◌}
+use Rattle.sem_filling.specs.Fits.{format_at}
 use Rattle.walk_pages.proofs.Drafting.{goes_trans}
 use Rattle.walk_pages.proofs.writing.+writing.Goals as goal
 
@@ -6,7 +7,7 @@ pub write_method-loop-operation-preserved : goal.write_method-loop-operation-pre
 write_method-loop-operation-preserved t c =
     let goes = c.in_ok-step.ensures c.if-not-branch.false in
     let was = c.loop-operation.invariant in
-    ((search rules), goes.right was.1, goes.same.format_is ∙ was.2, goes.same.arguments_are ∙ was.3)
+    ((search rules), goes.right was.1, goes.same.format_is ∙ was.2, goes.same.arguments_are ∙ was.3, goes.same.prepared_is ∙ was.4)
 
 pub call-returns : goal.call-returns
 call-returns t c = λ is.
@@ -20,4 +21,10 @@ pub write_method-loop-operation-init : goal.write_method-loop-operation-init
 write_method-loop-operation-init t c =
     let goes = c.begin.ensures c.args.frame.now in
     let new = c.in_ok-draft.ensures in
-    (refl, goes.right new.0, goes.same.format_is ∙ new.1, goes.same.arguments_are ∙ new.2)
+    (refl, goes.right new.0, goes.same.format_is ∙ new.1, goes.same.arguments_are ∙ new.2, goes.same.prepared_is ∙ new.3)
+
+pub write_method-new-requires : goal.write_method-new-requires
+write_method-new-requires t c =
+    let found = c.in-Some.ensures in
+    let same : c.args.frame.now.methods.now ≡ c.args.accepted.now.profile.methods = (search rules) in
+    record { prepared = found.told c.in-Some.start.format.now (ap (λ z. format_at z c.args.frame.now.method c.in-Some.start.index) (sym same) ∙ found.format_is) }

@@ -7,6 +7,6 @@ use Rattle.walk_write.proofs.refutation.is_changed.Goals as goal
 
 pub returns : goal.returns
 returns c = λ t known.
-    let is : Some c.in-Some.reference.now ≡ reference_at c.args.place.now c.args.field.now = ap option_copied (sym c.in-Some.is) ∙ c.in_ok-reference.ensures in
+    let is : Some c.in-Some.reference.now ≡ reference_at c.args.place.now c.args.field.now = ap option_copied (sym c.in-Some.is) ∙ c.in_ok-found.ensures in
     let other : c.is_there.result ≡ false = (search rules) in
     by_static refl (subst (λ r. IsElse static r (drop c.args.begin c.args.source.now.left)) is (c.is_there.ensures other))
