@@ -3,3 +3,4 @@ pub mod StandingDepth
 pub mod StandingStart
 pub mod FrameUnsent
 pub mod Crossing
+pub mod Looking

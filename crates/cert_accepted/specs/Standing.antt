@@ -12,10 +12,13 @@ use Rattle.sem_profile.specs.declared.profile.Format.{Format}
 use Rattle.sem_profile.specs.declared.profile.Method.{Method}
 use Rattle.sem_profile.specs.Limits.{Chain}
 use Rattle.sem_profile.specs.Uses.{used_graph}
+use Rattle.cert_compiled.specs.declared.looks.Looks.{Looks}
+use Rattle.cert_compiled.specs.Compiled.{IsLookedBy}
 use Rattle.cert_rules.specs.Reading.{start_slots}
 use Rattle.walk_steps.specs.Partial.{Reached}
 use Rattle.walk_steps.specs.declared.level_frame.LevelFrame.{LevelFrame}
 use Rattle.cert_accepted.specs.declared.frame.AcceptedFrame.{AcceptedFrame}
+use Rattle.cert_accepted.specs.Accepted.{Accepting}
 
 -- the frame is of the accepted profile, the method is one of that, and its arguments lie in the ranges of its parameters
 pub record Stands (place : AcceptedFrame) : Type 0 where
@@ -42,6 +45,10 @@ pub record IsAtStart (place : AcceptedFrame) (n : ℕ) (l : Reached) : Type 0 wh
   pub sizes_are : sizes_at place.accepted.now.profile.sizes place.frame.method n ≡ Some l.sizes
   pub args_are : l.args ≡ place.frame.arguments.now
   pub slots_are : l.slots ≡ start_slots l.format.listing 0 l.format.fields
+
+-- what a look goes over is of that format of the method, both by their indices, of what is accepted
+abbrev pub AreLooksOf : Accepting → ℕ → ℕ → Looks → Type 0
+AreLooksOf a k n l = (format : Format) → format_at a.profile.methods k n ≡ Some format → IsLookedBy format (sizes_at a.profile.sizes k n) l
 
 -- no filling of the format fits here
 abbrev pub NeverFits : AcceptedFrame → ℕ → Type 0

@@ -44,7 +44,7 @@ impl Model for Accepted {
 
     ghost view = { λ a. record { profile = a.profile; certificate = a.certificate; counts = a.counts; spans = a.spans } };
 
-    ghost invariant = { λ a. IsAccepted (record { profile = a.profile; certificate = a.certificate; counts = a.counts; spans = a.spans }) × AreTables a.certificate.methods a.tables × AreCompiled a.profile.methods a.compiled.plan_acts };
+    ghost invariant = { λ a. IsAccepted (record { profile = a.profile; certificate = a.certificate; counts = a.counts; spans = a.spans }) × AreTables a.certificate.methods a.tables × AreCompiled a.profile.methods a.profile.sizes a.compiled.plan_acts };
 }
 
 impl Accepted {
@@ -59,7 +59,7 @@ impl Accepted {
     ) -> Accepted
         requires accepted { IsAccepted (record { profile = profile; certificate = certificate; counts = counts; spans = spans }) }
         requires tables { AreTables certificate.methods tables }
-        requires compiled { AreCompiled profile.methods compiled.plan_acts }
+        requires compiled { AreCompiled profile.methods profile.sizes compiled.plan_acts }
         ensures profile { result.profile ≡ profile }
         ensures certificate { result.certificate ≡ certificate }
     {
@@ -136,10 +136,10 @@ impl Accepted {
         self.tables.count(&self.certificate)
     }
 
-    /// What shortens the way of who draws fillings up and judges them, or reads and writes pages. What is prepared of a format is promised to be of that; of all
-    /// else nothing is promised.
+    /// What shortens the way of who draws fillings up and judges them, or reads and writes pages. What is prepared of a format, and the offsets that a look goes by,
+    /// are promised to be of that; of all else nothing is promised.
     pub fn compiled(&self) -> &CompiledPlans
-        ensures { AreCompiled self.now.profile.methods result.now.plan_acts }
+        ensures { AreCompiled self.now.profile.methods self.now.profile.sizes result.now.plan_acts }
     {
         &self.compiled
     }

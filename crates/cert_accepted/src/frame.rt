@@ -7,6 +7,7 @@ ghost use Rattle.sem_filling.specs.Fits.{format_at};
 ghost use Rattle.cert_accepted.specs.Standing as spec;
 
 use crate::Accepted;
+use cert_compiled::Looks;
 use sem_filling::Frame;
 use sem_profile::{Format, FormatSizes};
 use std::alloc::{AllocError, Global};
@@ -63,4 +64,12 @@ pub fn sizes_of(accepted: &Accepted, method: usize, index: usize) -> Option<&For
     ensures { option_copied result ≡ sizes_at accepted.now.profile.sizes method index }
 {
     accepted.profile().sizes().get(method)?.formats.get(index)
+}
+
+/// What a look at a format of a method goes over, both by their indices. None where nothing is listed.
+#[inline(always)]
+pub fn looks_of(accepted: &Accepted, method: usize, index: usize) -> Option<&Looks>
+    ensures { IfSome result (λ l. spec.AreLooksOf accepted.now method index l.now) }
+{
+    accepted.compiled().looks(method, index)
 }

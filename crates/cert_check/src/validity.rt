@@ -117,7 +117,7 @@ fn accepted(
     };
     let methods = profile.methods();
     let entries = certificate.methods();
-    let Ok(compiled) = CompiledPlans::of(alloc, methods, entries) else {
+    let Ok(compiled) = CompiledPlans::of(alloc, methods, profile.sizes(), entries) else {
         return Err(forgotten(profile, certificate));
     };
     match format_counts(alloc, methods, entries, counts.as_slice()) {

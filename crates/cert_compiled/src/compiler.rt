@@ -1,15 +1,17 @@
 //! From plans to fewer operations, for who draws fillings up and has them judged.
 
-ghost use Rattle.std.specs.Prelude.{IfOk};
+ghost use Rattle.std.specs.Prelude.{◌≡◌, IfOk, IfSome, slice_get, option_and_then};
+ghost use Rattle.std.specs.Option.{option_copied};
 ghost use Rattle.cert_compiled.specs.Compiled as spec;
 
+use crate::looks::{Looks, looks_of};
 use crate::operations::{CompiledPlan, Operations};
 use crate::pages::{page_operations, page_writing};
 use crate::places::{entry_counts, places_of};
 use crate::steps::OperationsSoFar;
 use cert_types::{Direction, FormatPlans, MethodPlans, Step};
 use sem_pages::Prepared;
-use sem_profile::{Constraint, Format, Method};
+use sem_profile::{Format, FormatSizes, Method, MethodSizes};
 use sqlite_items::{Items, at};
 use std::alloc::{AllocError, Global};
 
@@ -18,27 +20,40 @@ use std::alloc::{AllocError, Global};
 pub(crate) fn plan_acts(
     alloc: Global,
     methods: &[Method],
+    table: &[MethodSizes],
     entries: &[Option<MethodPlans>],
 ) -> Result<Items<Items<CompiledPlan>>, AllocError>
-    ensures { IfOk result (spec.AreCompiled methods.now) }
+    ensures { IfOk result (spec.AreCompiled methods.now table.now) }
 {
     let counts = entry_counts(alloc, methods)?;
+    let calls = Calls {
+        methods,
+        counts: counts.as_slice(),
+    };
     let mut all = Items::new(alloc);
     for k in 0..methods.len() {
-        let acts = acts_at(alloc, counts.as_slice(), &methods[k], at(entries, k))?;
+        let acts = acts_at(alloc, &calls, &methods[k], at(table, k), at(entries, k))?;
         all.push(acts)?;
     }
     Ok(all)
 }
 
+/// The methods that may be called, and for each how many entries a level of it leaves.
+#[derive(Clone, Copy)]
+struct Calls<'a> {
+    methods: &'a [Method],
+    counts: &'a [usize],
+}
+
 /// Those of one method, none where it has no plans.
 fn acts_at(
     alloc: Global,
-    counts: &[usize],
+    calls: &Calls<'_>,
     method: &Method,
+    sizes: Option<&MethodSizes>,
     entry: Option<&Option<MethodPlans>>,
 ) -> Result<Items<CompiledPlan>, AllocError>
-    ensures { IfOk result (spec.ArePlansOf method.now.formats) }
+    ensures { IfOk result (spec.ArePlansOf method.now.formats (option_copied sizes.entry)) }
 {
     let Some(entry) = entry else {
         return Ok(Items::new(alloc));
@@ -46,8 +61,9 @@ fn acts_at(
     match entry {
         Some(plans) => method_acts(
             alloc,
-            counts,
+            calls,
             method.formats.as_slice(),
+            sizes,
             plans.formats.as_slice(),
         ),
         None => Ok(Items::new(alloc)),
@@ -56,36 +72,46 @@ fn acts_at(
 
 fn method_acts(
     alloc: Global,
-    counts: &[usize],
+    calls: &Calls<'_>,
     formats: &[Format],
+    sizes: Option<&MethodSizes>,
     plans: &[FormatPlans],
 ) -> Result<Items<CompiledPlan>, AllocError>
-    ensures { IfOk result (spec.ArePlansOf formats.now) }
+    ensures { IfOk result (spec.ArePlansOf formats.now (option_copied sizes.entry)) }
 {
     let mut all = Items::new(alloc);
     for index in 0..formats.len() {
-        let plan = plan_for(alloc, counts, &formats[index], at(plans, index))?;
+        let own = format_sizes(sizes, index);
+        let plan = plan_for(alloc, calls, &formats[index], own, at(plans, index))?;
         all.push(plan)?;
     }
     Ok(all)
 }
 
+/// The bounds of the format of that index.
+fn format_sizes(sizes: Option<&MethodSizes>, index: usize) -> Option<&FormatSizes>
+    ensures { option_copied result ≡ option_and_then (λ s. slice_get s.formats index) (option_copied sizes.entry) }
+{
+    sizes?.formats.get(index)
+}
+
 fn plan_for(
     alloc: Global,
-    counts: &[usize],
+    calls: &Calls<'_>,
     format: &Format,
+    sizes: Option<&FormatSizes>,
     entry: Option<&FormatPlans>,
 ) -> Result<CompiledPlan, AllocError>
-    ensures { IfOk result (spec.IsPlanOf format.now) }
+    ensures { IfOk result (spec.IsPlanOf format.now (option_copied sizes.entry)) }
 {
     match entry {
-        Some(entry) => format_acts(alloc, counts, format, entry),
+        Some(entry) => format_acts(alloc, calls, format, sizes, entry),
         None => Ok(NONE),
     }
 }
 
 const NONE: CompiledPlan = CompiledPlan {
-    conditions: None,
+    looks: None,
     places: None,
     prepared: None,
     read: None,
@@ -96,18 +122,19 @@ const NONE: CompiledPlan = CompiledPlan {
 
 fn format_acts(
     alloc: Global,
-    counts: &[usize],
+    calls: &Calls<'_>,
     format: &Format,
+    sizes: Option<&FormatSizes>,
     entry: &FormatPlans,
 ) -> Result<CompiledPlan, AllocError>
-    ensures { IfOk result (spec.IsPlanOf format.now) }
+    ensures { IfOk result (spec.IsPlanOf format.now (option_copied sizes.entry)) }
 {
     match &entry.plans {
         Some(plans) => {
             let prepared = Prepared::of(alloc, format)?;
             Ok(CompiledPlan {
-                conditions: Some(conditions(alloc, format)?),
-                places: Some(places_of(alloc, counts, format)?),
+                looks: looks_at(alloc, calls, format, sizes)?,
+                places: Some(places_of(alloc, calls.counts, format)?),
                 read: operations(alloc, format, Direction::Read, plans.read.as_slice())?,
                 page: page_operations(alloc, format, &prepared, plans.read.as_slice())?,
                 page_writing: page_writing(alloc, format, &prepared, plans.write.as_slice())?,
@@ -116,6 +143,21 @@ fn format_acts(
             })
         }
         None => Ok(NONE),
+    }
+}
+
+/// What a look at the format goes over, where its bounds are there.
+fn looks_at(
+    alloc: Global,
+    calls: &Calls<'_>,
+    format: &Format,
+    sizes: Option<&FormatSizes>,
+) -> Result<Option<Looks>, AllocError>
+    ensures { IfOk result (λ o. IfSome o (spec.IsLookedBy format.now (option_copied sizes.entry))) }
+{
+    match sizes {
+        Some(sizes) => Ok(Some(looks_of(alloc, calls.methods, format, sizes)?)),
+        None => Ok(None),
     }
 }
 
@@ -133,15 +175,4 @@ fn operations(
         }
     }
     Ok(Some(so_far.into_operations()))
-}
-
-/// The conditions of a format.
-fn conditions(alloc: Global, format: &Format) -> Result<Items<usize>, AllocError> {
-    let mut found = Items::new(alloc);
-    for (index, constraint) in format.constraints.as_slice().iter().enumerate() {
-        if let Constraint::Enforce { .. } = constraint.get() {
-            found.push(index)?;
-        }
-    }
-    Ok(found)
 }

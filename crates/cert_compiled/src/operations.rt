@@ -1,5 +1,6 @@
 //! What is done to draw a filling up.
 
+use crate::looks::Looks;
 use crate::pages::{PageOperation, PageWriting};
 use cert_types::Step;
 use sem_expr::Side;
@@ -117,8 +118,8 @@ pub struct Operations {
 /// The operations of a format's plans, none of one that doesn't take its source from the front to the end.
 #[derive(Drop)]
 pub struct CompiledPlan {
-    /// The constraints that are conditions of ENFORCE, by their indices. A look goes over these alone.
-    pub conditions: Option<Items<usize>>,
+    /// What a look at the format goes over.
+    pub looks: Option<Looks>,
     /// For each field, in field order, how many entries a level leaves before its own, where each called method has its first format.
     pub places: Option<Items<usize>>,
     /// What the format tells of its levels.

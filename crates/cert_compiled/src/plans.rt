@@ -1,13 +1,14 @@
-//! What an accepted profile keeps for who draws fillings up and has them judged, and for who reads and writes pages. Of what is prepared of a format it is promised
-//! that it is that format's; of all else nothing is.
+//! What an accepted profile keeps for who draws fillings up and has them judged, and for who reads and writes pages. Of what is prepared of a format, and of the
+//! offsets that a look goes by, it is promised that they are that format's; of all else nothing is.
 
-ghost use Rattle.std.specs.Prelude.{IfOk};
+ghost use Rattle.std.specs.Prelude.{IfOk, IfSome};
 ghost use Rattle.cert_compiled.specs.Compiled as spec;
 
 use crate::compiler::plan_acts;
+use crate::looks::Looks;
 use crate::operations::CompiledPlan;
 use cert_types::MethodPlans;
-use sem_profile::Method;
+use sem_profile::{Method, MethodSizes};
 use sqlite_items::{Items, at};
 use std::alloc::{AllocError, Global};
 
@@ -19,23 +20,27 @@ pub struct CompiledPlans {
 }
 
 impl CompiledPlans {
-    /// Those of a profile's methods, by the plans of a certificate. The error is out of memory.
+    /// Those of a profile's methods, which have these bounds, by the plans of a certificate. The error is out of memory.
     pub fn of(
         alloc: Global,
         methods: &[Method],
+        table: &[MethodSizes],
         entries: &[Option<MethodPlans>],
     ) -> Result<CompiledPlans, AllocError>
-        ensures { IfOk result (λ c. spec.AreCompiled methods.now c.plan_acts) }
+        ensures { IfOk result (λ c. spec.AreCompiled methods.now table.now c.plan_acts) }
     {
-        let plan_acts = plan_acts(alloc, methods, entries)?;
+        let plan_acts = plan_acts(alloc, methods, table, entries)?;
         Ok(CompiledPlans { plan_acts })
     }
 
-    /// The conditions of the format of the method, both by their indices, where they are listed: each by its index among the constraints.
-    pub fn conditions(&self, method: usize, format: usize) -> Option<&[usize]> {
+    /// What a look at the format of the method goes over, both by their indices, where that is listed.
+    pub fn looks(&self, method: usize, format: usize) -> Option<&Looks>
+        ensures { IfSome result (λ l. spec.HasLooks self.now.plan_acts method format l.now) }
+    {
         let plans = at(self.plan_acts.as_slice(), method)?;
-        match &at(plans.as_slice(), format)?.conditions {
-            Some(conditions) => Some(conditions.as_slice()),
+        let plan = at(plans.as_slice(), format)?;
+        match &plan.looks {
+            Some(looks) => Some(looks),
             None => None,
         }
     }

@@ -1,6 +1,6 @@
 //! The entries of a context.
 
-ghost use Rattle.std.specs.Prelude.{◌≡◌, ◌↔◌, ◌-◌, Some, None, [], ◌∷◌, ◌++◌, length, map, slice_get, take, IfOk, IfSome, IsSome, IsSomeAnd, IsTrue, OnOk, OnErr, string_bytes};
+ghost use Rattle.std.specs.Prelude.{◌≡◌, ◌↔◌, ◌-◌, Some, None, [], ◌∷◌, ◌++◌, length, map, option_map, slice_get, take, IfOk, IfSome, IsSome, IsSomeAnd, IsTrue, OnOk, OnErr, string_bytes};
 ghost use Rattle.std.specs.Map.{keys_of};
 ghost use Rattle.std.specs.Option.{option_copied};
 ghost use Rattle.sem_context.specs.Entries.{AreDistinct, Entries, IsFront, bits_at, overridden, with_bits_at, with_entry};
@@ -91,7 +91,8 @@ impl Context {
     /// The entry at a place, the first at 0, or `None` past the last: its path, and the bits that are there.
     #[inline(always)]
     pub fn entry_at(&self, place: usize) -> Option<(&str, &Bits)>
-        ensures { IfSome result (λ e. bits_at self.now e.0.now ≡ Some e.1.now) }
+        ensures entry { option_map (λ e. (e.0.now, e.1.now)) result ≡ slice_get self.now place }
+        ensures bits { IfSome result (λ e. bits_at self.now e.0.now ≡ Some e.1.now) }
     {
         match self.kept.get(place) {
             Some((path, bits)) => Some((path.as_str(), bits)),

@@ -1,7 +1,7 @@
 -- A level that goes on.
 use Rattle.std.proofs.Common.{◌≡◌, ◌∙◌, refl, sym, ap, subst, ℕ, zero, suc, ◌<◌, length, Bool, true, List, [], ◌∷◌, ◌++◌, arith}
 use Rattle.std.proofs.lemmas.Option.{slice_get_within}
-use Rattle.std.specs.Prelude.{slice_get, slice_set, Option, Some, None, IfSome, ℤ, pos}
+use Rattle.std.specs.Prelude.{slice_get, slice_set, Option, Some, None, ℤ, pos}
 use Rattle.sem_bits.specs.Number.{num}
 use Rattle.sem_context.specs.Entries.{bits_at}
 use Rattle.sem_expr.specs.declared.expr.Attribute.{Attribute}
@@ -196,10 +196,6 @@ pub plain_shown : (u c : List Bool) → u ≡ [] → IsPlain (roll-Shown record 
 plain_shown u c none =
     let out = out-roll-Shown record { uncompressed = Some u; compressed = Some c; inner = None } in
     record { sides_are = record { uncompressed_is = ap (λ x. x.uncompressed) out ∙ ap Some none; compressed_is = ap (λ x. x.compressed) out }; inner_is = ap (λ x. x.inner) out }
-
-pub some_says : {A : Type 0} (P : A → Type 0) (o : Option A) → IfSome o P → (x : A) → o ≡ Some x → P x
-some_says P None h x e = absurd (cc)
-some_says P (Some y) h x e = let same : y ≡ x = cc in subst P same h
 
 pub whole_shown : (u c : List Bool) (p : Page)
     → let s = roll-Shown record { uncompressed = Some u; compressed = Some c; inner = Some p } in ((out-Shown s).uncompressed ≡ Some u) × ((out-Shown s).compressed ≡ Some c) × ((out-Shown s).inner ≡ Some p)

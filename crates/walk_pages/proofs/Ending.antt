@@ -26,7 +26,7 @@ use Rattle.sem_pages.proofs.Reading.{set_read}
 use Rattle.walk_pages.specs.declared.draft.Draft.{Draft}
 use Rattle.sem_pages.specs.declared.prepared.LengthTest.{LengthTest}
 use Rattle.sem_pages.specs.Prepared.{AreCovered, IsCovered, Passes, by_test, by_value}
-use Rattle.walk_pages.specs.Drafts.{AreEnded, IsRight, IsSettled, IsSummed, seen_with_header}
+use Rattle.walk_pages.specs.Drafts.{AreEnded, AreSettled, IsRight, IsSettled, IsSummed, seen_with_header}
 
 -- ---- checksums
 
@@ -141,6 +141,9 @@ settled_by v cs tests others solved passed settled j c here is (by_value m at) =
 pub covered_hold : (v : Seen) (cs : List Constraint) (tests : List LengthTest) (others solved : List ℕ) → AreCovered cs tests others (length cs) → ((m : ℕ) (t : LengthTest) → slice_get tests m ≡ Some t → Passes v t)
     → ((m j : ℕ) → slice_get others m ≡ Some j → IsSettled v cs solved j) → ((n j : ℕ) (c : Constraint) → slice_get solved n ≡ Some j → slice_get cs j ≡ Some c → HoldsOn v c) → (j : ℕ) (c : Constraint) → slice_get cs j ≡ Some c → HoldsOn v c
 covered_hold v cs tests others solved covered passed settled is j c here = settled_by v cs tests others solved passed settled j c here (λ n at. is n j c at here) (covered j c (slice_get_within cs j c here) here)
+
+pub settled_moved : (v v' : Seen) (cs : List Constraint) (solved solved' : List ℕ) → v ≡ v' → solved ≡ solved' → AreSettled v cs solved → AreSettled v' cs solved'
+settled_moved v v' cs solved solved' v_is solved_are settled = subst (AreSettled v' cs) solved_are (subst (λ z. AreSettled z cs solved) v_is settled)
 
 -- the same by what the code reads
 pub covered_moved : (v v' : Seen) (cs cs' : List Constraint) (tests tests' : List LengthTest) (others others' solved solved' : List ℕ) → v ≡ v' → cs ≡ cs' → tests ≡ tests' → others ≡ others' → solved ≡ solved'

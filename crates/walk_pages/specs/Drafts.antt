@@ -99,6 +99,10 @@ seen_with_header ss args h = record { fields = ss; arguments = args; header = So
 abbrev pub IsSettled : Seen → List Constraint → List ℕ → ℕ → Type 0
 IsSettled v cs solved j = (c : Constraint) → slice_get cs j ≡ Some c → ((n : ℕ) → slice_get solved n ≡ Some j → HoldsOn v c) → HoldsOn v c
 
+-- the constraints hold of what is seen, if those do that are solved
+abbrev pub AreSettled : Seen → List Constraint → List ℕ → Type 0
+AreSettled v cs solved = ((n j : ℕ) (c : Constraint) → slice_get solved n ≡ Some j → slice_get cs j ≡ Some c → HoldsOn v c) → (j : ℕ) (c : Constraint) → slice_get cs j ≡ Some c → HoldsOn v c
+
 -- the fields are as right as they were, and the header is the same
 pub record AreEnded (format : Format) (args : List ℤ) (h : List Bool) (old new : List Shown) : Type 0 where
   pub read : (methods : List Method) (ctx : Context) (path : Path) (solved : List ℕ) → AreRead methods ctx path format (seen_with_header old args h) solved → AreRead methods ctx path format (seen_with_header new args h) solved

@@ -13,8 +13,8 @@ use crate::draft::{Draft, PackedPage, WholePage};
 use sem_bits::Bits;
 use sem_filling::WholeSides;
 use sem_pages::{
-    Page, PageFrame, Shown, View, Word, are_unsent, constraint_holds, have_lengths, header_of,
-    is_header, packed_of, summed,
+    Page, PageFrame, Prepared, Shown, View, Word, are_unsent, constraint_holds, have_lengths,
+    header_of, is_header, packed_of, summed,
 };
 use sem_profile::{Constraint, Encoding, Field, Format, Library, Shared};
 use sqlite_items::{Items, at};
@@ -118,16 +118,7 @@ fn ended_with(
         return Ok(None);
     }
     let view = View::at_end(fields.as_slice(), arguments, header, &packed);
-    if !have_lengths(told.prepared.lengths.as_slice(), &view) {
-        return Ok(None);
-    }
-    let do_hold = others_hold(
-        format.constraints.as_slice(),
-        told.prepared.others.as_slice(),
-        &view,
-        solved.as_slice(),
-    );
-    if !do_hold {
+    if !constraints_hold(format, told.prepared, &view, solved.as_slice()) {
         return Ok(None);
     }
     Ok(Some(PackedPage {
@@ -137,6 +128,21 @@ fn ended_with(
         },
         packed,
     }))
+}
+
+/// Whether each constraint of the format is solved or holds.
+#[inline(always)]
+fn constraints_hold(format: &Format, prepared: &Prepared, view: &View<'_>, solved: &[usize]) -> bool
+    requires { IsPrepared format.now prepared.now }
+    ensures { IsTrue result → spec.AreSettled view.now format.now.constraints solved.now }
+{
+    have_lengths(prepared.lengths.as_slice(), view)
+        && others_hold(
+            format.constraints.as_slice(),
+            prepared.others.as_slice(),
+            view,
+            solved,
+        )
 }
 
 /// Whether each of these constraints, by their indices, is solved or holds.

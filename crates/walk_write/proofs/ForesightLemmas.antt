@@ -46,7 +46,8 @@ use Rattle.cert_candidates.proofs.WritingSteps.{asked_at}
 use Rattle.walk_write.specs.declared.premises.Chosen.{Chosen}
 use Rattle.walk_write.specs.Foresight.{IsAsked, IsAskedFor, HasSeen, StandsBefore, SeesOn, IsCounted, IsRefutedInside, by_values, by_start, AreRefutedInside}
 use Rattle.walk_write.specs.Going.{Begins}
-use Rattle.walk_write.specs.Refutation.{HasFalse, HaveBefore, Differs, operand}
+use Rattle.cert_compiled.specs.Offsets.{HaveBefore}
+use Rattle.walk_write.specs.Refutation.{HasFalse, Differs, operand}
 use Rattle.walk_write.specs.Premises.{HasChosen, told_numbers}
 use Rattle.walk_write.specs.Walking.{site_of, Fails}
 use Rattle.walk_write.proofs.Called.{is_method}

@@ -23,7 +23,7 @@ use Rattle.sem_filling.proofs.FitsInverted.{FitsParts, length-fields}
 use Rattle.sem_filling.proofs.FitsSides.{header_splits}
 use Rattle.sem_filling.proofs.FitsSized.{one_value, and_then_some}
 use Rattle.cert_rules.proofs.ViewsInputs.{joined, header_cons, declared_of, declared_in}
-use Rattle.walk_write.specs.Refutation.{HaveBefore, none_before, one_header, one_other}
+use Rattle.cert_compiled.specs.Offsets.{HaveBefore, none_before, one_header, one_other}
 
 -- the header up to a field and with it
 joined_more : (b : Bool) (u xs ys : List Bool) → joined b u (xs ++ ys) ≡ joined b u xs ++ ys

@@ -13,7 +13,7 @@ use Rattle.cert_accepted.specs.declared.frame.AcceptedFrame.{AcceptedFrame}
 use Rattle.walk_write.specs.declared.foresight.CalledField.{CalledField}
 use Rattle.walk_write.specs.declared.foresight.Outlook.{Outlook}
 use Rattle.walk_write.specs.Foresight.{IsPlaceInside}
-use Rattle.walk_write.specs.Refutation.{HaveBefore}
+use Rattle.cert_compiled.specs.Offsets.{HaveBefore}
 use Rattle.walk_write.specs.Sources.{front}
 use Rattle.walk_write.specs.Walking.{Fails}
 

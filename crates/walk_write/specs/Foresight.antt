@@ -5,7 +5,6 @@ use Rattle.cert_types.specs.declared.certificate.Step.{Step}
 use Rattle.sem_profile.specs.declared.profile.Field.{Field}
 use Rattle.sem_profile.specs.declared.profile.Format.{Format}
 use Rattle.sem_profile.specs.declared.profile.FormatSizes.{FormatSizes}
-use Rattle.sem_profile.specs.declared.profile.Sizes.{Sizes}
 use Rattle.sem_profile.specs.Resolved.{IsSound}
 use Rattle.sem_context.specs.Entries.{bits_at}
 use Rattle.sem_filling.specs.declared.filling.AskedValue.{AskedValue}
@@ -24,7 +23,9 @@ use Rattle.walk_write.specs.declared.foresight.CalledField.{CalledField}
 use Rattle.walk_write.specs.declared.foresight.Outlook.{Outlook}
 use Rattle.walk_write.specs.declared.premises.Chosen.{Chosen}
 use Rattle.walk_write.specs.Premises.{HasChosen}
-use Rattle.walk_write.specs.Refutation.{HasFalse, HaveBefore, IsRefuted, operand}
+use Rattle.cert_compiled.specs.Compiled.{IsLookedBy}
+use Rattle.cert_compiled.specs.Offsets.{HaveBefore}
+use Rattle.walk_write.specs.Refutation.{HasFalse, IsRefuted, operand}
 use Rattle.walk_write.specs.Sources.{front}
 use Rattle.walk_write.specs.Walking.{Fails, Passes}
 
@@ -76,12 +77,6 @@ pub record IsCounted (place : AcceptedFrame) : Type 0 where
   pub count_is : slice_get place.accepted.now.counts place.frame.method ≡ Some count
   pub fits : count < 2 ^ 64
 
--- the sizes of the fields of the format n
-pub record HasSizes (place : AcceptedFrame) (n : ℕ) (sizes : List Sizes) : Type 0 where
-  pub whole : FormatSizes
-  pub whole_is : sizes_at place.accepted.now.profile.sizes place.frame.method n ≡ Some whole
-  pub fields_are : whole.fields ≡ sizes
-
 -- ---- the filling inside
 
 -- where the method j stands that a field calls with these values
@@ -108,9 +103,9 @@ pub record AreRefutedInside (place : AcceptedFrame) (n : ℕ) (format : Format) 
 
 -- ---- by an outlook
 
--- the sizes are those of its format
-abbrev pub IsSized : Outlook → Type 0
-IsSized o = HasSizes o.place.now o.index o.sizes.now
+-- what a look goes over is of its format
+abbrev pub IsListed : Outlook → Type 0
+IsListed o = IsLookedBy o.format.now (sizes_at o.place.now.accepted.now.profile.sizes o.place.now.frame.method o.index) o.looks.now
 
 abbrev pub StandsAt : Outlook → Step → ℕ → Digits → List Chosen → Type 0
 StandsAt o one c digits choices = StandsBefore o.place.now o.index o.format.now o.source.now.asked.now one c digits choices

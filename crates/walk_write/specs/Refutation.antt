@@ -1,5 +1,5 @@
 -- What tells that no filling of a format fits, before its plan is followed.
-use Rattle.std.specs.Prelude.{◌≡◌, ℕ, ◌+◌, Bool, true, false, List, [], ◌++◌, drop, slice_get, ℤ, Option, Some, None, option_and_then, if◌then◌else◌}
+use Rattle.std.specs.Prelude.{◌≡◌, ℕ, Bool, true, false, List, [], ◌++◌, drop, slice_get, ℤ, Option, Some, None, option_and_then, if◌then◌else◌}
 use Rattle.text_source.specs.declared.span.Span.{Span}
 use Rattle.sem_expr.specs.declared.expr.Cond.{Cond}
 use Rattle.sem_expr.specs.declared.expr.Cond.TheVariants.{Compare}
@@ -36,6 +36,7 @@ use Rattle.cert_rules.specs.Trees.{is_static, referred}
 use Rattle.sem_profile.specs.Resolved.{Resolved}
 use Rattle.cert_accepted.specs.declared.frame.AcceptedFrame.{AcceptedFrame}
 use Rattle.cert_candidates.specs.Writing.{Begins}
+use Rattle.cert_compiled.specs.Offsets.{HaveBefore}
 use Rattle.walk_write.specs.Premises.{told_numbers}
 use Rattle.walk_write.specs.Walking.{site_of}
 
@@ -98,13 +99,6 @@ pub record HasFalse (known : Expr → Option ℤ) (constraints : List Constraint
 -- no bits in front of these have packed bits under the method, where the field's reference is this
 abbrev pub IsElse : lib.Method → Option (List Bool) → List Bool → Type 0
 IsElse m ref bits = (u c rest : List Bool) → bits ≡ u ++ rest → Lib m ref u c → ⊥
-
--- each header field before a field has one length by its bounds, and together they have so many bits
-pub data HaveBefore (fields : List Field) (sizes : List Sizes) : ℕ → ℕ → Type 0 where
-  none_before : HaveBefore fields sizes 0 0
-  one_header : {i n : ℕ} (d : Field) (b : Sizes) → HaveBefore fields sizes i n → slice_get fields i ≡ Some d → is_header d.declared.part ≡ true → slice_get sizes i ≡ Some b →
-      b.uncompressed.least ≡ b.uncompressed.most → HaveBefore fields sizes (i + 1) (n + b.uncompressed.least)
-  one_other : {i n : ℕ} (d : Field) → HaveBefore fields sizes i n → slice_get fields i ≡ Some d → is_header d.declared.part ≡ false → HaveBefore fields sizes (i + 1) n
 
 -- with this encoding a field calls the method j, whose only format is this, with these values
 pub record CallsOnly (p : Resolved) (known : Assignment) (c : Encoding) (j : ℕ) (args : List ℤ) (format : Format) : Type 0 where

@@ -13,16 +13,14 @@ ghost use Rattle.walk_write.specs.Walking.{Fails, IsBelow};
 use crate::calls::radix_of;
 use crate::end::plans_of;
 use crate::fault::WriteFault;
-use crate::foresight::{
-    CalledField, Choices, Outlook, note_asked, offset_of, read_call, read_choice,
-};
+use crate::foresight::{CalledField, Choices, Outlook, note_asked, read_call, read_choice};
 use crate::premises::{Chosen, Premises, Values, tells_values};
-use crate::refutation::{is_header, is_other_at};
+use crate::refutation::{is_header, is_other_at, offset_at};
 use crate::source::HeaderSource;
 use crate::start::start_at;
 use crate::take::asked_before;
 use crate::walk::write_method;
-use cert_accepted::frame::{format_of, sizes_of};
+use cert_accepted::frame::{format_of, looks_of};
 use cert_accepted::{Accepted, AcceptedFrame};
 use cert_candidates::Digits;
 use cert_types::Step;
@@ -61,14 +59,14 @@ pub fn refuted_closely(
     let Some(format) = format_of(place.accepted, place.frame.method, start.format) else {
         return Ok(None);
     };
-    let Some(sizes) = sizes_of(place.accepted, place.frame.method, start.format) else {
+    let Some(looks) = looks_of(place.accepted, place.frame.method, start.format) else {
         return Ok(None);
     };
     let outlook = Outlook {
         place,
         index: start.format,
         format,
-        sizes: sizes.fields.as_slice(),
+        looks,
         source,
     };
     let plan = plans.write.as_slice();
@@ -87,7 +85,7 @@ fn refuted_in(
     requires stands { Stands outlook.now.place.now }
     requires deep { HasDepth outlook.now.place.now depth }
     requires within { IsWithin outlook.now.source.now }
-    requires sized { spec.IsSized outlook.now }
+    requires listed { spec.IsListed outlook.now }
     requires seen { spec.HasSeen outlook.now.place.now outlook.now.index outlook.now.format.now outlook.now.source.now.asked.now plan.now number start [] }
     ensures { IfOk result (λ o. IfSome o (spec.FailsFrom outlook.now number)) }
 {
@@ -124,7 +122,7 @@ fn refuted_by_step(
     requires stands { Stands outlook.now.place.now }
     requires deep { HasDepth outlook.now.place.now depth }
     requires within { IsWithin outlook.now.source.now }
-    requires sized { spec.IsSized outlook.now }
+    requires listed { spec.IsListed outlook.now }
     requires before { spec.StandsAt outlook.now step number digits choices.now }
     ensures { IfOk result (λ o. IfSome o (spec.FailsFrom outlook.now number)) }
 {
@@ -210,7 +208,7 @@ fn refuted_by_walk(
     requires stands { Stands outlook.now.place.now }
     requires deep { HasDepth outlook.now.place.now depth }
     requires within { IsWithin outlook.now.source.now }
-    requires sized { spec.IsSized outlook.now }
+    requires listed { spec.IsListed outlook.now }
     requires before { spec.StandsAt outlook.now (steps.Call field) number before choices.now }
     ensures { IfOk result (λ o. IfSome o (spec.FailsFrom outlook.now number)) }
 {
@@ -261,7 +259,7 @@ fn walked_inside(
     requires stands { Stands outlook.now.place.now }
     requires deep { HasDepth outlook.now.place.now depth }
     requires within { IsWithin outlook.now.source.now }
-    requires sized { spec.IsSized outlook.now }
+    requires listed { spec.IsListed outlook.now }
     requires calls { closer.IsHeaderCall outlook.now called.now }
     requires below { (n : ℕ) → slice_get outlook.now.place.now.accepted.now.counts called.now.method ≡ Some n → number < n }
     ensures { IfOk result (λ o. IfSome o (closer.FailsInside outlook.now called.now number)) }
@@ -271,12 +269,8 @@ fn walked_inside(
         return Ok(None);
     }
     let source = outlook.source;
-    let Some(offset) = offset_of(
-        outlook.format.fields.as_slice(),
-        outlook.sizes,
-        called.index,
-        source.cursor.rest() - source.from,
-    ) else {
+    let most = source.cursor.rest() - source.from;
+    let Some(offset) = offset_at(outlook.looks, called.index, most) else {
         return Ok(None);
     };
     let path = FieldPath::of(alloc, place.frame.path, called.field.declared.name.as_str())?;

@@ -6,24 +6,24 @@ ghost use Rattle.cert_types.specs.declared.certificate.Step.TheVariants as steps
 ghost use Rattle.cert_rules.specs.Counts.{ways};
 ghost use Rattle.walk_write.specs.Foresight as spec;
 ghost use Rattle.walk_write.specs.Going as going;
-ghost use Rattle.walk_write.specs.Refutation.{HaveBefore};
 ghost use Rattle.walk_write.specs.Sources.{IsWithin, front};
 ghost use Rattle.walk_write.specs.Walking as walking;
 
 use crate::calls::radix_of;
 use crate::end::plans_of;
 use crate::premises::{Chosen, Premises, Values, tells_values};
-use crate::refutation::{differs, has_false, is_header, is_refuted_else, only_length};
+use crate::refutation::{differs, has_false, is_header, is_refuted_else, offset_at};
 use crate::source::HeaderSource;
 use crate::start::start_at;
 use crate::take::asked_before;
-use cert_accepted::frame::{format_of, sizes_of};
+use cert_accepted::frame::{format_of, looks_of};
 use cert_accepted::{Accepted, AcceptedFrame};
 use cert_candidates::{Digits, Start};
+use cert_compiled::Looks;
 use cert_rules::choice_of;
 use cert_types::Step;
 use sem_filling::{AskedValue, FieldPath, Frame};
-use sem_profile::{Encoding, Field, Format, Library, Sizes};
+use sem_profile::{Encoding, Field, Format};
 use smallvec::SmallVec;
 use sqlite_items::at;
 use std::alloc::{AllocError, Global};
@@ -31,13 +31,13 @@ use std::alloc::{AllocError, Global};
 /// What is chosen and asked for before a step of a plan. Most are few: these take no memory of their own.
 pub(crate) type Choices = SmallVec<Chosen, 8>;
 
-/// A format whose plan is looked through: where it is filled, by its index and as it is, with the bounds of its fields, and what it takes from.
+/// A format whose plan is looked through: where it is filled, by its index and as it is, with what a look goes over, and what it takes from.
 #[derive(Clone, Copy)]
 pub(crate) struct Outlook<'a> {
     pub(crate) place: &'a AcceptedFrame<'a>,
     pub(crate) index: usize,
     pub(crate) format: &'a Format,
-    pub(crate) sizes: &'a [Sizes],
+    pub(crate) looks: &'a Looks,
     pub(crate) source: &'a HeaderSource<'a>,
 }
 
@@ -74,14 +74,14 @@ pub(crate) fn foreseen(
     let Some(format) = format_of(place.accepted, place.frame.method, start.format) else {
         return Ok(false);
     };
-    let Some(sizes) = sizes_of(place.accepted, place.frame.method, start.format) else {
+    let Some(looks) = looks_of(place.accepted, place.frame.method, start.format) else {
         return Ok(false);
     };
     let outlook = Outlook {
         place,
         index: start.format,
         format,
-        sizes: sizes.fields.as_slice(),
+        looks,
         source,
     };
     foreseen_in(
@@ -110,7 +110,7 @@ fn foreseen_in(
 ) -> Result<bool, AllocError>
     requires within { IsWithin outlook.now.source.now }
     requires counted { spec.IsCounted outlook.now.place.now }
-    requires sized { spec.IsSized outlook.now }
+    requires listed { spec.IsListed outlook.now }
     requires seen { spec.HasSeen outlook.now.place.now outlook.now.index outlook.now.format.now outlook.now.source.now.asked.now plan.now number.old start [] }
     ensures past { OnOk result (spec.PassesBy outlook.now number.old number.new) }
     ensures further { IfOk result (λ again. IsTrue again → number.old < number.new) }
@@ -138,7 +138,7 @@ fn foreseen_step(
 ) -> Result<bool, AllocError>
     requires within { IsWithin outlook.now.source.now }
     requires counted { spec.IsCounted outlook.now.place.now }
-    requires sized { spec.IsSized outlook.now }
+    requires listed { spec.IsListed outlook.now }
     requires stands { spec.StandsAt outlook.now step number.old digits.old choices.old.items }
     ensures past { OnOk result (spec.PassesBy outlook.now number.old number.new) }
     ensures over { IfOk result (λ is. IsTrue is → number.old < number.new) }
@@ -173,7 +173,7 @@ fn foreseen_choice(
 ) -> Result<bool, AllocError>
     requires within { IsWithin outlook.now.source.now }
     requires counted { spec.IsCounted outlook.now.place.now }
-    requires sized { spec.IsSized outlook.now }
+    requires listed { spec.IsListed outlook.now }
     requires stands { spec.StandsAt outlook.now (steps.Choose field) number.old digits.old choices.old.items }
     ensures past { OnOk result (spec.PassesBy outlook.now number.old number.new) }
     ensures over { IfOk result (λ is. IsTrue is → number.old < number.new) }
@@ -193,7 +193,7 @@ fn foreseen_choice(
         alloc,
         outlook.place,
         &told,
-        outlook.sizes,
+        outlook.looks,
         source.cursor,
         source.from,
     )?;
@@ -214,7 +214,7 @@ fn foreseen_call(
 ) -> Result<bool, AllocError>
     requires within { IsWithin outlook.now.source.now }
     requires counted { spec.IsCounted outlook.now.place.now }
-    requires sized { spec.IsSized outlook.now }
+    requires listed { spec.IsListed outlook.now }
     requires stands { spec.StandsAt outlook.now (steps.Call field) number.old digits.old choices.now }
     ensures past { OnOk result (spec.PassesBy outlook.now number.old number.new) }
     ensures over { IfOk result (λ is. IsTrue is → number.old < number.new) }
@@ -346,7 +346,7 @@ fn refuted_by_call(
     number: u64,
 ) -> Result<Option<u64>, AllocError>
     requires within { IsWithin outlook.now.source.now }
-    requires sized { spec.IsSized outlook.now }
+    requires listed { spec.IsListed outlook.now }
     requires stands { spec.StandsAt outlook.now (steps.Call field) number before choices.now }
     ensures { IfOk result (λ o. IfSome o (spec.FailsFrom outlook.now number)) }
 {
@@ -392,7 +392,7 @@ fn refuted_inside(
     count: u64,
 ) -> Result<Option<u64>, AllocError>
     requires within { IsWithin outlook.now.source.now }
-    requires sized { spec.IsSized outlook.now }
+    requires listed { spec.IsListed outlook.now }
     requires there { called.now.method < length outlook.now.place.now.accepted.now.profile.methods }
     requires below { number < count }
     requires counted { slice_get outlook.now.place.now.accepted.now.counts called.now.method ≡ Some count }
@@ -428,7 +428,7 @@ fn alike_inside(
     number: u64,
 ) -> Result<Option<u64>, AllocError>
     requires within { IsWithin outlook.now.source.now }
-    requires sized { spec.IsSized outlook.now }
+    requires listed { spec.IsListed outlook.now }
     requires there { called.now.method < length outlook.now.place.now.accepted.now.profile.methods }
     requires below { (n : ℕ) → slice_get outlook.now.place.now.accepted.now.counts called.now.method ≡ Some n → number < n }
     ensures { IfOk result (λ o. IfSome o (λ many. spec.RefutesAllInside outlook.now called.now number many)) }
@@ -464,7 +464,7 @@ fn is_refuted_inside(
     inside: usize,
 ) -> Result<bool, AllocError>
     requires within { IsWithin outlook.now.source.now }
-    requires sized { spec.IsSized outlook.now }
+    requires listed { spec.IsListed outlook.now }
     ensures { IfOk result (λ told. IsTrue told → spec.RefutesInside outlook.now called.now inside) }
 {
     let place = outlook.place;
@@ -474,16 +474,12 @@ fn is_refuted_inside(
     if has_false(found.constraints.as_slice(), called.arguments) {
         return Ok(true);
     }
-    if !is_header(called.field) || !may_tell(found) {
+    if !is_header(called.field) || !may_tell(place.accepted, called.method, inside) {
         return Ok(false);
     }
     let source = outlook.source;
-    let Some(offset) = offset_of(
-        outlook.format.fields.as_slice(),
-        outlook.sizes,
-        called.index,
-        source.cursor.rest() - source.from,
-    ) else {
+    let most = source.cursor.rest() - source.from;
+    let Some(offset) = offset_at(outlook.looks, called.index, most) else {
         return Ok(false);
     };
     let path = FieldPath::of(alloc, place.frame.path, called.field.declared.name.as_str())?;
@@ -507,45 +503,11 @@ fn is_refuted_inside(
     )
 }
 
-/// Whether a look at a format may tell anything. Of most formats that are called nothing is told, for which nothing has to be found.
-fn may_tell(format: &Format) -> bool {
-    format.fields.as_slice().iter().any(may_tell_by)
-}
-
-/// The same by one of its fields.
-fn may_tell_by(field: &Field) -> bool {
-    match field.encoding.get() {
-        Encoding::Library(Library::Static) => true,
-        Encoding::Library(Library::UncompressedValue { .. } | Library::Lsb { .. })
-        | Encoding::Call { .. } => is_header(field),
-        Encoding::Library(_) | Encoding::Bare => false,
+/// Whether a look at a format of the method, both by their indices, may tell anything. Of most formats that are called nothing is told, for which nothing has to
+/// be found.
+fn may_tell(accepted: &Accepted, method: usize, format: usize) -> bool {
+    match looks_of(accepted, method, format) {
+        Some(looks) => !looks.conditions.is_empty() || !looks.fields.is_empty(),
+        None => false,
     }
-}
-
-/// How many bits the header fields before this one have, where each has one length by its bounds, and they are no more than so many.
-pub(crate) fn offset_of(
-    fields: &[Field],
-    sizes: &[Sizes],
-    field: usize,
-    most: usize,
-) -> Option<usize>
-    ensures { IfSome result (λ n. (n ≤ most) × HaveBefore fields.now sizes.now field n) }
-{
-    let mut offset = 0;
-    for index in 0..field {
-        let Some(earlier) = at(fields, index) else {
-            return None;
-        };
-        if !is_header(earlier) {
-            continue;
-        }
-        let Some(bounds) = at(sizes, index) else {
-            return None;
-        };
-        let Some(count) = only_length(bounds.uncompressed, most - offset) else {
-            return None;
-        };
-        offset += count;
-    }
-    Some(offset)
 }

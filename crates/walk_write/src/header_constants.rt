@@ -4,16 +4,19 @@ ghost use Rattle.std.specs.Prelude.{◌≡◌, ◌≤◌, false, None, Bool, Lis
 ghost use Rattle.sem_filling.specs.Fits.{format_at};
 ghost use Rattle.sem_library.specs.Methods as lib;
 ghost use Rattle.sem_profile.specs.Resolved.{Resolved};
+ghost use Rattle.sem_profile.specs.declared.profile.Sizes.{Sizes};
+ghost use Rattle.cert_compiled.specs.Offsets.{AreOffsets};
 ghost use Rattle.walk_write.specs.Refutation as spec;
 ghost use Rattle.walk_write.specs.Premises.{numbers};
 
 use crate::premises::{Premises, Values, tells_values};
-use crate::refutation::{has_false, is_header, only_length};
+use crate::refutation::{has_false, is_header, offset_at};
 use cert_accepted::Accepted;
-use cert_accepted::frame::{format_of, sizes_of};
+use cert_accepted::frame::{format_of, looks_of};
+use cert_compiled::Looks;
 use sem_bits::Cursor;
 use sem_expr::Expr;
-use sem_profile::{Encoding, Library, Sizes};
+use sem_profile::{Encoding, Library};
 use sqlite_items::at;
 use std::alloc::{AllocError, Global};
 
@@ -83,7 +86,7 @@ fn lacks_inside(
     if has_false(format.constraints.as_slice(), values.as_slice()) {
         return Ok(true);
     }
-    let Some(sizes) = sizes_of(accepted, call.method, 0) else {
+    let Some(looks) = looks_of(accepted, call.method, 0) else {
         return Ok(false);
     };
     let inner = Premises {
@@ -92,36 +95,29 @@ fn lacks_inside(
         choices: &[],
         places: &[],
     };
-    lacks_field(
-        depth - 1,
-        alloc,
-        accepted,
-        &inner,
-        sizes.fields.as_slice(),
-        source,
-        begin,
-    )
+    lacks_field(depth - 1, alloc, accepted, &inner, looks, source, begin)
 }
 
-/// Whether a header field of the format lacks its constant. They are looked at up to the first that can have more than one length.
+/// Whether a header field of the format lacks its constant. Those are looked at that are listed.
 #[cycle(lacking)]
 fn lacks_field(
     depth: usize,
     alloc: Global,
     accepted: &Accepted,
     told: &Premises<'_>,
-    sizes: &[Sizes],
+    looks: &Looks,
     source: &Cursor<'_>,
     from: usize,
 ) -> Result<bool, AllocError>
     requires within { from ≤ length source.now.left }
-    ensures { IfOk result (λ is. IsTrue is → spec.FieldLacks accepted.now.profile (numbers told.now) told.now.format.now.fields sizes.now (drop from source.now.left)) }
+    ensures { IfOk result (λ is. IsTrue is → (sizes : List Sizes) → AreOffsets told.now.format.now.fields sizes looks.now.offsets → spec.FieldLacks accepted.now.profile (numbers told.now) told.now.format.now.fields sizes (drop from source.now.left)) }
 {
-    let fields = told.format.fields.as_slice();
     let all = source.rest() - from;
-    let mut offset = 0;
-    for index in 0..fields.len() {
-        let Some(field) = at(fields, index) else {
+    for index in looks.chosen.as_slice() {
+        let Some(field) = at(told.format.fields.as_slice(), *index) else {
+            continue;
+        };
+        let Some(offset) = offset_at(looks, *index, all) else {
             return Ok(false);
         };
         if !is_header(field) {
@@ -139,13 +135,6 @@ fn lacks_field(
         if has_other {
             return Ok(true);
         }
-        let Some(bounds) = at(sizes, index) else {
-            return Ok(false);
-        };
-        let Some(count) = only_length(bounds.uncompressed, all - offset) else {
-            return Ok(false);
-        };
-        offset += count;
     }
     Ok(false)
 }

@@ -5,21 +5,22 @@ ghost use Rattle.sem_expr.specs.Values.{Assignment};
 ghost use Rattle.sem_filling.specs.Fillings as fillings;
 ghost use Rattle.sem_filling.specs.Fits.{format_at};
 ghost use Rattle.sem_library.specs.Methods as lib;
+ghost use Rattle.sem_profile.specs.declared.profile.Sizes.{Sizes};
+ghost use Rattle.cert_compiled.specs.Offsets.{AreOffsets};
 ghost use Rattle.cert_rules.specs.Trees.{is_static, referred};
 ghost use Rattle.walk_write.specs.Refutation as spec;
 ghost use Rattle.walk_write.specs.Premises.{numbers};
 
 use crate::header_constants::{has_more, lacks};
 use crate::premises::Premises;
-use cert_accepted::frame::{format_of, sizes_of};
-use cert_accepted::{Accepted, AcceptedFrame};
+use cert_accepted::AcceptedFrame;
+use cert_accepted::frame::{format_of, looks_of};
+use cert_compiled::Looks;
 use sem_bits::{Bits, Cursor};
 use sem_expr::{Attribute, Cond, Expr, Measure, Side, Subject, compares};
 use sem_filling::whole_sides::{reference_below, reference_near};
 use sem_library::lsb_down;
-use sem_profile::{
-    Bounds, Constraint, DEPTH_LIMIT, Encoding, Field, Format, Library, Part, Shared, Sizes,
-};
+use sem_profile::{Constraint, DEPTH_LIMIT, Encoding, Field, Format, Library, Part, Shared};
 use sqlite_items::at;
 use std::alloc::{AllocError, Global};
 
@@ -57,26 +58,20 @@ pub(crate) fn is_refuted_else(
     requires found { format_at place.now.accepted.now.profile.methods place.now.frame.method format ≡ Some found.now }
     ensures { IfOk result (λ is. IsTrue is → spec.IsRefuted place.now format (drop from source.now.left)) }
 {
-    if let Some(conditions) = place
-        .accepted
-        .compiled()
-        .conditions(place.frame.method, format)
-    {
-        let is_contrary = contradicts(alloc, place, found, conditions)?;
-        if is_contrary {
-            return Ok(true);
-        }
-    }
-    let Some(sizes) = sizes_of(place.accepted, place.frame.method, format) else {
+    let Some(looks) = looks_of(place.accepted, place.frame.method, format) else {
         return Ok(false);
     };
+    let is_contrary = contradicts(alloc, place, found, looks.conditions.as_slice())?;
+    if is_contrary {
+        return Ok(true);
+    }
     let told = Premises {
         format: found,
         arguments: place.frame.arguments,
         choices: &[],
         places: places_of(place, format),
     };
-    differs(alloc, place, &told, sizes.fields.as_slice(), source, from)
+    differs(alloc, place, &told, looks, source, from)
 }
 
 /// For each field of the format a place of the context at which its entry may stand. That is told of the top alone, where no other entries come first.
@@ -89,7 +84,7 @@ fn places_of<'a>(place: &AcceptedFrame<'a>, format: usize) -> &'a [usize] {
 }
 
 /// Whether one of these constraints of the format, by their indices, is false by the arguments and by the references of `static` fields, whatever the fields
-/// hold. Those that have arguments alone aren't looked at. The error is out of memory.
+/// hold. The error is out of memory.
 fn contradicts(
     alloc: Global,
     place: &AcceptedFrame<'_>,
@@ -128,9 +123,6 @@ fn is_contradicted(
     let Cond::Compare(_, comparison, left, right) = condition else {
         return Ok(false);
     };
-    if is_by_arguments(left, right) {
-        return Ok(false);
-    }
     let Some(other) = known_operand(alloc, place, fields, right)? else {
         return Ok(false);
     };
@@ -138,16 +130,6 @@ fn is_contradicted(
         return Ok(false);
     };
     Ok(!compares(*comparison, one, other))
-}
-
-/// Whether one of them is a parameter, and the other one is, too, or is a number.
-#[inline(always)]
-fn is_by_arguments(left: &Expr, right: &Expr) -> bool {
-    match left {
-        Expr::Parameter(_, _) => matches!(right, Expr::Parameter(_, _) | Expr::Number(_, _)),
-        Expr::Number(_, _) => matches!(right, Expr::Parameter(_, _)),
-        Expr::Attribute(_, _) | Expr::Binary(_, _, _, _) => false,
-    }
 }
 
 /// The value of a number, a parameter or a `static` field. The error is out of memory.
@@ -289,43 +271,58 @@ fn operand(expr: &Expr, arguments: &[i128]) -> Option<i128>
     }
 }
 
-/// Whether the header has other bits than one of the format's fields can hold, by what is told of them. The fields are looked at up to the first that can have
-/// more than one length. The error is out of memory.
+/// Whether the header has other bits than one of the format's fields can hold, by what is told of them. Those are looked at that are listed. The error is out of
+/// memory.
 #[inline(always)]
 pub(crate) fn differs(
     alloc: Global,
     place: &AcceptedFrame<'_>,
     told: &Premises<'_>,
-    sizes: &[Sizes],
+    looks: &Looks,
     source: &Cursor<'_>,
     from: usize,
 ) -> Result<bool, AllocError>
     requires within { from ≤ length source.now.left }
-    ensures { IfOk result (λ is. IsTrue is → spec.Differs place.now (numbers told.now) told.now.format.now.fields sizes.now (drop from source.now.left)) }
+    ensures { IfOk result (λ is. IsTrue is → (sizes : List Sizes) → AreOffsets told.now.format.now.fields sizes looks.now.offsets → spec.Differs place.now (numbers told.now) told.now.format.now.fields sizes (drop from source.now.left)) }
 {
-    let fields = told.format.fields.as_slice();
     let all = source.rest() - from;
-    let mut offset = 0;
-    for index in 0..fields.len() {
-        let Some(field) = at(fields, index) else {
+    for index in listed_fields(looks, told) {
+        let Some(field) = at(told.format.fields.as_slice(), *index) else {
+            continue;
+        };
+        let Some(offset) = offset_at(looks, *index, all) else {
             return Ok(false);
         };
         if !is_header(field) {
             continue;
         }
-        let has_other = is_other(alloc, place, told, index, field, source, from + offset)?;
+        let has_other = is_other(alloc, place, told, *index, field, source, from + offset)?;
         if has_other {
             return Ok(true);
         }
-        let Some(bounds) = at(sizes, index) else {
-            return Ok(false);
-        };
-        let Some(count) = only_length(bounds.uncompressed, all - offset) else {
-            return Ok(false);
-        };
-        offset += count;
     }
     Ok(false)
+}
+
+/// The fields that a look goes over: before any choice, or after one.
+#[inline(always)]
+fn listed_fields<'a>(looks: &'a Looks, told: &Premises<'_>) -> &'a [usize] {
+    if told.choices.is_empty() {
+        looks.fields.as_slice()
+    } else {
+        looks.chosen.as_slice()
+    }
+}
+
+/// How many bits the header fields before this one have, where that is told, and they are no more than so many.
+#[inline(always)]
+pub(crate) fn offset_at(looks: &Looks, field: usize, most: usize) -> Option<usize>
+    ensures { IfSome result (λ n. (n ≤ most) × (slice_get looks.now.offsets field ≡ Some (Some n))) }
+{
+    match at(looks.offsets.as_slice(), field) {
+        Some(Some(offset)) => { if *offset <= most { Some(*offset) } else { None } }
+        _ => None,
+    }
 }
 
 pub(crate) fn is_header(field: &Field) -> bool
@@ -334,17 +331,6 @@ pub(crate) fn is_header(field: &Field) -> bool
     match field.declared.part {
         Part::Header => true,
         Part::Control | Part::Local => false,
-    }
-}
-
-/// The only length within the bounds, where there is one and it is not above this one.
-pub(crate) fn only_length(bounds: Bounds, most: usize) -> Option<usize>
-    ensures { IfSome result (λ n. (n ≤ most) × (bounds.least ≡ n) × (bounds.most ≡ n)) }
-{
-    if bounds.least == bounds.most && bounds.least <= most as u128 {
-        Some(bounds.least as usize)
-    } else {
-        None
     }
 }
 
@@ -363,41 +349,16 @@ fn is_other(
     requires within { begin ≤ length source.now.left }
     ensures { IfOk result (λ is. IsTrue is → spec.IsOther place.now.accepted.now.profile (numbers told.now) field.now.encoding (spec.reference_at place.now field.now) (drop begin source.now.left)) }
 {
-    // Of most fields nothing is told, for which nothing has to be called.
-    if is_telling(place.accepted, told, field.encoding.get()) {
-        is_other_at(alloc, place, told, index, field, source, begin)
-    } else {
-        Ok(false)
+    // Of most fields the reference is told, for which nothing else has to be asked.
+    match field.encoding.get() {
+        Encoding::Library(Library::Static) if told.choices.is_empty() => {
+            is_changed(alloc, place, field, told.place_of(index), source, begin)
+        }
+        _ => is_other_at(alloc, place, told, index, field, source, begin),
     }
 }
 
-/// Whether a field of this encoding may tell something. What stays the same whatever is chosen was looked at before any choice.
-#[inline(always)]
-fn is_telling(accepted: &Accepted, told: &Premises<'_>, encoding: &Encoding) -> bool {
-    match encoding {
-        Encoding::Library(library) => match library {
-            Library::UncompressedValue { value, .. } => {
-                !told.choices.is_empty() || is_without_fields(value)
-            }
-            Library::Static | Library::Lsb { .. } => told.choices.is_empty(),
-            _ => false,
-        },
-        Encoding::Call { method, .. } => !has_more(accepted, *method),
-        Encoding::Bare => false,
-    }
-}
-
-/// Whether no field is asked for: before any choice a value is told of such an expression alone.
-fn is_without_fields(expr: &Expr) -> bool {
-    match expr {
-        Expr::Number(_, _) | Expr::Parameter(_, _) => true,
-        Expr::Attribute(_, _) => false,
-        // Of a long sum the last term is on the right.
-        Expr::Binary(_, _, left, right) => is_without_fields(right) && is_without_fields(left),
-    }
-}
-
-/// The same of a field that may tell something.
+/// The same of any field.
 #[inline(never)]
 pub(crate) fn is_other_at(
     alloc: Global,

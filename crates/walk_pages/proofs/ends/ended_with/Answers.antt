@@ -2,7 +2,7 @@ use Rattle.std.proofs.Common.{rules, ◌∙◌, ap}
 use Rattle.sem_filling.specs.declared.whole_sides.WholeSides.{WholeSides}
 use Rattle.sem_pages.specs.declared.page.Page.{out-roll-Page}
 use Rattle.sem_pages.specs.Pages.{seen_at_end}
-use Rattle.walk_pages.proofs.Ending.{covered_moved, page_ended}
+use Rattle.walk_pages.proofs.Ending.{page_ended, settled_moved}
 use Rattle.walk_pages.proofs.ends.ended_with.Goals as goal
 
 pub returns : goal.returns
@@ -12,5 +12,4 @@ returns c =
     let seen = c.at_end-view.ensures ∙ ap (λ ss. seen_at_end ss c.args.draft.arguments.now w) c.as_slice-4.ensures.value in
     page_ended c.args.frame.now c.args.draft c.args.index _ w c.end_sums.new.fields.items c.requires.right c.requires.format c.requires.arguments (ap (λ p. p.format) out) (ap (λ p. p.fields) out ∙ (search rules))
     (c.in_ok-end_sums.ensures c.if-not-branch.false) c.requires.header (search rules) (search rules)
-    (covered_moved c.at_end-view.result _ c.as_slice-6.result.now _ c.as_slice-5.result.now _ c.as_slice-7.result.now _ c.as_slice-8.result.now _ seen c.as_slice-6.ensures c.as_slice-5.ensures c.as_slice-7.ensures c.as_slice-8.ensures
-    c.requires.prepared.covered (c.have_lengths.ensures c.if-not-have_lengths.false) (c.others_hold-do_hold.ensures c.if-not-do_hold.false))
+    (settled_moved c.at_end-view.result _ c.args.draft.format.now.constraints c.as_slice-5.result.now _ seen c.as_slice-5.ensures (c.constraints_hold.ensures c.if-not-constraints_hold.false))

@@ -8,7 +8,6 @@ use Rattle.sem_filling.proofs.FitsSized.{and_then_some}
 use Rattle.cert_accepted.specs.declared.frame.AcceptedFrame.{AcceptedFrame}
 use Rattle.cert_accepted.proofs.StandingDepth.{calls_are_shallower}
 use Rattle.walk_write.specs.Closer.{FailsInside}
-use Rattle.walk_write.specs.Refutation.{HaveBefore}
 use Rattle.walk_write.specs.Walking.{Fails}
 use Rattle.walk_write.proofs.Called.{is_method}
 use Rattle.walk_write.proofs.CloserLemmas.{some_weaker}
@@ -46,16 +45,16 @@ returns c =
       accepted = place.accepted;
       frame = record { profile = place.frame.profile; context = place.frame.context; method = x.method; arguments = x.arguments; path = c.as_str-2.result };
     } in
-    let sized = c.requires.sized in
+    let listed = c.requires.listed in
     let from = c.args.outlook.now.source.now.from in
     let left = c.args.outlook.now.source.now.cursor.now.left in
     let offset = c.in-Some.offset in
     some_weaker (Fails there (drop (from + offset) left) [] c.args.number) (FailsInside c.args.outlook.now x c.args.number) c.walked_at.result
     (λ many fails. record {
-      sizes = sized.whole;
-      sizes_are = sized.whole_is;
+      sizes = listed.sizes;
+      sizes_are = listed.sizes_are;
       offset = offset;
-      before = subst (λ z. HaveBefore z sized.whole.fields x.index offset) c.as_slice.ensures (subst (λ z. HaveBefore c.as_slice.result.now z x.index offset) (sym sized.fields_are) c.in-Some.ensures.1);
+      before = listed.right x.index offset c.in-Some.ensures.1;
       there = there;
       placed = record { accepted_is = refl; context_is = refl; method_is = refl; args_are = refl; path_is = c.as_str-2.ensures ∙ (c.in_ok-path.ensures ∙ ap (below place.frame.path.now) c.as_str.ensures) };
       fails = subst (λ z. Fails there z [] c.args.number many) (sym (drop-drop offset from left)) fails;

@@ -1,4 +1,4 @@
-use Rattle.std.proofs.Common.{sym, drop, subst, arith}
+use Rattle.std.proofs.Common.{drop, subst, arith}
 use Rattle.walk_write.specs.Refutation.{Differs}
 use Rattle.walk_write.specs.Premises.{told_numbers}
 use Rattle.walk_write.proofs.ForesightLemmas.{choice_fails}
@@ -28,12 +28,11 @@ returns-then-has_other-clause-past c =
     let bits = drop c.args.outlook.now.source.now.from c.args.outlook.now.source.now.cursor.now.left in
     let stands = c.requires.stands in
     let seen = c.in_ok-read_choice.ensures stands.later stands.seen in
-    let sized = c.requires.sized in
+    let listed = c.requires.listed in
     let choices = c.read_choice.new.choices.items in
-    let differs = subst (λ z. Differs place (told_numbers format place.frame.arguments.now choices) format.fields z bits) (sym sized.fields_are)
-    (subst (λ z. Differs place (told_numbers format place.frame.arguments.now z) format.fields c.args.outlook.now.sizes.now bits) c.as_slice.ensures (c.in_ok-has_other.ensures c.if-has_other.true)) in
+    let differs = subst (λ z. Differs place (told_numbers format place.frame.arguments.now z) format.fields listed.sizes.fields bits) c.as_slice.ensures (c.in_ok-has_other.ensures c.if-has_other.true listed.sizes.fields listed.right) in
     passed place bits c.args.outlook.now.source.now.asked.now c.args.number.now c.alike.result
-    (choice_fails place c.args.outlook.now.index format c.args.outlook.now.source.now.asked.now stands.later c.args.number.now c.read_choice.new.digits choices seen sized.whole sized.whole_is bits differs c.alike.result c.alike.ensures.count c.alike.ensures.share)
+    (choice_fails place c.args.outlook.now.index format c.args.outlook.now.source.now.asked.now stands.later c.args.number.now c.read_choice.new.digits choices seen listed.sizes listed.sizes_are bits differs c.alike.result c.alike.ensures.count c.alike.ensures.share)
 
 pub returns-then-has_other-clause-over : goal.returns-then-has_other-clause-over
 returns-then-has_other-clause-over c = λ is.

@@ -1,5 +1,4 @@
-use Rattle.std.proofs.Common.{◌≤◌, length, ◌+◌, ◌*◌}
-use Rattle.walk_write.specs.Refutation.{HaveBefore}
+use Rattle.std.proofs.Common.{◌+◌, ◌*◌}
 use Rattle.walk_write.proofs.header_constants.+lacking.Given as goal
 
 abbrev pub decreases-lacks : goal.decreases-lacks
@@ -10,6 +9,3 @@ decreases-lacks_inside l = 3 * l.depth
 
 abbrev pub decreases-lacks_field : goal.decreases-lacks_field
 decreases-lacks_field l = 3 * l.depth + 2
-
-abbrev pub invariant-lacks_field-loop-index : goal.invariant-lacks_field-loop-index
-invariant-lacks_field-loop-index l = HaveBefore l.fields l.sizes l.index l.offset × (l.from + l.offset ≤ length l.source.left)
