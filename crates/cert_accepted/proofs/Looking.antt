@@ -1,10 +1,8 @@
 -- What a look goes over, of what is accepted.
-use Rattle.std.proofs.Common.{◌≡◌, refl, subst, ℕ, List}
+use Rattle.std.proofs.Common.{◌≡◌, refl, ℕ, List}
 use Rattle.std.specs.Prelude.{slice_get, Option, Some, None, IfSome, option_and_then}
-use Rattle.sem_profile.specs.declared.profile.Format.{Format}
 use Rattle.sem_profile.specs.declared.profile.Method.{Method}
 use Rattle.sem_filling.specs.Bounded.{sizes_at}
-use Rattle.sem_filling.specs.Fits.{format_at}
 use Rattle.cert_compiled.specs.declared.looks.Looks.{Looks}
 use Rattle.cert_compiled.specs.declared.operations.CompiledPlan.{CompiledPlan}
 use Rattle.cert_compiled.specs.Compiled.{AreCompiled, HasLooks, IsLookedBy}

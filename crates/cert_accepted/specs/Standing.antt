@@ -1,5 +1,5 @@
 -- Where a walk fills a method (docs/DEFINITIONS.md, The steps of a walk).
-use Rattle.std.specs.Prelude.{◌≡◌, ℕ, ◌+◌, ◌<◌, ◌≤◌, List, length, slice_get, Some}
+use Rattle.std.specs.Prelude.{◌≡◌, ℕ, ◌+◌, ◌<◌, ◌≤◌, List, length, slice_get, Some, option_and_then}
 use Rattle.sem_context.specs.Entries.{bits_at}
 use Rattle.sem_filling.specs.declared.filling.Filling.{Filling, out-Filling}
 use Rattle.sem_expr.specs.declared.expr.Expr.{Expr}
@@ -14,7 +14,11 @@ use Rattle.sem_profile.specs.Limits.{Chain}
 use Rattle.sem_profile.specs.Uses.{used_graph}
 use Rattle.cert_compiled.specs.declared.looks.Looks.{Looks}
 use Rattle.cert_compiled.specs.Compiled.{IsLookedBy}
+use Rattle.cert_compiled.specs.Single.{IsSingle}
+use Rattle.cert_types.specs.declared.certificate.Plans.{Plans}
+use Rattle.cert_rules.specs.Counts.{entry_at}
 use Rattle.cert_rules.specs.Reading.{start_slots}
+use Rattle.cert_rules.specs.Valid.{plans_at}
 use Rattle.walk_steps.specs.Partial.{Reached}
 use Rattle.walk_steps.specs.declared.level_frame.LevelFrame.{LevelFrame}
 use Rattle.cert_accepted.specs.declared.frame.AcceptedFrame.{AcceptedFrame}
@@ -49,6 +53,11 @@ pub record IsAtStart (place : AcceptedFrame) (n : ℕ) (l : Reached) : Type 0 wh
 -- what a look goes over is of that format of the method, both by their indices, of what is accepted
 abbrev pub AreLooksOf : Accepting → ℕ → ℕ → Looks → Type 0
 AreLooksOf a k n l = (format : Format) → format_at a.profile.methods k n ≡ Some format → IsLookedBy format (sizes_at a.profile.sizes k n) l
+
+-- the format of the method, both by their indices, has one candidate for an item, where it has a write plan
+abbrev pub IsSingleOf : Accepting → ℕ → ℕ → Type 0
+IsSingleOf a k n =
+    (format : Format) (plans : Plans) → format_at a.profile.methods k n ≡ Some format → option_and_then (λ entry. plans_at entry n) (entry_at a.certificate.methods k) ≡ Some plans → IsSingle a.profile.methods a.certificate.methods format plans.write
 
 -- no filling of the format fits here
 abbrev pub NeverFits : AcceptedFrame → ℕ → Type 0

@@ -4,6 +4,7 @@ ghost use Rattle.std.specs.Prelude.{◌≡◌, drop, length, slice_get, IfOk};
 ghost use Rattle.sem_context.specs.Entries.{bits_at};
 ghost use Rattle.cert_accepted.specs.Accepted.{IsAccepted, IsDeterminate};
 ghost use Rattle.cert_compiled.specs.Compiled.{AreCompiled};
+ghost use Rattle.cert_compiled.specs.Single.{AreSingles};
 ghost use Rattle.cert_rules.specs.Trees.{references};
 ghost use Rattle.cert_tables.specs.Kept.{AreTables};
 ghost use Rattle.cert_tables.specs.Picked.{formats_of, picks};
@@ -33,6 +34,7 @@ pub struct Accepted {
 impl Model for Accepted {
     ghost use Rattle.cert_accepted.specs.Accepted.{Accepting, IsAccepted};
     ghost use Rattle.cert_compiled.specs.Compiled.{AreCompiled};
+    ghost use Rattle.cert_compiled.specs.Single.{AreSingles};
     ghost use Rattle.cert_tables.specs.Kept.{AreTables};
     ghost use Rattle.sem_expr.specs.contracts.expr.Expr as expr;
     ghost use Rattle.sem_expr.specs.contracts.expr.Cond as cond;
@@ -44,7 +46,7 @@ impl Model for Accepted {
 
     ghost view = { λ a. record { profile = a.profile; certificate = a.certificate; counts = a.counts; spans = a.spans } };
 
-    ghost invariant = { λ a. IsAccepted (record { profile = a.profile; certificate = a.certificate; counts = a.counts; spans = a.spans }) × AreTables a.certificate.methods a.tables × AreCompiled a.profile.methods a.profile.sizes a.compiled.plan_acts };
+    ghost invariant = { λ a. IsAccepted (record { profile = a.profile; certificate = a.certificate; counts = a.counts; spans = a.spans }) × AreTables a.certificate.methods a.tables × AreCompiled a.profile.methods a.profile.sizes a.compiled.plan_acts × AreSingles a.profile.methods a.certificate.methods a.compiled.singles };
 }
 
 impl Accepted {
@@ -60,6 +62,7 @@ impl Accepted {
         requires accepted { IsAccepted (record { profile = profile; certificate = certificate; counts = counts; spans = spans }) }
         requires tables { AreTables certificate.methods tables }
         requires compiled { AreCompiled profile.methods profile.sizes compiled.plan_acts }
+        requires singles { AreSingles profile.methods certificate.methods compiled.singles }
         ensures profile { result.profile ≡ profile }
         ensures certificate { result.certificate ≡ certificate }
     {
@@ -136,10 +139,11 @@ impl Accepted {
         self.tables.count(&self.certificate)
     }
 
-    /// What shortens the way of who draws fillings up and judges them, or reads and writes pages. What is prepared of a format, and the offsets that a look goes by,
-    /// are promised to be of that; of all else nothing is promised.
+    /// What shortens the way of who draws fillings up and judges them, or reads and writes pages. What is prepared of a format, the offsets that a look goes by, and
+    /// that a format has one candidate for an item, are promised to be of that; of all else nothing is promised.
     pub fn compiled(&self) -> &CompiledPlans
-        ensures { AreCompiled self.now.profile.methods self.now.profile.sizes result.now.plan_acts }
+        ensures plans { AreCompiled self.now.profile.methods self.now.profile.sizes result.now.plan_acts }
+        ensures singles { AreSingles self.now.profile.methods self.now.certificate.methods result.now.singles }
     {
         &self.compiled
     }

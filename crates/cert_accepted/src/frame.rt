@@ -1,6 +1,6 @@
 //! Where a walk fills a method.
 
-ghost use Rattle.std.specs.Prelude.{◌≡◌, IfOk, IfSome, IfNone};
+ghost use Rattle.std.specs.Prelude.{◌≡◌, IfOk, IfSome, IfNone, IsTrue};
 ghost use Rattle.std.specs.Option.{option_copied};
 ghost use Rattle.sem_filling.specs.Bounded.{sizes_at};
 ghost use Rattle.sem_filling.specs.Fits.{format_at};
@@ -72,4 +72,13 @@ pub fn looks_of(accepted: &Accepted, method: usize, index: usize) -> Option<&Loo
     ensures { IfSome result (λ l. spec.AreLooksOf accepted.now method index l.now) }
 {
     accepted.compiled().looks(method, index)
+}
+
+/// Whether a format of a method, both by their indices, has one candidate for an item: all fillings of it that have the item have the same number. It isn't always
+/// told.
+#[inline(always)]
+pub fn is_single(accepted: &Accepted, method: usize, index: usize) -> bool
+    ensures { IsTrue result → spec.IsSingleOf accepted.now method index }
+{
+    accepted.compiled().is_single(method, index)
 }

@@ -1,2 +1,3 @@
 mod Growing
 pub mod Looking
+mod Telling

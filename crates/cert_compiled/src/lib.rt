@@ -14,4 +14,5 @@ pub mod operations;
 mod pages;
 mod places;
 pub mod plans;
+mod singles;
 mod steps;

@@ -1,12 +1,14 @@
 //! What an accepted profile keeps for who draws fillings up and has them judged, and for who reads and writes pages. Of what is prepared of a format, and of the
 //! offsets that a look goes by, it is promised that they are that format's; of all else nothing is.
 
-ghost use Rattle.std.specs.Prelude.{IfOk, IfSome};
+ghost use Rattle.std.specs.Prelude.{◌≡◌, IfOk, IfSome, IsTrue, Some, true};
 ghost use Rattle.cert_compiled.specs.Compiled as spec;
+ghost use Rattle.cert_compiled.specs.Single.{AreSingles, flag_at};
 
 use crate::compiler::plan_acts;
 use crate::looks::Looks;
 use crate::operations::CompiledPlan;
+use crate::singles::singles_of;
 use cert_types::MethodPlans;
 use sem_profile::{Method, MethodSizes};
 use sqlite_items::{Items, at};
@@ -17,6 +19,8 @@ use std::alloc::{AllocError, Global};
 pub struct CompiledPlans {
     /// For each method the operations of its formats' plans.
     pub plan_acts: Items<Items<CompiledPlan>>,
+    /// For each method whether each of its formats has one candidate for an item, as far as that is told.
+    pub singles: Items<Items<bool>>,
 }
 
 impl CompiledPlans {
@@ -27,10 +31,25 @@ impl CompiledPlans {
         table: &[MethodSizes],
         entries: &[Option<MethodPlans>],
     ) -> Result<CompiledPlans, AllocError>
-        ensures { IfOk result (λ c. spec.AreCompiled methods.now table.now c.plan_acts) }
+        ensures plans { IfOk result (λ c. spec.AreCompiled methods.now table.now c.plan_acts) }
+        ensures singles { IfOk result (λ c. AreSingles methods.now entries.now c.singles) }
     {
         let plan_acts = plan_acts(alloc, methods, table, entries)?;
-        Ok(CompiledPlans { plan_acts })
+        let singles = singles_of(alloc, methods, entries)?;
+        Ok(CompiledPlans { plan_acts, singles })
+    }
+
+    /// Whether the format of the method, both by their indices, has one candidate for an item, as far as that is told.
+    pub fn is_single(&self, method: usize, format: usize) -> bool
+        ensures { IsTrue result → flag_at self.now.singles method format ≡ Some true }
+    {
+        let Some(flags) = at(self.singles.as_slice(), method) else {
+            return false;
+        };
+        match at(flags.as_slice(), format) {
+            Some(flag) => *flag,
+            None => false,
+        }
     }
 
     /// What a look at the format of the method goes over, both by their indices, where that is listed.

@@ -1,11 +1,11 @@
 -- What the search for the best filling finds and passes.
-use Rattle.std.proofs.Common.{◌≡◌, ◌∙◌, sym, ap, subst, ℕ, zero, suc, ◌+◌, ◌<◌, ◌≤◌, List, length, inl, inr, arith}
+use Rattle.std.proofs.Common.{◌≡◌, ◌∙◌, sym, ap, subst, ℕ, zero, suc, ◌+◌, ◌<◌, ◌≤◌, List, [], length, inl, inr, arith}
 use Rattle.std.proofs.lemmas.Bool.{cases_lt}
 use Rattle.std.specs.Prelude.{Option, Some, None, Result, Ok, Err, IfOk, IfSome, slice_get, slice_index_or}
 use Rattle.std.specs.declared.alloc.AllocError.{AllocError}
 use Rattle.std.proofs.lemmas.Option.{slice_get-get_or}
 use Rattle.cert_candidates.specs.Best.{Best, IsUpTo}
-use Rattle.cert_candidates.specs.Codes.{IsCandidate, code, number}
+use Rattle.cert_candidates.specs.Codes.{IsCandidate, code, number, ways_before}
 use Rattle.cert_rules.specs.Spans.{method_spans}
 use Rattle.cert_candidates.proofs.CodesFew.{kept_are_counts}
 use Rattle.cert_candidates.proofs.CodesKept.{spans_are_kept}
@@ -15,7 +15,7 @@ use Rattle.cert_candidates.proofs.CodesFitting.{is_candidate}
 use Rattle.cert_candidates.proofs.Packing.{found}
 use Rattle.cert_accepted.specs.Accepted.{Accepting, IsAccepted}
 use Rattle.sem_context.specs.Entries.{Entries, bits_at}
-use Rattle.sem_filling.specs.declared.filling.Filling.{Filling}
+use Rattle.sem_filling.specs.declared.filling.Filling.{Filling, out-Filling}
 use Rattle.sem_filling.specs.declared.filling.Item.{Item}
 use Rattle.sem_filling.specs.Fillings.{item}
 use Rattle.sem_profile.specs.declared.profile.Method.{Method}
@@ -23,11 +23,13 @@ use Rattle.sem_profile.specs.Resolved.{Resolved, IsSound}
 use Rattle.cert_rules.specs.Counts.{AreCounts}
 use Rattle.cert_trees.proofs.Counting.{each_is_counted}
 use Rattle.cert_accepted.specs.declared.frame.AcceptedFrame.{AcceptedFrame}
+use Rattle.cert_accepted.specs.Standing.{IsSingleOf}
 use Rattle.cert_candidates.specs.Writing.{IsChecked, top_site}
 use Rattle.cert_candidates.proofs.WritingLawsGoing.{top_begins, top_passes}
 use Rattle.cert_candidates.proofs.WritingSingle.{one_numbered}
 use Rattle.walk_write.specs.Walking.{Fails}
 use Rattle.walk_write.proofs.Called.{asks_nothing}
+use Rattle.walk_write.proofs.SingleNumbers.{least}
 use Rattle.walk_engine.specs.declared.search.Candidate.{Candidate}
 use Rattle.walk_engine.specs.declared.search.Packed.{Packed}
 use Rattle.walk_engine.specs.declared.search.Tried.TheVariants.{Found}
@@ -144,6 +146,16 @@ module _ (a : Accepting) (ctx : Entries) (it : Item) where
 
     candidate : (g : Filling) → Fitting a ctx g → IsCandidate a.profile.methods a.certificate.methods a.counts a.profile.top g
     candidate g there = is_candidate a.profile.methods a.profile.sizes a.profile.top a.certificate.version a.certificate.methods here.sized accepted.valid a.counts (bits_at ctx) there
+
+    -- what fits has one of the top's numbers
+    pub under_count : (count : ℕ) → slice_get a.counts a.profile.top ≡ Some count → (g : Filling) → Fitting a ctx g → number_in a g < count
+    under_count count at g there = below a.profile.methods a.certificate.methods a.counts counted (candidate g there) count at
+
+    -- of a format with one candidate for an item, what fits and has the item is the first from there on
+    pub least_there : (n c : ℕ) (f g : Filling) → Fitting a ctx f → Fitting a ctx g → item g ≡ item f → (out-Filling f).format ≡ n → IsSingleOf a a.profile.top n → ways_before a.profile.methods a.certificate.methods a.counts a.profile.top n ≤ c → c ≤ number_in a g → number_in a f ≤ number_in a g
+    least_there n c f g fits_f fits_g same is single before from =
+        least a.profile.methods a.certificate.methods a.counts counted (bits_at ctx) (λ h k args path there. is_candidate a.profile.methods a.profile.sizes a.profile.top a.certificate.version a.certificate.methods here.sized accepted.valid a.counts (bits_at ctx) there)
+        a.profile.top [] [] n c f g fits_f fits_g (ap (λ (i : Item). i.asked) (sym same)) is single before from
 
     -- past all numbers there is none
     pub none_left : (from count c : ℕ) → Searched from count c → count ≤ c → NoneFrom a ctx it from

@@ -10,15 +10,18 @@ ghost use Rattle.walk_engine.specs.Writing as writing;
 
 use crate::asked::wrong_asked;
 use crate::search::{Packed, Tried, looked_past, try_number, walked};
+use crate::top::top_place;
 use crate::writer::PackFault;
 use cert_accepted::Accepted;
 use cert_candidates::Candidates;
+use sem_bits::Cursor;
 use sem_context::Context;
 use sem_filling::Item;
 use sem_pages::Page;
 use sem_profile::HEADER_LIMIT;
 use std::alloc::{AllocError, Global};
-use walk_pages::{WrittenPage, has_operations, page_number, write_page};
+use walk_pages::{WrittenPage, has_operations, page_number, write_format, write_page};
+use walk_write::{HeaderSource, SingleLook, single_look};
 
 /// What was packed: a page that shows the best filling, or that itself, each with the packed bits.
 #[derive(Drop)]
@@ -68,6 +71,15 @@ fn first_sent(
     let count = accepted.counts()[profile.top()];
     let mut number = 0;
     while number < count {
+        let told = sent_in_format(alloc, accepted, context, item, number)?;
+        match told {
+            InFormat::Written(page) => return Ok(Some(Sent::Page(page))),
+            InFormat::Passed(many) => {
+                number += many;
+                continue;
+            }
+            InFormat::Untold => {}
+        }
         number += looked_past(alloc, accepted, context, item, number)?;
         if number < count {
             if let Some(written) = written(alloc, accepted, context, item, number)? {
@@ -80,6 +92,62 @@ fn first_sent(
         }
     }
     Ok(None)
+}
+
+/// What is told of a format that begins with a number, and has one candidate for an item.
+#[derive(Drop)]
+enum InFormat {
+    /// A page of the format that shows the best filling of the candidates from the number on.
+    Written(WrittenPage),
+    /// So many candidates from the number on fail.
+    Passed(u64),
+    /// Nothing is told, or the number begins no such format.
+    Untold,
+}
+
+/// Writes a page of the format that begins with the number, where that has one candidate for an item: then no choice among its candidates has to be looked for.
+fn sent_in_format(
+    alloc: Global,
+    accepted: &Accepted,
+    context: &Context,
+    item: &Item,
+    number: u64,
+) -> Result<InFormat, AllocError>
+    requires short { length item.now.header ≤ header_limit }
+    requires below { searching.IsBelow accepted.now number }
+    ensures { IfOk result (spec.IsInFormat accepted.now context.now item.now number) }
+{
+    accepted.keeps();
+    accepted.profile().keeps();
+    let place = top_place(accepted, context);
+    let cursor = Cursor::new(&item.header);
+    let source = HeaderSource {
+        cursor: &cursor,
+        from: 0,
+        asked: item.asked.as_slice(),
+    };
+    match single_look(alloc, &place, &source, number)? {
+        Some(SingleLook::Refuted(many)) => Ok(InFormat::Passed(many)),
+        Some(SingleLook::Open(format)) => {
+            match write_format(alloc, accepted, context, item, format)? {
+                Some(written) => Ok(in_format(written, format)),
+                None => Ok(InFormat::Untold),
+            }
+        }
+        None => Ok(InFormat::Untold),
+    }
+}
+
+/// The page, if it is of that format.
+#[inline(always)]
+fn in_format(written: WrittenPage, format: usize) -> InFormat
+    ensures { spec.IsOfFormat written format result }
+{
+    if written.page.format == format {
+        InFormat::Written(written)
+    } else {
+        InFormat::Untold
+    }
 }
 
 /// What a candidate tells that is written by no page. Where there are operations for it, it mostly fails, and nothing is drawn up for it.

@@ -11,6 +11,12 @@ impl Choices {
     /// No number.
     pub(crate) const NONE: Choices = Choices { rest: 0, span: 0 };
 
+    /// Any number: each digit is 0, as long as there are numbers enough.
+    pub(crate) const ANY: Choices = Choices {
+        rest: 0,
+        span: u64::MAX,
+    };
+
     pub(crate) fn new(rest: u64, span: u64) -> Choices {
         Choices { rest, span }
     }

@@ -3,12 +3,13 @@
 
 pub use numbers::page_number;
 pub use reader::{ReadPage, asked_of, goes_on, read_page};
-pub use writer::{WrittenPage, write_page};
+pub use writer::{WrittenPage, write_format, write_page};
 pub use writing::has_operations;
 
 mod choices;
 mod draft;
 mod ends;
+mod fitting;
 mod methods;
 mod numbers;
 mod picks;

@@ -4,7 +4,7 @@ ghost use Rattle.std.specs.Prelude.{IfOk, IfSome};
 ghost use Rattle.walk_pages.specs.Writer as spec;
 
 use crate::draft::PackedPage;
-use crate::writing::{Given, write_top};
+use crate::writing::{Given, Target, write_top};
 use cert_accepted::Accepted;
 use sem_bits::{Bits, Cursor};
 use sem_context::Context;
@@ -30,7 +30,34 @@ pub fn write_page(
 ) -> Result<Option<WrittenPage>, AllocError>
     ensures { IfOk result (λ o. IfSome o (spec.IsWritten accepted.now context.now item.now)) }
 {
-    let Some(found) = top_page(alloc, accepted, context, item, number)? else {
+    write(alloc, accepted, context, item, Target::Candidate(number))
+}
+
+/// The same in the format of the top with this index, where each call goes to the first format that its arguments leave. It isn't promised that the page is of that
+/// format.
+pub fn write_format(
+    alloc: Global,
+    accepted: &Accepted,
+    context: &Context,
+    item: &Item,
+    format: usize,
+) -> Result<Option<WrittenPage>, AllocError>
+    ensures { IfOk result (λ o. IfSome o (spec.IsWritten accepted.now context.now item.now)) }
+{
+    write(alloc, accepted, context, item, Target::Format(format))
+}
+
+#[inline(always)]
+fn write(
+    alloc: Global,
+    accepted: &Accepted,
+    context: &Context,
+    item: &Item,
+    target: Target,
+) -> Result<Option<WrittenPage>, AllocError>
+    ensures { IfOk result (λ o. IfSome o (spec.IsWritten accepted.now context.now item.now)) }
+{
+    let Some(found) = top_page(alloc, accepted, context, item, target)? else {
         return Ok(None);
     };
     let PackedPage { page, packed } = found;
@@ -53,7 +80,7 @@ fn top_page(
     accepted: &Accepted,
     context: &Context,
     item: &Item,
-    number: u64,
+    target: Target,
 ) -> Result<Option<PackedPage>, AllocError>
     ensures { IfOk result (λ o. IfSome o (spec.IsTopPage accepted.now context.now item.now.header)) }
 {
@@ -71,7 +98,7 @@ fn top_page(
         header: &cursor,
         from: 0,
         asked: item.asked.as_slice(),
-        number,
+        target,
     };
     write_top(alloc, accepted, &frame, &given, &item.header)
 }

@@ -8,6 +8,7 @@ ghost use Rattle.walk_pages.specs.Picks as picks;
 use crate::choices::Choices;
 use crate::draft::{Draft, Inside, PackedPage, Told, WholePage};
 use crate::ends::{ended, ended_as};
+use crate::fitting::first_left;
 use crate::picks::told_at;
 use cert_accepted::Accepted;
 use cert_compiled::{Origin, PageWriting};
@@ -20,28 +21,43 @@ use smallvec::SmallVec;
 use sqlite_items::at;
 use std::alloc::{AllocError, Global};
 
-/// What is written: the header from a place of the cursor on, the values of the asked fields, and the number of the candidate.
+/// Which filling of a method is written.
+#[derive(Clone, Copy)]
+pub(crate) enum Target {
+    /// The candidate with this number.
+    Candidate(u64),
+    /// One of the format of this index, and inside it one of the first format that the arguments leave.
+    Format(usize),
+    /// One of the first format that the arguments leave.
+    Fitting,
+}
+
+/// What is written: the header from a place of the cursor on, the values of the asked fields, and which filling.
 #[derive(Clone, Copy)]
 pub(crate) struct Given<'a, 'b> {
     pub(crate) header: &'a Cursor<'b>,
     pub(crate) from: usize,
     pub(crate) asked: &'a [AskedValue],
-    pub(crate) number: u64,
+    pub(crate) target: Target,
 }
 
 impl<'a, 'b> Given<'a, 'b> {
-    /// What is given of a filling inside: none of its fields is asked.
-    fn inside(&self, from: usize, number: u64) -> Given<'a, 'b> {
+    /// What is given of a filling inside, of which that is the next digit: none of its fields is asked.
+    fn inside(&self, from: usize, digit: u64) -> Given<'a, 'b> {
+        let target = match self.target {
+            Target::Candidate(_) => Target::Candidate(digit),
+            Target::Format(_) | Target::Fitting => Target::Fitting,
+        };
         Given {
             header: self.header,
             from,
             asked: &self.asked[..0],
-            number,
+            target,
         }
     }
 }
 
-/// The page of the method that may be the candidate with this number for what is given.
+/// The page of the method that may be the filling that is to be written.
 #[cycle(writing)]
 pub(crate) fn write_method(
     depth: usize,
@@ -53,7 +69,7 @@ pub(crate) fn write_method(
     requires { frame.now.methods.now ≡ accepted.now.profile.methods }
     ensures { IfOk result (λ o. IfSome o (spec.IsWholePage frame.now)) }
 {
-    let Some(start) = start_of(accepted, frame.methods, frame.method, given.number) else {
+    let Some(start) = start_for(accepted, frame, given.target) else {
         return Ok(None);
     };
     let mut draft = Draft::new(alloc, start.format, start.told, frame, given.from)?;
@@ -66,7 +82,7 @@ pub(crate) fn write_method(
     ended(alloc, frame, start.index, draft)
 }
 
-/// The page of the top that may be the candidate with this number for what is given, whose header is this one.
+/// The page of the top that may be the filling that is to be written, whose header is this one.
 pub(crate) fn write_top(
     alloc: Global,
     accepted: &Accepted,
@@ -77,7 +93,7 @@ pub(crate) fn write_top(
     requires { frame.now.methods.now ≡ accepted.now.profile.methods }
     ensures { IfOk result (λ o. IfSome o (spec.IsPackedPage frame.now header.now)) }
 {
-    let Some(start) = start_of(accepted, frame.methods, frame.method, given.number) else {
+    let Some(start) = start_for(accepted, frame, given.target) else {
         return Ok(None);
     };
     let mut draft = Draft::new(alloc, start.format, start.told, frame, given.from)?;
@@ -388,6 +404,45 @@ pub(crate) struct Start<'a, 'b> {
     choices: Choices,
 }
 
+/// Where the filling begins that is to be written.
+#[inline(always)]
+fn start_for<'a, 'b>(
+    accepted: &'b Accepted,
+    frame: &PageFrame<'a>,
+    target: Target,
+) -> Option<Start<'a, 'b>>
+    ensures { IfSome result (picks.IsStart accepted.now frame.now.methods.now frame.now.method) }
+{
+    match target {
+        Target::Candidate(number) => start_of(accepted, frame.methods, frame.method, number),
+        Target::Format(index) => start_in(accepted, frame.methods, frame.method, index),
+        Target::Fitting => {
+            let index = first_left(frame)?;
+            start_in(accepted, frame.methods, frame.method, index)
+        }
+    }
+}
+
+/// The same in the format of that index, for who has no number.
+fn start_in<'a, 'b>(
+    accepted: &'b Accepted,
+    methods: &'a [Method],
+    method: usize,
+    index: usize,
+) -> Option<Start<'a, 'b>>
+    ensures { IfSome result (picks.IsStart accepted.now methods.now method) }
+{
+    let plans = at(accepted.compiled().plan_acts.as_slice(), method)?.get(index)?;
+    let operations = plans.page_writing.as_ref()?;
+    Some(Start {
+        index,
+        format: methods.get(method)?.formats.get(index)?,
+        told: told_at(accepted, method, index)?,
+        operations: operations.as_slice(),
+        choices: Choices::ANY,
+    })
+}
+
 #[inline(always)]
 fn start_of<'a, 'b>(
     accepted: &'b Accepted,
@@ -401,14 +456,10 @@ fn start_of<'a, 'b>(
     let mut rest = number;
     for (index, span) in spans.as_slice().iter().enumerate() {
         if rest < *span {
-            let plans = at(accepted.compiled().plan_acts.as_slice(), method)?.get(index)?;
-            let operations = plans.page_writing.as_ref()?;
+            let start = start_in(accepted, methods, method, index)?;
             return Some(Start {
-                index,
-                format: methods.get(method)?.formats.get(index)?,
-                told: told_at(accepted, method, index)?,
-                operations: operations.as_slice(),
                 choices: Choices::new(rest, *span),
+                ..start
             });
         }
         rest -= *span;

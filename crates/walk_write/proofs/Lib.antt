@@ -18,3 +18,4 @@ pub mod RefutationLacked
 pub mod RefutationFronts
 pub mod ForesightLemmas
 pub mod CloserLemmas
+pub mod SingleNumbers

@@ -6,3 +6,4 @@ pub mod Refutation
 pub mod Foresight
 pub mod Premises
 pub mod Closer
+pub mod Singles

@@ -3,7 +3,7 @@
 
 pub use closer::refuted_closely;
 pub use fault::WriteFault;
-pub use looks::refuted;
+pub use looks::{SingleLook, refuted, single_look};
 pub use source::HeaderSource;
 pub use walk::write_method;
 

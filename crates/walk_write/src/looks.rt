@@ -4,6 +4,7 @@ ghost use Rattle.std.specs.Prelude.{◌≡◌, ◌<◌, Some, IfOk, IfSome, OnOk
 ghost use Rattle.cert_accepted.specs.Standing.{Stands};
 ghost use Rattle.walk_write.specs.Going as going;
 ghost use Rattle.walk_write.specs.Sources.{IsWithin, front};
+ghost use Rattle.walk_write.specs.Singles.{IsSingleLook};
 ghost use Rattle.walk_write.specs.Walking.{IsBelow, Fails, Passes};
 
 use crate::calls::radix_of;
@@ -12,6 +13,7 @@ use crate::refutation::is_refuted;
 use crate::source::HeaderSource;
 use crate::start::start_at;
 use cert_accepted::AcceptedFrame;
+use cert_accepted::frame::is_single;
 use cert_candidates::Start;
 use sqlite_items::at;
 use std::alloc::{AllocError, Global};
@@ -42,6 +44,45 @@ pub fn refuted(
         }
     }
     Ok(between(number, next))
+}
+
+/// What a look tells of a format that has one candidate for an item.
+#[derive(Clone, Copy)]
+pub enum SingleLook {
+    /// So many candidates fail from the number on: the format is refuted.
+    Refuted(u64),
+    /// Nothing is told of the format, by its index.
+    Open(usize),
+}
+
+/// What a look tells of the format that begins with the number, where that has one candidate for an item; None where it hasn't, or another number begins it. The
+/// error is out of memory.
+pub fn single_look(
+    alloc: Global,
+    place: &AcceptedFrame<'_>,
+    source: &HeaderSource<'_>,
+    number: u64,
+) -> Result<Option<SingleLook>, AllocError>
+    requires stands { Stands place.now }
+    requires within { IsWithin source.now }
+    requires below { IsBelow place.now number }
+    ensures { IfOk result (λ o. IfSome o (IsSingleLook place.now (front source.now) source.now.asked.now number)) }
+{
+    let Some(start) = start_at(place, number) else {
+        return Ok(None);
+    };
+    let alike = start.digits.alike();
+    if !is_first(place, start.format, alike)
+        || !is_single(place.accepted, place.frame.method, start.format)
+    {
+        return Ok(None);
+    }
+    let is_in_vain = is_refuted(alloc, place, start.format, source.cursor, source.from)?;
+    if is_in_vain {
+        Ok(Some(SingleLook::Refuted(alike)))
+    } else {
+        Ok(Some(SingleLook::Open(start.format)))
+    }
 }
 
 /// How many candidates the method has.

@@ -1,12 +1,17 @@
 use Rattle.std.proofs.Common.{◌+◌}
 use Rattle.walk_engine.proofs.Searching.{searched_start, searched_past, none_left}
-use Rattle.walk_engine.proofs.SendingFirst.{best_page, best_filling}
+use Rattle.walk_engine.proofs.SendingFirst.{best_page, best_filling, best_least}
 use Rattle.walk_engine.proofs.sender.first_sent.Goals as goal
 
 pub loop-number-init : goal.loop-number-init
 loop-number-init c =
     searched_start c.args.accepted.now c.args.context.now c.args.item.now c.profile-profile.result.now c.keeps-2.ensures c.profile-profile.ensures c.keeps.ensures
     0 c.counts.result.now c.counts.ensures c.top.result c.top.ensures
+
+pub returns-in-Written-clause-found : goal.returns-in-Written-clause-found
+returns-in-Written-clause-found c =
+    best_least c.args.accepted.now c.args.context.now c.args.item.now c.profile-profile.result.now c.keeps-2.ensures c.profile-profile.ensures c.keeps.ensures
+    _ c.loop-number.number c.in-Written.page c.loop-number.invariant (rw c.in-Written.is at c.in_ok-told.ensures)
 
 pub returns-in-Some-clause-found : goal.returns-in-Some-clause-found
 returns-in-Some-clause-found c =

@@ -1,5 +1,5 @@
 use Rattle.walk_pages.proofs.Judged.{written_by}
-use Rattle.walk_pages.proofs.writer.write_page.Goals as goal
+use Rattle.walk_pages.proofs.writer.write.Goals as goal
 
 pub returns : goal.returns
 returns c =
