@@ -205,13 +205,8 @@ fn teller_of(
     if formats.len() > MOST_FORMATS || !are_plain(entry) {
         return Ok(None);
     }
-    let Some(first) = formats.get(0) else {
-        return Ok(None);
-    };
-    for constraint in first.constraints.as_slice() {
-        let Some(parameter) = parameter_in(constraint.get()) else {
-            continue;
-        };
+    // (each parameter once: a format may have very many constraints)
+    for parameter in 0..method.parameters.len() {
         if have_keys(alloc, formats, parameter)? {
             return Ok(Some(parameter));
         }
@@ -330,17 +325,6 @@ fn key_in(constraint: &Constraint, parameter: usize) -> Option<i128>
     }
     match right {
         Expr::Number(_, key) => Some(*key),
-        _ => None,
-    }
-}
-
-/// The parameter of which the constraint says what it is.
-fn parameter_in(constraint: &Constraint) -> Option<usize> {
-    let Constraint::Enforce { condition, .. } = constraint else {
-        return None;
-    };
-    match condition.get() {
-        Cond::Compare(_, Comparison::Equal, Expr::Parameter(_, own), _) => Some(*own),
         _ => None,
     }
 }
