@@ -137,7 +137,13 @@ fn format_acts(
                 places: Some(places_of(alloc, calls.counts, format)?),
                 read: operations(alloc, format, Direction::Read, plans.read.as_slice())?,
                 page: page_operations(alloc, format, &prepared, plans.read.as_slice())?,
-                page_writing: page_writing(alloc, format, &prepared, plans.write.as_slice())?,
+                page_writing: page_writing(
+                    alloc,
+                    calls.methods,
+                    format,
+                    &prepared,
+                    plans.write.as_slice(),
+                )?,
                 write: operations(alloc, format, Direction::Write, plans.write.as_slice())?,
                 prepared: Some(prepared),
             })

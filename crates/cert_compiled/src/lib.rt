@@ -2,12 +2,14 @@
 //! format and what a look at it goes over.
 #![tactic(auto)]
 
+pub use fitting::first_left;
 pub use looks::Looks;
 pub use operations::{Beginning, CompiledPlan, Count, Operation, Operations, ShortBits};
-pub use pages::{Origin, PageOperation, PageWriting};
+pub use pages::{Length, Origin, PageOperation, PageWriting};
 pub use plans::CompiledPlans;
 
 mod compiler;
+mod fitting;
 mod header;
 pub mod looks;
 pub mod operations;

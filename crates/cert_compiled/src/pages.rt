@@ -1,10 +1,11 @@
 //! The operations by which a page is read: those of the read plans of a format, as far as each field is read in one step.
 
+use crate::fitting::left_by;
 use cert_rules::choice_of;
 use cert_types::Step;
 use sem_expr::{Expr, Side, Subject};
 use sem_pages::Prepared;
-use sem_profile::{Encoding, Format, Library, Part};
+use sem_profile::{Encoding, Format, Library, Method, Part};
 use sqlite_items::{Items, at};
 use std::alloc::{AllocError, Global};
 
@@ -20,10 +21,10 @@ pub enum PageOperation {
     Sum(usize),
     /// The next bits of the source are the field's packed side, which is known.
     Skip(usize),
-    /// The field has no encoding. One constraint gives the length of its uncompressed side, the other one the value.
+    /// The field has no encoding. The constraint gives the value of its uncompressed side.
     Solve {
         field: usize,
-        length: usize,
+        length: Length,
         value: usize,
     },
     /// The field calls a method. Where it `takes`, the packed bits of the filling inside are the next ones of the source.
@@ -31,6 +32,17 @@ pub enum PageOperation {
         field: usize,
         takes: bool,
     },
+}
+
+/// How many bits the uncompressed side of a field has.
+#[derive(Clone, Copy)]
+pub enum Length {
+    /// So many.
+    Known(usize),
+    /// As many as the constraint says.
+    Given(usize),
+    /// As many as the field's encoding says.
+    Encoded,
 }
 
 /// Where the bits of a field's uncompressed side come from in writing.
@@ -51,33 +63,40 @@ pub enum Origin {
 /// One operation of writing. The source is the header.
 #[derive(Clone, Copy)]
 pub enum PageWriting {
-    /// The uncompressed side comes from there, and the other one by the field's encoding. The constraint gives the length, where there is one.
+    /// The uncompressed side comes from there, and the other one by the field's encoding.
     Field {
         field: usize,
         origin: Origin,
-        length: Option<usize>,
+        length: Length,
     },
+    /// The next bits of the header, so many, are of fields that are written.
+    Pass(usize),
     /// The next bits of the header are the field's, which is written.
     Skip(usize),
-    /// The field calls a method. Where it `takes`, the header of the filling inside is next.
+    /// The field calls a method. Where it `takes`, the header of the filling inside is next. Its format is this one, by its index, where the arguments are numbers,
+    /// which leave it.
     Call {
         field: usize,
         takes: bool,
+        format: Option<usize>,
     },
 }
 
 /// The operations of a write plan. None of one by which a field is written otherwise.
 pub(crate) fn page_writing(
     alloc: Global,
+    methods: &[Method],
     format: &Format,
     prepared: &Prepared,
     plan: &[Step],
 ) -> Result<Option<Items<PageWriting>>, AllocError> {
     let mut pages = WritingSoFar {
         alloc,
+        methods,
         format,
         are_written: constants(alloc, prepared)?,
-        lengths: blanks(alloc, format.fields.len())?,
+        lengths: known_lengths(alloc, prepared)?,
+        passed: 0,
         operations: Items::new(alloc),
     };
     for step in plan {
@@ -88,13 +107,15 @@ pub(crate) fn page_writing(
     Ok(Some(pages.operations))
 }
 
-/// The same in writing.
+/// The operations so far, whether each field is written, the length of its uncompressed side, and how many bits are passed after them.
 #[derive(Drop)]
 struct WritingSoFar<'a> {
     alloc: Global,
+    methods: &'a [Method],
     format: &'a Format,
     are_written: Vec<bool>,
-    lengths: Vec<Option<usize>>,
+    lengths: Vec<Length>,
+    passed: usize,
     operations: Items<PageWriting>,
 }
 
@@ -104,12 +125,12 @@ impl<'a> WritingSoFar<'a> {
         match step {
             Step::Take(field) => {
                 if self.is_written(field) {
-                    self.operations.push(PageWriting::Skip(field))?;
-                    return Ok(true);
+                    return self.skip(field);
                 }
                 if !self.is_reckoned(field) {
                     return Ok(false);
                 }
+                self.go_on()?;
                 self.write(field, Origin::Header)
             }
             Step::Call(field) => {
@@ -118,9 +139,7 @@ impl<'a> WritingSoFar<'a> {
             }
             Step::LibraryUp(field) | Step::LibraryDown(field) => self.code(field),
             Step::ConstraintLength(field, Side::Uncompressed, number) => {
-                if field < self.lengths.len() {
-                    self.lengths[field] = Some(number);
-                }
+                note_given(&mut self.lengths, field, number);
                 Ok(true)
             }
             Step::MethodLength(_, _) | Step::ConstraintLength(_, _, _) => Ok(true),
@@ -202,11 +221,32 @@ impl<'a> WritingSoFar<'a> {
         }
     }
 
+    /// Passes the bits of a field that is written.
+    fn skip(&mut self, field: usize) -> Result<bool, AllocError> {
+        match length_at(self.lengths.as_slice(), field) {
+            Length::Known(count) => {
+                self.passed = self.passed.saturating_add(count);
+                Ok(true)
+            }
+            Length::Given(_) | Length::Encoded => {
+                self.go_on()?;
+                self.operations.push(PageWriting::Skip(field))?;
+                Ok(true)
+            }
+        }
+    }
+
+    /// Adds the operation that passes what is to be passed, if anything is.
+    fn go_on(&mut self) -> Result<(), AllocError> {
+        if self.passed > 0 {
+            self.operations.push(PageWriting::Pass(self.passed))?;
+            self.passed = 0;
+        }
+        Ok(())
+    }
+
     fn write(&mut self, field: usize, origin: Origin) -> Result<bool, AllocError> {
-        let length = match at(self.lengths.as_slice(), field) {
-            Some(length) => *length,
-            None => None,
-        };
+        let length = length_at(self.lengths.as_slice(), field);
         self.put(
             field,
             PageWriting::Field {
@@ -218,7 +258,29 @@ impl<'a> WritingSoFar<'a> {
     }
 
     fn call(&mut self, field: usize, takes: bool) -> Result<bool, AllocError> {
-        self.put(field, PageWriting::Call { field, takes })
+        let format = self.format_inside(field)?;
+        self.go_on()?;
+        self.put(
+            field,
+            PageWriting::Call {
+                field,
+                takes,
+                format,
+            },
+        )
+    }
+
+    /// The format of the method that the field calls, where its arguments are numbers, which leave it.
+    fn format_inside(&self, field: usize) -> Result<Option<usize>, AllocError> {
+        let Some(declared) = self.format.fields.get(field) else {
+            return Ok(None);
+        };
+        match declared.encoding.get() {
+            Encoding::Call { method, arguments } => {
+                left_by(self.alloc, self.methods, *method, arguments.as_slice())
+            }
+            Encoding::Bare | Encoding::Library(_) => Ok(None),
+        }
     }
 
     fn put(&mut self, field: usize, operation: PageWriting) -> Result<bool, AllocError> {
@@ -241,7 +303,7 @@ pub(crate) fn page_operations(
     let mut pages = PagesSoFar {
         format,
         are_read: constants(alloc, prepared)?,
-        lengths: blanks(alloc, format.fields.len())?,
+        lengths: known_lengths(alloc, prepared)?,
         operations: Items::new(alloc),
     };
     for step in plan {
@@ -252,12 +314,12 @@ pub(crate) fn page_operations(
     Ok(Some(pages.operations))
 }
 
-/// The operations so far, whether each field is read, and for each the constraint that gives the length of its uncompressed side.
+/// The operations so far, whether each field is read, and the length of its uncompressed side.
 #[derive(Drop)]
 struct PagesSoFar<'a> {
     format: &'a Format,
     are_read: Vec<bool>,
-    lengths: Vec<Option<usize>>,
+    lengths: Vec<Length>,
     operations: Items<PageOperation>,
 }
 
@@ -272,25 +334,20 @@ impl<'a> PagesSoFar<'a> {
             }
             Step::LibraryUp(field) | Step::LibraryDown(field) => self.code(field),
             Step::ConstraintLength(field, Side::Uncompressed, number) => {
-                if field < self.lengths.len() {
-                    self.lengths[field] = Some(number);
-                }
+                note_given(&mut self.lengths, field, number);
                 Ok(true)
             }
             Step::MethodLength(_, _) | Step::ConstraintLength(_, _, _) => Ok(true),
-            Step::Solve(field, value) => match at(self.lengths.as_slice(), field) {
-                Some(Some(length)) => {
-                    let length = *length;
-                    self.read(
+            Step::Solve(field, value) => match length_at(self.lengths.as_slice(), field) {
+                Length::Encoded => Ok(false),
+                length => self.read(
+                    field,
+                    PageOperation::Solve {
                         field,
-                        PageOperation::Solve {
-                            field,
-                            length,
-                            value,
-                        },
-                    )
-                }
-                _ => Ok(false),
+                        length,
+                        value,
+                    },
+                ),
             },
             Step::Choose(_) | Step::Ask(_) => Ok(false),
         }
@@ -374,10 +431,33 @@ fn constants(alloc: Global, prepared: &Prepared) -> Result<Vec<bool>, AllocError
     Ok(all)
 }
 
-fn blanks(alloc: Global, count: usize) -> Result<Vec<Option<usize>>, AllocError> {
-    let mut all = Vec::with_capacity(alloc, count)?;
-    for _ in 0..count {
-        all.push(None)?;
+/// For each field the length of its uncompressed side, as far as the format alone tells it: that of a bracket with one number, or of a constant.
+fn known_lengths(alloc: Global, prepared: &Prepared) -> Result<Vec<Length>, AllocError> {
+    let mut all = Vec::with_capacity(alloc, prepared.constants.len())?;
+    for constant in prepared.constants.as_slice() {
+        match constant {
+            Some(both) => all.push(Length::Known(both.uncompressed.len()))?,
+            None => all.push(Length::Encoded)?,
+        }
+    }
+    for test in prepared.lengths.as_slice() {
+        if matches!(test.side, Side::Uncompressed) && test.field < all.len() {
+            all[test.field] = Length::Known(test.count);
+        }
     }
     Ok(all)
+}
+
+/// Notes that the constraint gives the length of the field's uncompressed side, where that isn't known.
+fn note_given(lengths: &mut Vec<Length>, field: usize, number: usize) {
+    if field < lengths.len() && matches!(lengths[field], Length::Encoded) {
+        lengths[field] = Length::Given(number);
+    }
+}
+
+fn length_at(lengths: &[Length], field: usize) -> Length {
+    match at(lengths, field) {
+        Some(length) => *length,
+        None => Length::Encoded,
+    }
 }

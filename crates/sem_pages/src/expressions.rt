@@ -17,9 +17,10 @@ use std::alloc::AllocError;
 pub fn value(expr: &Expr, view: &View<'_>) -> Option<i64>
     ensures { IfSome result (λ v. val (numbers_seen view.now) expr.now ≡ Some v) }
 {
-    // Most are numbers, for which nothing has to be called.
+    // Most are numbers or parameters, for which nothing has to be called.
     match expr {
         Expr::Number(_, number) => short(*number),
+        Expr::Parameter(_, index) => view.parameter(*index),
         _ => value_of(expr, view),
     }
 }
@@ -46,15 +47,16 @@ fn value_of(expr: &Expr, view: &View<'_>) -> Option<i64>
     }
 }
 
-/// The value of a number or of an attribute that is known: so it takes no call.
+/// The value of what has no parts, where that is found: so it takes no call.
 #[inline(always)]
 fn told(expr: &Expr, view: &View<'_>) -> Option<i64>
     ensures { IfSome result (λ v. val (numbers_seen view.now) expr.now ≡ Some v) }
 {
     match expr {
         Expr::Number(_, number) => short(*number),
+        Expr::Parameter(_, index) => view.parameter(*index),
         Expr::Attribute(_, attribute) => view.attribute(*attribute),
-        _ => None,
+        Expr::Binary(_, _, _, _) => None,
     }
 }
 

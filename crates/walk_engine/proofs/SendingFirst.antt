@@ -21,7 +21,7 @@ use Rattle.walk_engine.specs.declared.sender.Sent.TheVariants as sent
 use Rattle.walk_engine.specs.Searching.{IsFound, IsTried, number_in}
 use Rattle.walk_engine.specs.Sending.{IsBestSent, IsInFormat, IsLeastFrom, IsOfFormat, IsWrittenFor}
 use Rattle.walk_engine.specs.Top.{IsTop}
-use Rattle.walk_write.specs.Singles.{IsOpen}
+use Rattle.walk_write.specs.Singles.{IsSingleFrom}
 use Rattle.walk_engine.proofs.Searching.{Searched, first_found, first_is_best, found_for, least_there, under_count}
 
 shows_format : (methods : List Method) (k : ℕ) (p : Page) (f : Filling) → Shows methods k p f → (out-Filling f).format ≡ (out-Page p).format
@@ -52,7 +52,7 @@ module _ (a : Accepting) (ctx : Entries) (it : Item) (p : Resolved) (sound : IsS
   -- ---- formats with one candidate for an item
 
   -- what a page of such a format shows is the first from its number on
-  pub least_from : (place : AcceptedFrame) → IsTop a ctx place → (c n : ℕ) (w : WrittenPage) → IsOpen place c n → IsWritten a ctx it w → (out-Page w.page).format ≡ n → IsLeastFrom a ctx it c w
+  pub least_from : (place : AcceptedFrame) → IsTop a ctx place → (c n : ℕ) (w : WrittenPage) → IsSingleFrom place c n → IsWritten a ctx it w → (out-Page w.page).format ≡ n → IsLeastFrom a ctx it c w
   least_from place t c n w o h of_format = record {
     filling = h.filling;
     fits = h.fits;
@@ -70,7 +70,7 @@ module _ (a : Accepting) (ctx : Entries) (it : Item) (p : Resolved) (sound : IsS
       let under = under_count a ctx it p sound is accepted count s.counted l.filling l.fits in
       record { filling = l.filling; best = best_found count m l.filling past under (found_for a ctx it p sound is accepted m l.filling l.fits l.has refl); stands = l.shows }
 
-  pub of_format : (place : AcceptedFrame) → IsTop a ctx place → (c n : ℕ) (w : WrittenPage) (r : InFormat) → IsOpen place c n → IsWritten a ctx it w → IsOfFormat w n r → IsInFormat a ctx it c r
+  pub of_format : (place : AcceptedFrame) → IsTop a ctx place → (c n : ℕ) (w : WrittenPage) (r : InFormat) → IsSingleFrom place c n → IsWritten a ctx it w → IsOfFormat w n r → IsInFormat a ctx it c r
   of_format place t c n w (inside.Written v) o h same = subst (λ (z : WrittenPage). IsLeastFrom a ctx it c z) (sym same.0) (least_from place t c n w o h same.1)
   of_format place t c n w (inside.Passed many) o h same = absurd same
   of_format place t c n w inside.Untold o h same = tt

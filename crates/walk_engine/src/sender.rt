@@ -21,7 +21,7 @@ use sem_pages::Page;
 use sem_profile::HEADER_LIMIT;
 use std::alloc::{AllocError, Global};
 use walk_pages::{WrittenPage, has_operations, page_number, write_format, write_page};
-use walk_write::{HeaderSource, SingleLook, single_look};
+use walk_write::{HeaderSource, refuted_format, single_format};
 
 /// What was packed: a page that shows the best filling, or that itself, each with the packed bits.
 #[derive(Drop)]
@@ -30,12 +30,14 @@ pub enum Sent {
     Filling(Packed),
 }
 
-/// The same as `pack`, for who needs no filling: it is a page where one is written at once.
+/// The same as `pack`, for who needs no filling: it is a page where one is written at once. The answer doesn't hang on what is likely: the format, by its index,
+/// that takes the item, as it took the one before. It is written at once, and looked at only where that fails.
 pub fn pack_page(
     alloc: Global,
     accepted: &Accepted,
     context: &Context,
     item: &Item,
+    likely: Option<usize>,
 ) -> Result<Sent, PackFault>
     ensures sent { IfOk result (spec.IsPackedAs accepted.now context.now item.now) }
     // as for `pack`
@@ -48,7 +50,7 @@ pub fn pack_page(
     if let Some(name) = wrong_asked(accepted.profile().asked(), item.asked.as_slice()) {
         return Err(PackFault::Asked(name.share()?));
     }
-    match first_sent(alloc, accepted, context, item)? {
+    match first_sent(alloc, accepted, context, item, likely)? {
         Some(found) => Ok(found),
         None => Err(PackFault::NoFormat),
     }
@@ -60,6 +62,7 @@ fn first_sent(
     accepted: &Accepted,
     context: &Context,
     item: &Item,
+    likely: Option<usize>,
 ) -> Result<Option<Sent>, AllocError>
     requires { length item.now.header ≤ header_limit }
     ensures found { IfOk result (λ o. IfSome o (spec.IsBestSent accepted.now context.now item.now)) }
@@ -71,7 +74,7 @@ fn first_sent(
     let count = accepted.counts()[profile.top()];
     let mut number = 0;
     while number < count {
-        let told = sent_in_format(alloc, accepted, context, item, number)?;
+        let told = sent_in_format(alloc, accepted, context, item, likely, number)?;
         match told {
             InFormat::Written(page) => return Ok(Some(Sent::Page(page))),
             InFormat::Passed(many) => {
@@ -111,11 +114,47 @@ fn sent_in_format(
     accepted: &Accepted,
     context: &Context,
     item: &Item,
+    likely: Option<usize>,
     number: u64,
 ) -> Result<InFormat, AllocError>
     requires short { length item.now.header ≤ header_limit }
     requires below { searching.IsBelow accepted.now number }
     ensures { IfOk result (spec.IsInFormat accepted.now context.now item.now number) }
+{
+    accepted.keeps();
+    accepted.profile().keeps();
+    let place = top_place(accepted, context);
+    let Some(format) = single_format(&place, number) else {
+        return Ok(InFormat::Untold);
+    };
+    let is_likely = likely == Some(format);
+    if !is_likely {
+        if let Some(many) = failing(alloc, accepted, context, item, number)? {
+            return Ok(InFormat::Passed(many));
+        }
+    }
+    if let Some(written) = write_format(alloc, accepted, context, item, format)? {
+        return Ok(in_format(written, format));
+    }
+    if is_likely {
+        if let Some(many) = failing(alloc, accepted, context, item, number)? {
+            return Ok(InFormat::Passed(many));
+        }
+    }
+    Ok(InFormat::Untold)
+}
+
+/// How many candidates fail from the number on, where it begins a format that a look at it refutes.
+fn failing(
+    alloc: Global,
+    accepted: &Accepted,
+    context: &Context,
+    item: &Item,
+    number: u64,
+) -> Result<Option<u64>, AllocError>
+    requires short { length item.now.header ≤ header_limit }
+    requires below { searching.IsBelow accepted.now number }
+    ensures { IfOk result (λ o. IfSome o (searching.IsPassed accepted.now context.now item.now number)) }
 {
     accepted.keeps();
     accepted.profile().keeps();
@@ -126,16 +165,7 @@ fn sent_in_format(
         from: 0,
         asked: item.asked.as_slice(),
     };
-    match single_look(alloc, &place, &source, number)? {
-        Some(SingleLook::Refuted(many)) => Ok(InFormat::Passed(many)),
-        Some(SingleLook::Open(format)) => {
-            match write_format(alloc, accepted, context, item, format)? {
-                Some(written) => Ok(in_format(written, format)),
-                None => Ok(InFormat::Untold),
-            }
-        }
-        None => Ok(InFormat::Untold),
-    }
+    refuted_format(alloc, &place, &source, number)
 }
 
 /// The page, if it is of that format.

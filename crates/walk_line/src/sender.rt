@@ -22,12 +22,17 @@ use std::marker::Model;
 use walk_engine::{PackFault, Packed, Sent, pack, pack_page};
 use walk_pages::{WrittenPage, goes_on};
 
-/// The sending end: it packs the items of each flow in the flow's context.
+/// For how many flows the format of the last page is kept: as many as a line has at most.
+const FLOWS: usize = 64;
+
+/// The sending end: it packs the items of each flow in the flow's context. Of each flow it keeps the format of the last page, by its index: the next item mostly goes
+/// by that.
 #[derive(Drop)]
 pub struct Sender<'a> {
     alloc: Global,
     accepted: &'a Accepted,
     contexts: Vec<Context>,
+    formats: [Option<usize>; FLOWS],
 }
 
 impl<'a> Model for Sender<'a> {
@@ -60,6 +65,7 @@ impl<'a> Sender<'a> {
             alloc,
             accepted,
             contexts: no_contexts(alloc, version)?,
+            formats: [None; FLOWS],
         })
     }
 
@@ -73,8 +79,10 @@ impl<'a> Sender<'a> {
         let Some(place) = self.place(flow) else {
             return Err(PackFault::Flow);
         };
+        let number = flow.number();
+        let last = &mut self.formats[usize::from(number)];
         let context = &mut self.contexts[place];
-        put_packet(self.alloc, self.accepted, context, flow.number(), item, out)
+        put_packet(self.alloc, self.accepted, context, number, item, last, out)
     }
 
     /// Empties the flow's context, and adds the reset's octet to the octets. It is refused where the line has no such flow, or
@@ -108,13 +116,15 @@ impl<'a> Sender<'a> {
     }
 }
 
-/// Adds the packet of an item to the octets, after the flow's octet, and moves the context on. A refusal changes neither.
+/// Adds the packet of an item to the octets, after the flow's octet, and moves the context on. A refusal changes neither. Where a page is written, its format is the
+/// last one then.
 fn put_packet(
     alloc: Global,
     accepted: &Accepted,
     context: &mut Context,
     flow: u8,
     item: &Item,
+    last: &mut Option<usize>,
     out: &mut Vec<u8>,
 ) -> Result<(), PackFault>
     ensures ok { OnOk result (IsPacked accepted.now context.old context.new flow item.now out.old.items out.new.items) }
@@ -125,9 +135,10 @@ fn put_packet(
     if context.len() == 0 {
         return put_best(alloc, accepted, context, flow, item, out);
     }
-    match pack_page(alloc, accepted, context, item) {
+    match pack_page(alloc, accepted, context, item, *last) {
         Ok(Sent::Page(written)) => {
             if put_page(alloc, accepted, context, flow, &written, out)? {
+                *last = Some(written.page.format);
                 return Ok(());
             }
             put_best(alloc, accepted, context, flow, item, out)

@@ -10,7 +10,7 @@ ghost use Rattle.sem_pages.specs.Prepared.{IsPrepared};
 ghost use Rattle.walk_pages.specs.Drafts as spec;
 
 use crate::choices::Choices;
-use cert_compiled::PageOperation;
+use cert_compiled::{Length, PageOperation};
 use cert_rules::equations::{length_given, remainder_form, value_given};
 use sem_bits::{Bits, Cursor};
 use sem_expr::{Expr, Side};
@@ -126,7 +126,7 @@ impl<'a> Draft<'a> {
                 field,
                 length,
                 value,
-            } => match self.count_given(*field, *length) {
+            } => match self.count(*field, *length) {
                 Some(count) => self.solve(alloc, frame, *field, count, *value),
                 None => Ok(false),
             },
@@ -348,9 +348,19 @@ impl<'a> Draft<'a> {
         }
     }
 
+    /// How many bits the uncompressed side of the field has, where it isn't the encoding that says it.
+    #[inline(always)]
+    pub(crate) fn count(&self, field: usize, length: Length) -> Option<usize> {
+        match length {
+            Length::Known(count) => Some(count),
+            Length::Given(number) => self.count_given(field, number),
+            Length::Encoded => None,
+        }
+    }
+
     /// The length that the constraint gives the uncompressed side of the field.
-    pub(crate) fn count_given(&self, field: usize, length: usize) -> Option<usize> {
-        let constraint = self.format.constraints.get(length)?;
+    fn count_given(&self, field: usize, number: usize) -> Option<usize> {
+        let constraint = self.format.constraints.get(number)?;
         let given = length_given(field, Side::Uncompressed, constraint.get())?;
         usize::try_from(natural(given, &self.view())?).ok()
     }
@@ -388,23 +398,23 @@ fn begun(alloc: Global, constants: &[Option<BothSides>]) -> Result<Vec<Shown>, A
 {
     let mut fields = Vec::with_capacity(alloc, constants.len())?;
     for i in 0..constants.len() {
-        fields.push(begun_with(&constants[i]))?;
+        match &constants[i] {
+            Some(both) => fields.push(plain(*both))?,
+            None => fields.push(blank())?,
+        }
     }
     Ok(fields)
 }
 
-/// A field with what it begins with.
+/// A field of which nothing is read.
 #[inline(always)]
-fn begun_with(constant: &Option<BothSides>) -> Shown
-    ensures { spec.BeginsWith constant.now result }
+fn blank() -> Shown
+    ensures { result ≡ spec.blank }
 {
-    match constant {
-        Some(both) => plain(*both),
-        None => Shown {
-            uncompressed: None,
-            compressed: None,
-            inner: None,
-        },
+    Shown {
+        uncompressed: None,
+        compressed: None,
+        inner: None,
     }
 }
 

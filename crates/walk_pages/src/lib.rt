@@ -9,7 +9,6 @@ pub use writing::has_operations;
 mod choices;
 mod draft;
 mod ends;
-mod fitting;
 mod methods;
 mod numbers;
 mod picks;

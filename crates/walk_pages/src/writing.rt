@@ -8,10 +8,9 @@ ghost use Rattle.walk_pages.specs.Picks as picks;
 use crate::choices::Choices;
 use crate::draft::{Draft, Inside, PackedPage, Told, WholePage};
 use crate::ends::{ended, ended_as};
-use crate::fitting::first_left;
 use crate::picks::told_at;
 use cert_accepted::Accepted;
-use cert_compiled::{Origin, PageWriting};
+use cert_compiled::{Length, Origin, PageWriting, first_left};
 use sem_bits::{Bits, Cursor};
 use sem_filling::whole_sides::reference_near;
 use sem_filling::{AskedValue, FieldPath};
@@ -42,12 +41,8 @@ pub(crate) struct Given<'a, 'b> {
 }
 
 impl<'a, 'b> Given<'a, 'b> {
-    /// What is given of a filling inside, of which that is the next digit: none of its fields is asked.
-    fn inside(&self, from: usize, digit: u64) -> Given<'a, 'b> {
-        let target = match self.target {
-            Target::Candidate(_) => Target::Candidate(digit),
-            Target::Format(_) | Target::Fitting => Target::Fitting,
-        };
+    /// What is given of a filling inside, of which that is to be written: none of its fields is asked.
+    fn inside(&self, from: usize, target: Target) -> Given<'a, 'b> {
         Given {
             header: self.header,
             from,
@@ -130,12 +125,23 @@ fn step(
     ensures { IfOk result (λ b. IsTrue b → spec.GoesOn frame.now draft.old draft.new) }
 {
     match operation {
-        PageWriting::Call { field, takes } => {
-            let inside = Inside {
-                field: *field,
-                takes: *takes,
+        PageWriting::Call {
+            field,
+            takes,
+            format,
+        } => {
+            let wanted = CallWriting {
+                inside: Inside {
+                    field: *field,
+                    takes: *takes,
+                },
+                format: *format,
             };
-            call(depth, alloc, accepted, frame, draft, inside, given)
+            call(depth, alloc, accepted, frame, draft, wanted, given)
+        }
+        PageWriting::Pass(count) => {
+            draft.pass(true, *count);
+            Ok(true)
         }
         PageWriting::Skip(field) => Ok(draft.skip_up(*field)),
         PageWriting::Field {
@@ -153,12 +159,12 @@ fn step(
     }
 }
 
-/// A field that is written: where its bits come from, and the constraint that gives their length, where there is one.
+/// A field that is written: where its bits come from, and how many they are.
 #[derive(Clone, Copy)]
 struct FieldWriting {
     field: usize,
     origin: Origin,
-    length: Option<usize>,
+    length: Length,
 }
 
 /// Writes a field that calls no method.
@@ -221,7 +227,7 @@ fn take_field(
     frame: &PageFrame<'_>,
     draft: &mut Draft<'_>,
     field: usize,
-    length: Option<usize>,
+    length: Length,
     header: &Cursor<'_>,
 ) -> Result<bool, AllocError>
     ensures { IfOk result (λ b. IsTrue b → spec.GoesOn frame.now draft.old draft.new) }
@@ -243,17 +249,29 @@ fn take_field(
     Ok(true)
 }
 
-/// How many bits the uncompressed side of the field has: by the constraint, or by its library method.
+/// How many bits the uncompressed side of the field has.
+#[inline(always)]
 fn count_of(
     alloc: Global,
     frame: &PageFrame<'_>,
     draft: &Draft<'_>,
     field: usize,
-    length: Option<usize>,
+    length: Length,
 ) -> Result<Option<usize>, AllocError> {
-    if let Some(length) = length {
-        return Ok(draft.count_given(field, length));
+    match length {
+        Length::Known(_) | Length::Given(_) => Ok(draft.count(field, length)),
+        Length::Encoded => count_encoded(alloc, frame, draft, field),
     }
+}
+
+/// The same by its library method.
+#[inline(never)]
+fn count_encoded(
+    alloc: Global,
+    frame: &PageFrame<'_>,
+    draft: &Draft<'_>,
+    field: usize,
+) -> Result<Option<usize>, AllocError> {
     let Some(declared) = draft.format.fields.get(field) else {
         return Ok(None);
     };
@@ -275,6 +293,13 @@ fn count_of(
     }
 }
 
+/// A call that is written, and the format of the called method, by its index, where the arguments leave that on each level.
+#[derive(Clone, Copy)]
+struct CallWriting {
+    inside: Inside,
+    format: Option<usize>,
+}
+
 /// Writes what is inside a field that calls a method. Whether that is done.
 #[cycle(writing)]
 #[inline(never)]
@@ -284,23 +309,42 @@ fn call(
     accepted: &Accepted,
     frame: &PageFrame<'_>,
     draft: &mut Draft<'_>,
-    inside: Inside,
+    wanted: CallWriting,
     given: &Given<'_, '_>,
 ) -> Result<bool, AllocError>
     requires { frame.now.methods.now ≡ accepted.now.profile.methods }
     ensures { IfOk result (λ b. IsTrue b → spec.GoesOn frame.now draft.old draft.new) }
 {
-    let Some(ways) = ways_of(accepted, draft, inside.field) else {
+    let Some(target) = target_inside(accepted, draft, wanted, given.target) else {
         return Ok(false);
     };
-    let Some(number) = draft.choose(ways) else {
-        return Ok(false);
-    };
-    let inner = given.inside(draft.ahead, number);
+    let inside = wanted.inside;
+    let inner = given.inside(draft.ahead, target);
     let Some(found) = called(depth, alloc, accepted, frame, draft, inside, &inner)? else {
         return Ok(false);
     };
     Ok(put_written(draft, inside, found))
+}
+
+/// Which filling of the called method is written: that with the next digit, where the one of the whole has a number.
+#[inline(always)]
+fn target_inside(
+    accepted: &Accepted,
+    draft: &mut Draft<'_>,
+    wanted: CallWriting,
+    whole: Target,
+) -> Option<Target>
+    ensures { (frame : PageFrame) → spec.GoesOn frame draft.old draft.new }
+{
+    if let Target::Candidate(_) = whole {
+        let ways = ways_of(accepted, draft, wanted.inside.field)?;
+        let number = draft.choose(ways)?;
+        return Some(Target::Candidate(number));
+    }
+    match wanted.format {
+        Some(index) => Some(Target::Format(index)),
+        None => Some(Target::Fitting),
+    }
 }
 
 /// Puts the page inside the field, whose header is passed where it takes.
@@ -417,7 +461,7 @@ fn start_for<'a, 'b>(
         Target::Candidate(number) => start_of(accepted, frame.methods, frame.method, number),
         Target::Format(index) => start_in(accepted, frame.methods, frame.method, index),
         Target::Fitting => {
-            let index = first_left(frame)?;
+            let index = first_left(frame.methods, frame.method, frame.arguments)?;
             start_in(accepted, frame.methods, frame.method, index)
         }
     }

@@ -38,12 +38,14 @@ pub(crate) fn item_of(
     Ok(Item { header, asked })
 }
 
-/// Packs an item, writes its packet to the start of the room, and goes on. A refusal changes neither. How many bits the packet has.
+/// Packs an item, writes its packet to the start of the room, and goes on. A refusal changes neither. How many bits the packet has. Where a page is packed, its
+/// format is the last one then.
 pub(crate) fn send(
     alloc: Global,
     accepted: &Accepted,
     sending: &mut Sending,
     item: &Item,
+    last: &mut Option<usize>,
     room: &mut [u8],
 ) -> Result<usize, PackRefusal>
     ensures ok { IfOk result (spec.IsSent accepted.now sending.old sending.new item.now room.old room.new) }
@@ -51,7 +53,7 @@ pub(crate) fn send(
     ensures fault { IfErr result (λ e. spec.BlamesSend e accepted.now sending.old item.now (length room.old)) }
 {
     match sending {
-        Sending::Plain(context) => send_plain(alloc, accepted, context, item, room),
+        Sending::Plain(context) => send_plain(alloc, accepted, context, item, last, room),
         Sending::Robust(robust) => send_robust(alloc, accepted, robust, item, room),
     }
 }
@@ -62,6 +64,7 @@ fn send_plain(
     accepted: &Accepted,
     context: &mut Context,
     item: &Item,
+    last: &mut Option<usize>,
     room: &mut [u8],
 ) -> Result<usize, PackRefusal>
     ensures ok { IfOk result (spec.IsSentPlain accepted.now context.old context.new item.now room.old room.new) }
@@ -72,7 +75,7 @@ fn send_plain(
     if context.len() == 0 {
         return send_best(alloc, accepted, context, item, room);
     }
-    match pack_page(alloc, accepted, context, item) {
+    match pack_page(alloc, accepted, context, item, *last) {
         Ok(Sent::Page(written)) => {
             if !has_room(written.packed.len(), room) {
                 return Err(PackRefusal::NoRoom(written.packed.len()));
@@ -80,6 +83,7 @@ fn send_plain(
             if !goes_on(alloc, accepted, context, &written.page)? {
                 return send_best(alloc, accepted, context, item, room);
             }
+            *last = Some(written.page.format);
             write_bits(&written.packed, room);
             Ok(written.packed.len())
         }

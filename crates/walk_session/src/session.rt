@@ -13,11 +13,13 @@ use std::alloc::{AllocError, Global};
 use std::marker::Model;
 use walk_robust::Robust;
 
-/// An accepted profile, and both ends of each flow.
+/// An accepted profile, and both ends of each flow. Of each flow it keeps the format of the last page that was packed, by its index: the next item mostly goes by
+/// that.
 #[derive(Drop)]
 pub struct Session {
     accepted: Accepted,
     flows: Vec<Ends>,
+    formats: Vec<Option<usize>>,
 }
 
 impl Model for Session {
@@ -46,6 +48,7 @@ impl Session {
         Ok(Session {
             accepted,
             flows: all,
+            formats: no_formats(alloc, flows)?,
         })
     }
 
@@ -86,8 +89,18 @@ impl Session {
             Ok(item) => item,
             Err(refusal) => return Err(refusal),
         };
+        let mut last = last_format(self.formats.as_slice(), flow);
         let ends = &mut self.flows[flow];
-        send(alloc, &self.accepted, &mut ends.sending, &item, room)
+        let sent = send(
+            alloc,
+            &self.accepted,
+            &mut ends.sending,
+            &item,
+            &mut last,
+            room,
+        );
+        note_format(&mut self.formats, flow, last);
+        sent
     }
 
     /// Unpacks the packet at the front of bits of a flow. Its header and the octets of its asked values are written to the starts of the rooms. A refusal leaves
@@ -174,5 +187,27 @@ fn held_by(sending: &Sending) -> usize
     match sending {
         Sending::Plain(_) => 1,
         Sending::Robust(robust) => robust.held(),
+    }
+}
+
+/// No last format of so many flows.
+fn no_formats(alloc: Global, flows: u8) -> Result<Vec<Option<usize>>, AllocError> {
+    let mut formats = Vec::new(alloc);
+    for _i in 0..flows {
+        formats.push(None)?;
+    }
+    Ok(formats)
+}
+
+fn last_format(formats: &[Option<usize>], flow: usize) -> Option<usize> {
+    match formats.get(flow) {
+        Some(format) => *format,
+        None => None,
+    }
+}
+
+fn note_format(formats: &mut Vec<Option<usize>>, flow: usize, format: Option<usize>) {
+    if flow < formats.len() {
+        formats[flow] = format;
     }
 }

@@ -3,7 +3,7 @@
 
 pub use closer::refuted_closely;
 pub use fault::WriteFault;
-pub use looks::{SingleLook, refuted, single_look};
+pub use looks::{refuted, refuted_format, single_format};
 pub use source::HeaderSource;
 pub use walk::write_method;
 

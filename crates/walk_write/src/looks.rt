@@ -4,7 +4,7 @@ ghost use Rattle.std.specs.Prelude.{◌≡◌, ◌<◌, Some, IfOk, IfSome, OnOk
 ghost use Rattle.cert_accepted.specs.Standing.{Stands};
 ghost use Rattle.walk_write.specs.Going as going;
 ghost use Rattle.walk_write.specs.Sources.{IsWithin, front};
-ghost use Rattle.walk_write.specs.Singles.{IsSingleLook};
+ghost use Rattle.walk_write.specs.Singles.{IsSingleFrom};
 ghost use Rattle.walk_write.specs.Walking.{IsBelow, Fails, Passes};
 
 use crate::calls::radix_of;
@@ -46,42 +46,47 @@ pub fn refuted(
     Ok(between(number, next))
 }
 
-/// What a look tells of a format that has one candidate for an item.
-#[derive(Clone, Copy)]
-pub enum SingleLook {
-    /// So many candidates fail from the number on: the format is refuted.
-    Refuted(u64),
-    /// Nothing is told of the format, by its index.
-    Open(usize),
+/// The format that begins with the number, by its index, where that has one candidate for an item. None where it hasn't, or another number begins it. Nothing of
+/// the item is looked at.
+pub fn single_format(place: &AcceptedFrame<'_>, number: u64) -> Option<usize>
+    requires stands { Stands place.now }
+    requires below { IsBelow place.now number }
+    ensures { IfSome result (IsSingleFrom place.now number) }
+{
+    let start = start_at(place, number)?;
+    if is_first(place, start.format, start.digits.alike())
+        && is_single(place.accepted, place.frame.method, start.format)
+    {
+        Some(start.format)
+    } else {
+        None
+    }
 }
 
-/// What a look tells of the format that begins with the number, where that has one candidate for an item; None where it hasn't, or another number begins it. The
-/// error is out of memory.
-pub fn single_look(
+/// How many candidates fail from this number on, where it begins a format that is refuted. The error is out of memory.
+pub fn refuted_format(
     alloc: Global,
     place: &AcceptedFrame<'_>,
     source: &HeaderSource<'_>,
     number: u64,
-) -> Result<Option<SingleLook>, AllocError>
+) -> Result<Option<u64>, AllocError>
     requires stands { Stands place.now }
     requires within { IsWithin source.now }
     requires below { IsBelow place.now number }
-    ensures { IfOk result (λ o. IfSome o (IsSingleLook place.now (front source.now) source.now.asked.now number)) }
+    ensures { IfOk result (λ o. IfSome o (Fails place.now (front source.now) source.now.asked.now number)) }
 {
     let Some(start) = start_at(place, number) else {
         return Ok(None);
     };
     let alike = start.digits.alike();
-    if !is_first(place, start.format, alike)
-        || !is_single(place.accepted, place.frame.method, start.format)
-    {
+    if !is_first(place, start.format, alike) {
         return Ok(None);
     }
     let is_in_vain = is_refuted(alloc, place, start.format, source.cursor, source.from)?;
     if is_in_vain {
-        Ok(Some(SingleLook::Refuted(alike)))
+        Ok(Some(alike))
     } else {
-        Ok(Some(SingleLook::Open(start.format)))
+        Ok(None)
     }
 }
 

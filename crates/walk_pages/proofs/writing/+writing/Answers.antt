@@ -12,7 +12,10 @@ write_method-loop-operation-preserved t c =
 pub call-returns : goal.call-returns
 call-returns t c = λ is.
     let found = rw c.in-Some-2.is at c.in_ok-found.ensures in
-    goes_trans c.args.frame.now c.args.draft.now c.choose.new.self c.put_written.new.draft (c.choose.ensures c.args.frame.now) (c.put_written.ensures c.args.frame.now is found)
+    goes_trans c.args.frame.now c.args.draft.now c.target_inside.new.draft c.put_written.new.draft (c.target_inside.ensures c.args.frame.now) (c.put_written.ensures c.args.frame.now is found)
+
+pub step-returns-in-Pass : goal.step-returns-in-Pass
+step-returns-in-Pass t c = λ _. c.pass.ensures c.args.frame.now
 
 pub step-returns-in-Skip : goal.step-returns-in-Skip
 step-returns-in-Skip t c = λ is. c.skip_up.ensures c.args.frame.now is

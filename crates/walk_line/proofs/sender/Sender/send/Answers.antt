@@ -16,8 +16,8 @@ returns-clause-ok c =
     let there : slice_get c.self.inside.contexts.items c.in-Some.place ≡ Some c.index_mut-context.result.now =
     slice_get_read c.self.inside.contexts.items (length c.self.inside.contexts.items) c.in-Some.place c.index_mut-context.result.now refl (omega arith) c.index_mut-context.ensures.value in
     on_ok_more c.put_packet.result
-    (λ packed. send_put c.self.inside.accepted.now c.self.inside.contexts.items c.args.self.now c.args.flow c.in-Some.place c.number.result c.index_mut-context.result.now c.put_packet.new.context c.args.item.now
-    c.args.out.now.items c.put_packet.new.out.items there same c.number.ensures.value c.self.view_is packed)
+    (λ packed. send_put c.self.inside.accepted.now c.self.inside.contexts.items c.args.self.now c.args.flow c.in-Some.place c.number-number.result c.index_mut-context.result.now c.put_packet.new.context c.args.item.now
+    c.args.out.now.items c.put_packet.new.out.items there same c.number-number.ensures.value c.self.view_is packed)
     c.put_packet.ensures.ok
 
 pub returns-clause-fault : goal.returns-clause-fault

@@ -19,17 +19,17 @@ returns-clause-ok c =
     let within : c.args.flow < length c.self.inside.flows.items = omega (arith, c.if-flow-len.false, c.len.ensures) in
     let there : slice_get c.self.inside.flows.items c.args.flow ≡ Some c.index_mut-ends.result.now =
     slice_get_read c.self.inside.flows.items (length c.self.inside.flows.items) c.args.flow c.index_mut-ends.result.now refl within c.index_mut-ends.ensures.value in
-    if_ok_more _ _ c.send.result
-    (λ n sent. packed_at c.self.inside.accepted c.self.inside.flows.items c.args.self.now c.args.flow c.index_mut-ends.result.now c.send.new.sending c.in-Ok.item c.asked-fields.result.now c.args.header.now c.args.header_bits c.args.asked.now
-    c.args.room.now c.send.new.room n there c.self.view_is (c.asked-fields.ensures ∙ ap (λ p. p.asked) c.profile.ensures) c.in-Ok.ensures.ok sent)
-    c.send.ensures.ok
+    if_ok_more _ _ c.send-sent.result
+    (λ n sent. packed_at c.self.inside.accepted c.self.inside.flows.items c.args.self.now c.args.flow c.index_mut-ends.result.now c.send-sent.new.sending c.in-Ok.item c.asked-fields.result.now c.args.header.now c.args.header_bits c.args.asked.now
+    c.args.room.now c.send-sent.new.room n there c.self.view_is (c.asked-fields.ensures ∙ ap (λ p. p.asked) c.profile.ensures) c.in-Ok.ensures.ok sent)
+    c.send-sent.ensures.ok
 
 pub returns-clause-fault : goal.returns-clause-fault
 returns-clause-fault c =
     let within : c.args.flow < length c.self.inside.flows.items = omega (arith, c.if-flow-len.false, c.len.ensures) in
     let there : slice_get c.self.inside.flows.items c.args.flow ≡ Some c.index_mut-ends.result.now =
     slice_get_read c.self.inside.flows.items (length c.self.inside.flows.items) c.args.flow c.index_mut-ends.result.now refl within c.index_mut-ends.ensures.value in
-    if_err_more _ _ c.send.result
+    if_err_more _ _ c.send-sent.result
     (λ e blames. pack_not_sent c.self.inside.accepted c.self.inside.flows.items c.args.self.now c.args.flow c.index_mut-ends.result.now c.in-Ok.item c.asked-fields.result.now c.args.header.now c.args.header_bits c.args.asked.now
     (length c.args.room.now) e there c.self.view_is (c.asked-fields.ensures ∙ ap (λ p. p.asked) c.profile.ensures) c.in-Ok.ensures.ok blames)
-    c.send.ensures.fault
+    c.send-sent.ensures.fault

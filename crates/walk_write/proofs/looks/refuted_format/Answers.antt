@@ -1,7 +1,7 @@
-use Rattle.std.proofs.Common.{arith, drop, refl}
+use Rattle.std.proofs.Common.{drop}
 use Rattle.walk_write.proofs.RefutationNever.{never_begins}
 use Rattle.walk_write.proofs.WalkingWhole as whole
-use Rattle.walk_write.proofs.looks.single_look.Goals as goal
+use Rattle.walk_write.proofs.looks.refuted_format.Goals as goal
 
 pub returns-then-is_in_vain : goal.returns-then-is_in_vain
 returns-then-is_in_vain c =
@@ -11,10 +11,3 @@ returns-then-is_in_vain c =
     let b = c.in-Some.ensures.found in
     whole.never_begins place c.requires.stands c.args.number start b bits (never_begins place b.sound start.format bits (c.in_ok-is_in_vain.ensures c.if-is_in_vain.true)) c.args.source.now.asked.now c.alike-alike.result c.alike-alike.ensures.count
     c.alike-alike.ensures.share
-
-pub returns-else-is_in_vain : goal.returns-else-is_in_vain
-returns-else-is_in_vain c =
-    let b = c.in-Some.ensures.found in
-    let number = b.reading.number_is in
-    let base = b.base_is in
-    record { single = c.if-not-is_single.ensures refl; before = omega (arith, number, base) }

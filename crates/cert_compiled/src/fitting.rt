@@ -1,19 +1,37 @@
 //! The format of a called method that the arguments leave, of which nothing is promised: who writes by it judges what he has.
 
+use sem_expr::short::plain;
 use sem_expr::{Cond, Expr, compares};
-use sem_pages::PageFrame;
-use sem_profile::{Constraint, Format};
+use sem_profile::{Constraint, Format, Method};
 use sqlite_items::at;
+use std::alloc::{AllocError, Global};
 
-/// The first format of the frame's method, by its index, of which no constraint is false by the arguments alone.
-pub(crate) fn first_left(frame: &PageFrame<'_>) -> Option<usize> {
-    let method = at(frame.methods, frame.method)?;
+/// The first format of the method, both by their indices, of which no constraint is false by the arguments alone.
+pub fn first_left(methods: &[Method], method: usize, arguments: &[i64]) -> Option<usize> {
+    let method = at(methods, method)?;
     for (index, format) in method.formats.as_slice().iter().enumerate() {
-        if !has_false(format, frame.arguments) {
+        if !has_false(format, arguments) {
             return Some(index);
         }
     }
     None
+}
+
+/// The same by these expressions, where each is a number.
+pub(crate) fn left_by(
+    alloc: Global,
+    methods: &[Method],
+    method: usize,
+    arguments: &[Expr],
+) -> Result<Option<usize>, AllocError> {
+    let mut values = Vec::new(alloc);
+    for argument in arguments {
+        let Some(value) = plain(argument) else {
+            return Ok(None);
+        };
+        values.push(value)?;
+    }
+    Ok(first_left(methods, method, values.as_slice()))
 }
 
 /// Whether a constraint of the format is false by the arguments alone.
