@@ -31,7 +31,7 @@ impl LineVersion {
 }
 
 /// The greatest count of flows of a line.
-const FLOW_LIMIT: u8 = 64;
+pub(crate) const FLOW_LIMIT: u8 = 64;
 
 /// One of the flows of a line. A line of version 1 has those below 16.
 #[derive(Clone, Copy, Debug, PartialEq, Eq)]

@@ -12,7 +12,7 @@ ghost use Rattle.sem_filling.specs.Fillings.{packed};
 ghost use Rattle.walk_engine.specs.Sending.{ShowsPacked};
 ghost use Rattle.walk_line.specs.Steps.{AddsPacket, IsPacked};
 
-use crate::flow::{Flow, LineVersion, no_contexts};
+use crate::flow::{FLOW_LIMIT, Flow, LineVersion, no_contexts};
 use cert_accepted::Accepted;
 use sem_bits::Bits;
 use sem_context::Context;
@@ -22,9 +22,6 @@ use std::marker::Model;
 use walk_engine::{PackFault, Packed, Sent, pack, pack_page};
 use walk_pages::{WrittenPage, goes_on};
 
-/// For how many flows the format of the last page is kept: as many as a line has at most.
-const FLOWS: usize = 64;
-
 /// The sending end: it packs the items of each flow in the flow's context. Of each flow it keeps the format of the last page, by its index: the next item mostly goes
 /// by that.
 #[derive(Drop)]
@@ -32,7 +29,7 @@ pub struct Sender<'a> {
     alloc: Global,
     accepted: &'a Accepted,
     contexts: Vec<Context>,
-    formats: [Option<usize>; FLOWS],
+    formats: [Option<usize>; FLOW_LIMIT as usize],
 }
 
 impl<'a> Model for Sender<'a> {
@@ -65,7 +62,7 @@ impl<'a> Sender<'a> {
             alloc,
             accepted,
             contexts: no_contexts(alloc, version)?,
-            formats: [None; FLOWS],
+            formats: [None; FLOW_LIMIT as usize],
         })
     }
 
