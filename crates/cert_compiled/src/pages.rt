@@ -4,7 +4,7 @@ use crate::fitting::left_by;
 use cert_rules::choice_of;
 use cert_types::Step;
 use sem_expr::{Expr, Side, Subject};
-use sem_pages::Prepared;
+use sem_pages::{LengthTest, Prepared};
 use sem_profile::{Encoding, Format, Library, Method, Part};
 use sqlite_items::{Items, at};
 use std::alloc::{AllocError, Global};
@@ -440,12 +440,18 @@ fn known_lengths(alloc: Global, prepared: &Prepared) -> Result<Vec<Length>, Allo
             None => all.push(Length::Encoded)?,
         }
     }
-    for test in prepared.lengths.as_slice() {
-        if matches!(test.side, Side::Uncompressed) && test.field < all.len() {
-            all[test.field] = Length::Known(test.count);
+    note_counts(&mut all, prepared.settled.as_slice());
+    note_counts(&mut all, prepared.lengths.as_slice());
+    Ok(all)
+}
+
+/// Notes the lengths of uncompressed sides that the tests tell.
+fn note_counts(lengths: &mut Vec<Length>, tests: &[LengthTest]) {
+    for test in tests {
+        if matches!(test.side, Side::Uncompressed) && test.field < lengths.len() {
+            lengths[test.field] = Length::Known(test.count);
         }
     }
-    Ok(all)
 }
 
 /// Notes that the constraint gives the length of the field's uncompressed side, where that isn't known.

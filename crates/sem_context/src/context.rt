@@ -245,8 +245,8 @@ impl Context {
         }
     }
 
-    /// Puts bits in the entry of that place, if there is one.
-    fn set_bits(&mut self, place: usize, bits: Bits)
+    /// Puts bits in the entry of that place, the first at 0, if there is one. It takes no memory.
+    pub fn set_bits(&mut self, place: usize, bits: Bits)
         ensures { self.new ≡ with_bits_at self.old place bits }
     {
         let mut bits = bits;

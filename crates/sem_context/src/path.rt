@@ -13,6 +13,7 @@ pub fn is_path(text: &str) -> bool
 
 /// Whether two names or paths have the same octets. That is less work than the comparison of texts, since they are short: up to sixteen octets are the same where
 /// the first eight and the last eight are.
+#[inline(always)]
 pub fn are_same(octets: &[u8], others: &[u8]) -> bool
     ensures { IsTrue result ↔ (octets.now ≡ others.now) }
 {
@@ -98,6 +99,7 @@ fn are_ends_of_four_same(octets: &[u8], others: &[u8]) -> bool
 }
 
 /// The same of a few octets.
+#[inline(never)]
 fn are_few_same(octets: &[u8], others: &[u8]) -> bool
     ensures { IsTrue result ↔ (octets.now ≡ others.now) }
 {

@@ -19,7 +19,7 @@ pub last_get : {A : Type 0} (xs : List A) (x : A) → slice_get (xs ++ x ∷ [])
 last_get [] x = refl
 last_get (z ∷ zs) x = last_get zs x
 
-length_push : {A : Type 0} (xs : List A) (x : A) → length (xs ++ x ∷ []) ≡ length xs + 1
+pub length_push : {A : Type 0} (xs : List A) (x : A) → length (xs ++ x ∷ []) ≡ length xs + 1
 length_push [] x = refl
 length_push (z ∷ zs) x = let rest = length_push zs x in omega (arith, rest)
 

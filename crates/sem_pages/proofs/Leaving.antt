@@ -13,7 +13,10 @@ use Rattle.sem_filling.specs.declared.filling.AskedValue.{AskedValue}
 use Rattle.sem_filling.specs.Fillings.{Sides, sides_of, inner_of, inner_at, fields_of, level, asked_values}
 use Rattle.std.specs.List.{flat_map}
 use Rattle.std.proofs.lemmas.List.{length-map}
-use Rattle.sem_filling.specs.Entries.{Path, below, own_entry, entries_below, GoesOn}
+use Rattle.sem_filling.specs.Entries.{Path, below, own_entry, entries_below}
+use Rattle.sem_context.specs.Entries.{Entries}
+use Rattle.sem_pages.specs.declared.entries.Progress.{Progress}
+use Rattle.sem_pages.specs.Progress.{GoesOn}
 use Rattle.sem_filling.specs.FillingLaws.{entries_at}
 use Rattle.sem_pages.proofs.InOrder.{GoesTo, ends, field_goes, none_inside, some_inside}
 use Rattle.sem_filling.specs.Fits.{format_at}
@@ -145,32 +148,32 @@ module _ (ds : List Field) (ss : List Shown) (values : List AskedValue) where
 -- ---- entries
 
 -- of a field with these sides
-own_goes : (paths : List Path) (old new : List (List Bool)) (d : Field) (s : Shown) (g : FilledField) (here : Path) → sides_of g ≡ sides_by d s → GoesOn paths old new (own_entry d.declared.part here (unwrap_or (out-Shown s).uncompressed []))
-    → GoesOn paths old new (own_entry (sides_of g).declared.part here (sides_of g).uncompressed)
-own_goes paths old new d s g here is goes = subst (λ (x : Sides). GoesOn paths old new (own_entry x.declared.part here x.uncompressed)) (sym is) goes
+own_goes : (ctx : Entries) (old new : Progress) (d : Field) (s : Shown) (g : FilledField) (here : Path) → sides_of g ≡ sides_by d s → GoesOn ctx old new (own_entry d.declared.part here (unwrap_or (out-Shown s).uncompressed []))
+    → GoesOn ctx old new (own_entry (sides_of g).declared.part here (sides_of g).uncompressed)
+own_goes ctx old new d s g here is goes = subst (λ (x : Sides). GoesOn ctx old new (own_entry x.declared.part here x.uncompressed)) (sym is) goes
 
 -- a field with nothing inside
-pub plain_goes : (methods : List Method) (paths : List Path) (old new : List (List Bool)) (path : Path) (d : Field) (s : Shown) → (out-Shown s).inner ≡ None
-    → GoesOn paths old new (own_entry d.declared.part (below path d.declared.name) (unwrap_or (out-Shown s).uncompressed [])) → (g : FilledField) → StandsFor methods d s g → GoesOn paths old new (entries_at path g)
-plain_goes methods paths old new path d s none own g stands =
+pub plain_goes : (methods : List Method) (ctx : Entries) (old new : Progress) (path : Path) (d : Field) (s : Shown) → (out-Shown s).inner ≡ None
+    → GoesOn ctx old new (own_entry d.declared.part (below path d.declared.name) (unwrap_or (out-Shown s).uncompressed [])) → (g : FilledField) → StandsFor methods d s g → GoesOn ctx old new (entries_at path g)
+plain_goes methods ctx old new path d s none own g stands =
     let here = below path d.declared.name in
-    field_goes paths old new new path here g (ap (λ (x : Sides). below path x.declared.name) (sym stands.sides_are)) (own_goes paths old new d s g here stands.sides_are own)
-    (none_inside paths new (inner_of g) here (inside_none methods none stands.inside))
+    field_goes ctx old new new path here g (ap (λ (x : Sides). below path x.declared.name) (sym stands.sides_are)) (own_goes ctx old new d s g here stands.sides_are own)
+    (none_inside ctx new (inner_of g) here (inside_none methods none stands.inside))
 
 -- a field that calls a method
-pub called_goes : (methods : List Method) (paths : List Path) (old mid new : List (List Bool)) (path here : Path) (d : Field) (s : Shown) (k : ℕ) (es : List Expr) (p : Page) → (out-Shown s).inner ≡ Some p → d.encoding ≡ encoding.Call k es
-    → here ≡ below path d.declared.name → GoesOn paths old mid (own_entry d.declared.part here (unwrap_or (out-Shown s).uncompressed [])) → ((f : Filling) → Shows methods k p f → GoesOn paths mid new (entries_below f here))
-    → (g : FilledField) → StandsFor methods d s g → GoesOn paths old new (entries_at path g)
-called_goes methods paths old mid new path here d s k es p is call here_is own inside g stands =
+pub called_goes : (methods : List Method) (ctx : Entries) (old mid new : Progress) (path here : Path) (d : Field) (s : Shown) (k : ℕ) (es : List Expr) (p : Page) → (out-Shown s).inner ≡ Some p → d.encoding ≡ encoding.Call k es
+    → here ≡ below path d.declared.name → GoesOn ctx old mid (own_entry d.declared.part here (unwrap_or (out-Shown s).uncompressed [])) → ((f : Filling) → Shows methods k p f → GoesOn ctx mid new (entries_below f here))
+    → (g : FilledField) → StandsFor methods d s g → GoesOn ctx old new (entries_at path g)
+called_goes methods ctx old mid new path here d s k es p is call here_is own inside g stands =
     let q = inside_call methods k es p is call stands.inside in
-    field_goes paths old mid new path here g (here_is ∙ ap (λ (x : Sides). below path x.declared.name) (sym stands.sides_are)) (own_goes paths old mid d s g here stands.sides_are own)
-    (some_inside paths mid new (inner_of g) q.0 here q.1 (inside q.0 q.2))
+    field_goes ctx old mid new path here g (here_is ∙ ap (λ (x : Sides). below path x.declared.name) (sym stands.sides_are)) (own_goes ctx old mid d s g here stands.sides_are own)
+    (some_inside ctx mid new (inner_of g) q.0 here q.1 (inside q.0 q.2))
 
 -- what is left at the end
-pub all_gone : (methods : List Method) {k : ℕ} {p : Page} {f : Filling} (format : Format) (paths : List Path) (old new : List (List Bool)) (path : Path) (n : ℕ) → format_at methods k (out-Page p).format ≡ Some format
+pub all_gone : (methods : List Method) {k : ℕ} {p : Page} {f : Filling} (format : Format) (ctx : Entries) (old new : Progress) (path : Path) (n : ℕ) → format_at methods k (out-Page p).format ≡ Some format
     → length (out-Page p).fields ≡ length format.fields → length format.fields ≤ n → Shows methods k p f
-    → GoesTo paths old new (flat_map (entries_at path) (drop n (fields_of f))) (entries_below f path) → GoesOn paths old new (entries_below f path)
-all_gone methods {k} {p} {f} format paths old new path n at count le shown goes =
+    → GoesTo ctx old new (flat_map (entries_at path) (drop n (fields_of f))) (entries_below f path) → GoesOn ctx old new (entries_below f path)
+all_gone methods {k} {p} {f} format ctx old new path n at count le shown goes =
     let many : length (fields_of f) ≡ length (out-Page p).fields =
     sym (length-map (fields_of f) sides_of) ∙ ap length (level_shown methods format at shown) ∙ level_length format.fields (out-Page p).fields count in
-    ends paths old new (entries_below f path) (subst (λ z. GoesTo paths old new (flat_map (entries_at path) z) (entries_below f path)) (drop_end (fields_of f) n (omega (arith, many, count, le))) goes)
+    ends ctx old new (entries_below f path) (subst (λ z. GoesTo ctx old new (flat_map (entries_at path) z) (entries_below f path)) (drop_end (fields_of f) n (omega (arith, many, count, le))) goes)

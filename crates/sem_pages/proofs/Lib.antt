@@ -9,3 +9,5 @@ pub mod Leaving
 pub mod Growing
 mod Preparing
 mod Standing
+mod Chaining
+pub mod Settled

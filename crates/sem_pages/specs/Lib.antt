@@ -1,3 +1,5 @@
 pub mod Pages
 pub mod Made
 pub mod Prepared
+pub mod Progress
+pub mod Chains

@@ -1,16 +1,16 @@
 //! What the filling of a page leaves in the context, and its asked values.
 
-ghost use Rattle.std.specs.Prelude.{◌≡◌, ◌<◌, ◌++◌, ◌∷◌, [], false, length, slice_get, IfOk, IfSome, IsTrue, OnOk, OnErr, Some, unwrap_or};
+ghost use Rattle.std.specs.Prelude.{◌≡◌, ◌<◌, ◌++◌, ◌∷◌, [], false, suc, length, slice_get, IfOk, IfSome, IsTrue, OnOk, OnErr, Some, unwrap_or};
 ghost use Rattle.std.specs.Option.{option_copied};
 ghost use Rattle.sem_filling.specs.Fits.{format_at};
-ghost use Rattle.std.specs.Map.{keys_of};
-ghost use Rattle.sem_context.specs.Entries.{IsFront};
+ghost use Rattle.sem_context.specs.Entries.{Entries};
 ghost use Rattle.sem_filling.specs.declared.filling.Filling as filling;
 ghost use Rattle.sem_filling.specs.declared.filling.FilledField as filled;
-ghost use Rattle.sem_filling.specs.Entries.{below, own_entry, entries, entries_below, next, GoesOn};
+ghost use Rattle.sem_filling.specs.Entries.{Path, below, own_entry, entries_below, next};
 ghost use Rattle.sem_filling.specs.Fillings as fillings;
 ghost use Rattle.sem_filling.specs.FillingLaws.{entries_at};
 ghost use Rattle.sem_pages.specs.Pages as spec;
+ghost use Rattle.sem_pages.specs.Progress.{GoesOn, changed};
 
 use crate::page::{Page, Shown};
 use crate::word::Word;
@@ -22,8 +22,8 @@ use sem_profile::{Encoding, Field, Format, Method, Part};
 use sqlite_items::Items;
 use std::alloc::{AllocError, Global};
 
-/// For how many bits of entries room is made at once, at most: a context may have many more entries than a page.
-const MANY: usize = 128;
+/// For how many changes of a context room is made at once.
+const FEW: usize = 8;
 
 /// The names of the asked fields of the page's format of the method with their uncompressed sides, in field order. None where the format isn't there.
 pub fn asked_values(
@@ -124,6 +124,14 @@ fn add_asked(
     Ok(())
 }
 
+/// How far a context has gone on: so many of its entries are passed, and these changes, each the place of an entry and the bits that come there, are to be made.
+/// What stays as it is needs none.
+#[derive(Drop)]
+struct Progress {
+    passed: usize,
+    changes: Vec<(usize, Bits)>,
+}
+
 /// The bits, none where they aren't read.
 #[inline(always)]
 fn bits_of(alloc: Global, word: &Option<Word>) -> Result<Bits, AllocError>
@@ -148,47 +156,55 @@ pub fn advance(
     ensures stays { IfOk result (λ is. is ≡ false → context.new ≡ context.old) }
     ensures err { OnErr result (context.new ≡ context.old) }
 {
-    let room = context.take_room();
-    let Some(values) = values_in_order(alloc, room, context, methods, method, page)? else {
+    let Some(changes) = changes_in_order(alloc, context, methods, method, page)? else {
         return Ok(false);
     };
-    context.put_in_order(values);
+    put_changes(context, changes);
     Ok(true)
 }
 
-/// The bits of the entries that the filling of the page leaves, where the first entries of the context have their paths, in their order. They stand in the room,
-/// which is an empty list.
-fn values_in_order(
+/// Makes the changes, one after the other. It takes no memory.
+fn put_changes(context: &mut Context, changes: Vec<(usize, Bits)>)
+    ensures { context.new ≡ changed context.old changes.items }
+{
+    for (place, bits) in changes {
+        context.set_bits(place, bits);
+    }
+}
+
+/// What the filling of the page changes in the context, where the first entries of the context have the paths of its entries, in their order.
+fn changes_in_order(
     alloc: Global,
-    room: Vec<Bits>,
     context: &Context,
     methods: &[Method],
     method: usize,
     page: &Page,
-) -> Result<Option<Vec<Bits>>, AllocError>
-    requires { room.items ≡ [] }
-    ensures { IfOk result (λ o. IfSome o (λ values. (f : filling.Filling) → spec.Shows methods.now method page.now f → IsFront (keys_of context.now) values.items (entries f))) }
+) -> Result<Option<Vec<(usize, Bits)>>, AllocError>
+    ensures { IfOk result (λ o. IfSome o (λ changes. (f : filling.Filling) → spec.Shows methods.now method page.now f → changed context.now changes.items ≡ next context.now f)) }
 {
-    let mut values = room;
-    values.reserve(context.len().min(MANY))?;
-    if !add_page(page, alloc, &mut values, context, methods, method, "")? {
+    let mut progress = Progress {
+        passed: 0,
+        changes: Vec::with_capacity(alloc, context.len().min(FEW))?,
+    };
+    if !add_page(page, alloc, &mut progress, context, methods, method, "")? {
         return Ok(None);
     }
-    Ok(Some(values))
+    let Progress { changes, .. } = progress;
+    Ok(Some(changes))
 }
 
-/// Adds the bits of the entries of the page below a path, where those of the context that come next have their paths. Whether they have.
+/// Adds the changes by the entries of the page below a path, where those of the context that come next have their paths. Whether they have.
 #[cycle(entries)]
 fn add_page(
     page: &Page,
     alloc: Global,
-    values: &mut Vec<Bits>,
+    progress: &mut Progress,
     context: &Context,
     methods: &[Method],
     method: usize,
     path: &str,
 ) -> Result<bool, AllocError>
-    ensures { IfOk result (λ is. IsTrue is → (f : filling.Filling) → spec.Shows methods.now method page.now f → GoesOn (keys_of context.now) values.old.items values.new.items (entries_below f path.now)) }
+    ensures { IfOk result (λ is. IsTrue is → (f : filling.Filling) → spec.Shows methods.now method page.now f → GoesOn context.now progress.old progress.new (entries_below f path.now)) }
 {
     let Some(format) = format_of(methods, method, page.format) else {
         return Ok(false);
@@ -199,7 +215,9 @@ fn add_page(
         return Ok(false);
     }
     for i in 0..fields.len() {
-        if !add_field(&shown[i], alloc, values, context, methods, path, &fields[i])? {
+        if !add_field(
+            &shown[i], alloc, progress, context, methods, path, &fields[i],
+        )? {
             return Ok(false);
         }
     }
@@ -211,20 +229,20 @@ fn add_page(
 fn add_field(
     shown: &Shown,
     alloc: Global,
-    values: &mut Vec<Bits>,
+    progress: &mut Progress,
     context: &Context,
     methods: &[Method],
     path: &str,
     field: &Field,
 ) -> Result<bool, AllocError>
-    ensures { IfOk result (λ is. IsTrue is → (g : filled.FilledField) → spec.StandsFor methods.now field.now shown.now g → GoesOn (keys_of context.now) values.old.items values.new.items (entries_at path.now g)) }
+    ensures { IfOk result (λ is. IsTrue is → (g : filled.FilledField) → spec.StandsFor methods.now field.now shown.now g → GoesOn context.now progress.old progress.new (entries_at path.now g)) }
 {
     let name = field.declared.name.as_str();
     let part = field.declared.part;
     let Some(inner) = &shown.inner else {
         return add_plain(
             alloc,
-            values,
+            progress,
             context,
             part,
             path,
@@ -237,7 +255,7 @@ fn add_field(
     };
     let Some(here) = add_next(
         alloc,
-        values,
+        progress,
         context,
         part,
         path,
@@ -247,53 +265,90 @@ fn add_field(
     else {
         return Ok(false);
     };
-    add_page(inner, alloc, values, context, methods, *method, here)
+    add_page(inner, alloc, progress, context, methods, *method, here)
 }
 
-/// Adds the bits of the entry, if there is one, that a field of that part and name leaves below a path. Whether the path that comes next is its path.
+/// Adds the change by the entry, if there is one, that a field of that part and name leaves below a path. Whether the path that comes next is its path.
 #[inline(always)]
 fn add_plain(
     alloc: Global,
-    values: &mut Vec<Bits>,
+    progress: &mut Progress,
     context: &Context,
     part: Part,
     path: &str,
     name: &str,
     bits: &Option<Word>,
 ) -> Result<bool, AllocError>
-    ensures { IfOk result (λ is. IsTrue is → GoesOn (keys_of context.now) values.old.items values.new.items (own_entry part (below path.now name.now) (unwrap_or bits.now []))) }
+    ensures { IfOk result (λ is. IsTrue is → GoesOn context.now progress.old progress.new (own_entry part (below path.now name.now) (unwrap_or bits.now []))) }
 {
     if let Part::Local = part {
         return Ok(true);
     }
-    match add_next(alloc, values, context, part, path, name, bits)? {
+    match add_next(alloc, progress, context, part, path, name, bits)? {
         Some(_) => Ok(true),
         None => Ok(false),
     }
 }
 
-/// Adds the bits of the entry that a field of that part and name leaves below a path, where the context's entry that comes next has this path, which is given.
+/// Adds the change by the entry that a field of that part and name leaves below a path, where the context's entry that comes next has this path, which is given. It
+/// is none where these bits are there.
 #[inline(always)]
 fn add_next<'a>(
     alloc: Global,
-    values: &mut Vec<Bits>,
+    progress: &mut Progress,
     context: &'a Context,
     part: Part,
     path: &str,
     name: &str,
     bits: &Option<Word>,
 ) -> Result<Option<&'a str>, AllocError>
-    ensures { IfOk result (λ o. IfSome o (λ here. (here.now ≡ below path.now name.now) × GoesOn (keys_of context.now) values.old.items values.new.items (own_entry part here.now (unwrap_or bits.now [])))) }
+    ensures { IfOk result (λ o. IfSome o (λ here. (here.now ≡ below path.now name.now) × GoesOn context.now progress.old progress.new (own_entry part here.now (unwrap_or bits.now [])))) }
 {
     if let Part::Local = part {
         return Ok(None);
     }
-    let Some(here) = context.path_at(values.len()) else {
+    let Some((here, kept)) = context.entry_at(progress.passed) else {
         return Ok(None);
     };
     if !is_below(here, path, name) {
         return Ok(None);
     }
-    values.push(bits_of(alloc, bits)?)?;
+    let Some(next) = progress.passed.checked_add(1) else {
+        return Ok(None);
+    };
+    pass(alloc, progress, next, kept, bits)?;
     Ok(Some(here))
+}
+
+/// Passes the entry that comes next, which has the one bits and is to have the others: so many are passed then.
+#[inline(always)]
+fn pass(
+    alloc: Global,
+    progress: &mut Progress,
+    next: usize,
+    kept: &Bits,
+    bits: &Option<Word>,
+) -> Result<(), AllocError>
+    requires { next ≡ suc progress.old.passed }
+    ensures { OnOk result ((ctx : Entries) (here : Path) → slice_get ctx progress.old.passed ≡ Some (here, kept.now) → GoesOn ctx progress.old progress.new ((here, unwrap_or bits.now []) ∷ [])) }
+{
+    if are_bits(bits, kept) {
+        progress.passed = next;
+        return Ok(());
+    }
+    let place = progress.passed;
+    progress.changes.push((place, bits_of(alloc, bits)?))?;
+    progress.passed = next;
+    Ok(())
+}
+
+/// Whether the bits, none where they aren't read, are these.
+#[inline(always)]
+fn are_bits(word: &Option<Word>, bits: &Bits) -> bool
+    ensures { IsTrue result → bits.now ≡ unwrap_or word.now [] }
+{
+    match word {
+        Some(word) => word.is_all_of(bits),
+        None => bits.is_empty(),
+    }
 }

@@ -12,11 +12,12 @@ pub use entries::{advance, asked_values, has_asked};
 pub use expressions::{add_values, is_number, value};
 pub use frame::PageFrame;
 pub use page::{BothSides, Page, Shown};
-pub use prepared::{LengthTest, Prepared, have_lengths};
+pub use prepared::{Computed, LengthTest, Prepared, have_lengths};
 pub use sides::{are_unsent, header_of, is_header, packed_of};
 pub use view::View;
 pub use word::Word;
 
+mod chains;
 mod coding;
 mod constraints;
 mod entries;

@@ -1,17 +1,20 @@
 //! What a format alone tells of each of its levels: so it is found once, and not for each packet.
 
-ghost use Rattle.std.specs.Prelude.{◌≡◌, ◌+◌, ℕ, List, IfOk, IfSome, IsTrue, OnOk, Some, slice_get};
+ghost use Rattle.std.specs.Prelude.{◌≡◌, ◌+◌, ℕ, pos, List, IfOk, IfSome, IsTrue, OnOk, Some, length, slice_get};
 ghost use Rattle.sem_profile.specs.declared.profile.Constraint.{Constraint};
 ghost use Rattle.sem_pages.specs.declared.prepared.LengthTest.{LengthTest};
+ghost use Rattle.sem_profile.specs.declared.profile.Field as normal;
+ghost use Rattle.sem_pages.specs.Made.{AreMade};
 ghost use Rattle.sem_pages.specs.Prepared as spec;
 
+use crate::chains::{Chain, Operand, operand_of, value_by};
 use crate::page::BothSides;
 use crate::view::View;
 use crate::word::Word;
 use sem_expr::short::short;
 use sem_expr::{Expr, Side};
 use sem_profile::{Constraint, Encoding, Field, Format, Library};
-use sqlite_items::Items;
+use sqlite_items::{Items, at};
 use std::alloc::{AllocError, Global};
 
 /// A test of a bracket with one number: the side of the field has so many bits.
@@ -22,12 +25,38 @@ pub struct LengthTest {
     pub count: usize,
 }
 
-/// What a format tells of its levels: both sides of the fields that are constants, in field order; the tests of its brackets with one number; and its other
-/// constraints, by their indices.
+/// A field that is worked out: it has no packed bits, and its uncompressed side is so many bits, which spell the value of the operand among the chains.
+#[derive(Drop)]
+pub struct Computed {
+    pub(crate) count: usize,
+    pub(crate) value: Operand,
+    pub(crate) chains: Items<Chain>,
+}
+
+impl Computed {
+    /// Both sides by what is seen, where the value is found and the bits can spell it.
+    #[inline(always)]
+    pub fn sides(&self, view: &View<'_>) -> Option<BothSides>
+        ensures { (d : normal.Field) → spec.IsComputed d self.now → IfSome result (λ b. spec.IsReadOn view.now d b.uncompressed b.compressed) }
+    {
+        let value = value_by(self.chains.as_slice(), self.value, view)?;
+        let number = u64::try_from(value).ok()?;
+        let uncompressed = Word::spelled(self.count, number)?;
+        Some(BothSides {
+            uncompressed,
+            compressed: Word::new(),
+        })
+    }
+}
+
+/// What a format tells of its levels: both sides of the fields that are constants, and how others are worked out, each in field order; the tests of its brackets with
+/// one number; and its other constraints, by their indices.
 #[derive(Drop)]
 pub struct Prepared {
     pub constants: Items<Option<BothSides>>,
+    pub computed: Items<Option<Computed>>,
     pub lengths: Items<LengthTest>,
+    pub settled: Items<LengthTest>,
     pub others: Items<usize>,
 }
 
@@ -37,18 +66,38 @@ impl Prepared {
         ensures { IfOk result (spec.IsPrepared format.now) }
     {
         let constants = constants_of(alloc, format.fields.as_slice())?;
-        let mut lengths = Items::new(alloc);
-        let mut others = Items::new(alloc);
+        let computed = all_computed(alloc, format.fields.as_slice())?;
+        let mut tests = Tests {
+            lengths: Items::new(alloc),
+            settled: Items::new(alloc),
+            others: Items::new(alloc),
+        };
+        let fields = format.fields.as_slice();
         let constraints = format.constraints.as_slice();
         for j in 0..constraints.len() {
-            cover(j, constraints[j].get(), &mut lengths, &mut others)?;
+            cover(j, constraints[j].get(), fields, &mut tests)?;
         }
+        let Tests {
+            lengths,
+            settled,
+            others,
+        } = tests;
         Ok(Prepared {
             constants,
+            computed,
             lengths,
+            settled,
             others,
         })
     }
+}
+
+/// How constraints are tested: by a length, by nothing, since the encoding of the field settles it, or by its value.
+#[derive(Drop)]
+struct Tests {
+    lengths: Items<LengthTest>,
+    settled: Items<LengthTest>,
+    others: Items<usize>,
 }
 
 /// Both sides of each field that is a constant.
@@ -89,6 +138,65 @@ fn constant_by(library: &Library) -> Option<BothSides>
     }
 }
 
+/// How each field is worked out, if it is.
+fn all_computed(alloc: Global, fields: &[Field]) -> Result<Items<Option<Computed>>, AllocError>
+    ensures { IfOk result (λ all. AreMade spec.HasComputed fields.now all (length fields.now)) }
+{
+    let mut all = Items::new(alloc);
+    for field in fields {
+        all.push(computed_of(alloc, field)?)?;
+    }
+    Ok(all)
+}
+
+/// How a field is worked out: by `uncompressed_value` with a number of bits and an expression, which isn't a number.
+fn computed_of(alloc: Global, field: &Field) -> Result<Option<Computed>, AllocError>
+    ensures { IfOk result (λ o. IfSome o (spec.IsComputed field.now)) }
+{
+    match field.encoding.get() {
+        Encoding::Library(library) => computed_by(alloc, library),
+        Encoding::Bare | Encoding::Call { .. } => Ok(None),
+    }
+}
+
+/// The same by its library method.
+fn computed_by(alloc: Global, library: &Library) -> Result<Option<Computed>, AllocError>
+    ensures { IfOk result (λ o. IfSome o (spec.IsComputedBy library.now)) }
+{
+    match library {
+        Library::UncompressedValue { length, value } => worked_out(alloc, length, value),
+        _ => Ok(None),
+    }
+}
+
+/// The same of the two expressions.
+fn worked_out(alloc: Global, length: &Expr, value: &Expr) -> Result<Option<Computed>, AllocError>
+    ensures { IfOk result (λ o. IfSome o (spec.IsWorkedOut length.now value.now)) }
+{
+    let Some(count) = bits_in(length) else {
+        return Ok(None);
+    };
+    if number_of(value).is_some() {
+        return Ok(None);
+    }
+    let mut chains = Items::new(alloc);
+    let Some(value) = operand_of(alloc, value, &mut chains)? else {
+        return Ok(None);
+    };
+    Ok(Some(Computed {
+        count,
+        value,
+        chains,
+    }))
+}
+
+/// The count of bits that the expression is, where it is one.
+fn bits_in(length: &Expr) -> Option<usize>
+    ensures { IfSome result (λ n. spec.IsNumber length.now (pos n)) }
+{
+    usize::try_from(number_of(length)?).ok()
+}
+
 /// The bits that are as many as the one number says, at most 64, and spell the other.
 fn spelled(length: &Expr, value: &Expr) -> Option<Word>
     ensures { IfSome result (λ w. spec.IsSpelled length.now value.now w) }
@@ -112,20 +220,76 @@ fn number_of(expr: &Expr) -> Option<i64>
 fn cover(
     j: usize,
     constraint: &Constraint,
-    lengths: &mut Items<LengthTest>,
-    others: &mut Items<usize>,
+    fields: &[Field],
+    tests: &mut Tests,
 ) -> Result<(), AllocError>
-    ensures { OnOk result ((all : List Constraint) → slice_get all j ≡ Some constraint.now → spec.AreCovered all lengths.old others.old j → spec.AreCovered all lengths.new others.new (j + 1)) }
+    ensures { OnOk result ((all : List Constraint) → slice_get all j ≡ Some constraint.now → spec.AreCovered fields.now all tests.old.lengths tests.old.others j → spec.AreCovered fields.now all tests.new.lengths tests.new.others (j + 1)) }
 {
     match test_of(constraint) {
         Some(test) => {
-            lengths.push(test)?;
+            if is_settled(fields, &test) {
+                tests.settled.push(test)?;
+                return Ok(());
+            }
+            tests.lengths.push(test)?;
             Ok(())
         }
         None => {
-            others.push(j)?;
+            tests.others.push(j)?;
             Ok(())
         }
+    }
+}
+
+/// Whether the encoding of the field settles the test: each side that it gives has so many bits.
+fn is_settled(fields: &[Field], test: &LengthTest) -> bool
+    ensures { IsTrue result → spec.IsSettled fields.now test.now }
+{
+    match at(fields, test.field) {
+        Some(field) => has_count(field, test.side, test.count),
+        None => false,
+    }
+}
+
+/// Whether the side of the field has so many bits by its encoding.
+fn has_count(field: &Field, side: Side, count: usize) -> bool
+    ensures { IsTrue result → spec.HasCount field.now side count }
+{
+    match field.encoding.get() {
+        Encoding::Library(library) => has_count_by(library, side, count),
+        Encoding::Bare | Encoding::Call { .. } => false,
+    }
+}
+
+/// The same by its library method.
+fn has_count_by(library: &Library, side: Side, count: usize) -> bool
+    ensures { IsTrue result → spec.HasCountBy library.now side count }
+{
+    match library {
+        Library::UncompressedValue { length, .. } => match side {
+            Side::Uncompressed => is_count(length, count),
+            Side::Compressed => count == 0,
+        },
+        Library::CompressedValue { length, .. } => match side {
+            Side::Uncompressed => count == 0,
+            Side::Compressed => is_count(length, count),
+        },
+        Library::Irregular { length } => is_count(length, count),
+        Library::Static => match side {
+            Side::Uncompressed => false,
+            Side::Compressed => count == 0,
+        },
+        Library::Lsb { .. } | Library::Crc(_) => false,
+    }
+}
+
+/// Whether the expression is this count, whatever is known.
+fn is_count(expr: &Expr, count: usize) -> bool
+    ensures { IsTrue result → spec.IsNumber expr.now (pos count) }
+{
+    match bits_in(expr) {
+        Some(bits) => bits == count,
+        None => false,
     }
 }
 

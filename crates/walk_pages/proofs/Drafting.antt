@@ -1,7 +1,7 @@
 -- A level that goes on.
 use Rattle.std.proofs.Common.{◌≡◌, ◌∙◌, refl, sym, ap, subst, ℕ, zero, suc, ◌<◌, length, Bool, true, List, [], ◌∷◌, ◌++◌, arith}
 use Rattle.std.proofs.lemmas.Option.{slice_get_within}
-use Rattle.std.specs.Prelude.{slice_get, slice_set, Option, Some, None, ℤ, pos}
+use Rattle.std.specs.Prelude.{slice_get, slice_set, Option, Some, None, ℤ, pos, IfSome}
 use Rattle.sem_bits.specs.Number.{num}
 use Rattle.sem_context.specs.Entries.{bits_at}
 use Rattle.sem_expr.specs.declared.expr.Attribute.{Attribute}
@@ -26,7 +26,7 @@ use Rattle.cert_rules.proofs.RulesConstraints.{attribute_value, first_cases, num
 use Rattle.sem_pages.specs.declared.frame.PageFrame.{PageFrame}
 use Rattle.sem_pages.specs.declared.page.Page.{Page}
 use Rattle.sem_pages.specs.declared.page.Shown.{Shown, out-Shown, roll-Shown, out-roll-Shown}
-use Rattle.sem_pages.specs.Pages.{AreRead, Bears, FitsOn, HoldsOn, IsPlain, IsWhole, Keeps, Seen, numbers_in, numbers_seen, seen_in, seen_side, shown_side, side_in}
+use Rattle.sem_pages.specs.Pages.{AreRead, Bears, FitsOn, HoldsOn, IsPlain, IsWhole, Keeps, ReadsAs, Seen, numbers_in, numbers_seen, seen_in, seen_side, shown_side, side_in}
 use Rattle.sem_pages.specs.declared.page.BothSides.{BothSides}
 use Rattle.sem_pages.specs.declared.prepared.Prepared.{Prepared}
 use Rattle.sem_pages.specs.Made.{AreMade}
@@ -36,7 +36,7 @@ use Rattle.sem_pages.proofs.Reading.{bears_less, seen_with, set_read}
 use Rattle.sem_pages.proofs.Seeing.{value_on, values_on}
 use Rattle.walk_pages.specs.declared.draft.Draft.{Draft}
 use Rattle.walk_pages.specs.declared.draft.WholePage.{WholePage}
-use Rattle.walk_pages.specs.Drafts.{BeginsWith, GoesOn, HasValue, IsCalled, IsPut, IsRight, IsSolved, blank, seen_of}
+use Rattle.walk_pages.specs.Drafts.{BeginsWith, GoesOn, HasValue, IsCalled, IsPut, IsReadIn, IsSolved, blank, seen_of}
 
 -- ---- the start
 
@@ -76,6 +76,9 @@ moved : (methods : List Method) (ctx : Context) (path : Path) (f f' : Format) (s
     → AreRead methods ctx path f (seen_in ss args) js → AreRead methods ctx path f' (seen_in ss' args') js'
 moved methods ctx path f f' ss ss' args args' js js' f_is ss_are args_are js_are read = rw (f_is, ss_are, args_are, js_are) read
 
+prepared_moved : (f f' : Format) (p p' : Prepared) → f' ≡ f → p' ≡ p → IsPrepared f p → IsPrepared f' p'
+prepared_moved f f' p p' f_is p_is prepared = rw (f_is, p_is) prepared
+
 pub goes_trans : (frame : PageFrame) (old mid new : Draft) → GoesOn frame old mid → GoesOn frame mid new → GoesOn frame old new
 goes_trans frame old mid new one other = record {
   right = λ r. other.right (one.right r);
@@ -85,8 +88,11 @@ goes_trans frame old mid new one other = record {
 -- where no field is read or solved
 pub ahead_goes : (frame : PageFrame) (old new : Draft) → new.format.now ≡ old.format.now → new.arguments.now ≡ old.arguments.now → new.fields.items ≡ old.fields.items → new.solved.items ≡ old.solved.items → new.told.prepared.now ≡ old.told.prepared.now → GoesOn frame old new
 ahead_goes frame old new format_is arguments_are fields_are solved_are prepared_is = record {
-  right = λ r. moved frame.methods.now (bits_at frame.context.now) frame.path.now old.format.now new.format.now old.fields.items new.fields.items old.arguments.now new.arguments.now old.solved.items new.solved.items
-      format_is fields_are arguments_are solved_are r;
+  right = λ r. record {
+    read = moved frame.methods.now (bits_at frame.context.now) frame.path.now old.format.now new.format.now old.fields.items new.fields.items old.arguments.now new.arguments.now old.solved.items new.solved.items
+        format_is fields_are arguments_are solved_are r.read;
+    prepared = prepared_moved old.format.now new.format.now old.told.prepared.now new.told.prepared.now format_is prepared_is r.prepared;
+  };
   same = record { format_is = format_is; arguments_are = arguments_are; prepared_is = prepared_is };
 }
 
@@ -95,29 +101,39 @@ nothing_keeps s t up down Uncompressed b at = let wrong : None ≡ Some b = sym 
 nothing_keeps s t up down Compressed b at = let wrong : None ≡ Some b = sym down ∙ at in absurd cc
 
 pub put_goes : (frame : PageFrame) (i : ℕ) (t : Shown) (old new : Draft) → IsPut i t old new
-    → ((d : Field) (u c : List Bool) → slice_get old.format.now.fields i ≡ Some d → IsWhole t u c → FitsOn frame.methods.now (bits_at frame.context.now) frame.path.now (seen_of old) d t) → GoesOn frame old new
+    → (IsPrepared old.format.now old.told.prepared.now → (d : Field) (u c : List Bool) → slice_get old.format.now.fields i ≡ Some d → IsWhole t u c → FitsOn frame.methods.now (bits_at frame.context.now) frame.path.now (seen_of old) d t) → GoesOn frame old new
 put_goes frame i t old new put fits = record {
-  right = λ r.
-      moved frame.methods.now (bits_at frame.context.now) frame.path.now old.format.now new.format.now (slice_set old.fields.items i t) new.fields.items old.arguments.now new.arguments.now old.solved.items new.solved.items
-      put.same.format_is put.fields_are put.same.arguments_are put.solved_are
-      (set_read (seen_of old) i put.before t put.before_is (nothing_keeps put.before t put.not_up put.not_down) frame.methods.now (bits_at frame.context.now) frame.path.now old.format.now old.solved.items fits r);
+  right = λ r. record {
+    read = moved frame.methods.now (bits_at frame.context.now) frame.path.now old.format.now new.format.now (slice_set old.fields.items i t) new.fields.items old.arguments.now new.arguments.now old.solved.items new.solved.items
+        put.same.format_is put.fields_are put.same.arguments_are put.solved_are
+        (set_read (seen_of old) i put.before t put.before_is (nothing_keeps put.before t put.not_up put.not_down) frame.methods.now (bits_at frame.context.now) frame.path.now old.format.now old.solved.items (fits r.prepared) r.read);
+    prepared = prepared_moved old.format.now new.format.now old.told.prepared.now new.told.prepared.now put.same.format_is put.same.prepared_is r.prepared;
+  };
   same = put.same;
 }
 
 -- a field whose uncompressed side isn't there is not read
 pub put_half : (frame : PageFrame) (i : ℕ) (t : Shown) (old new : Draft) → (out-Shown t).uncompressed ≡ None → IsPut i t old new → GoesOn frame old new
-put_half frame i t old new up put = put_goes frame i t old new put (λ d u c here whole. let wrong : None ≡ Some u = sym up ∙ whole.uncompressed_is in absurd cc)
+put_half frame i t old new up put = put_goes frame i t old new put (λ prepared d u c here whole. let wrong : None ≡ Some u = sym up ∙ whole.uncompressed_is in absurd cc)
 
 pub put_plain : (frame : PageFrame) (i : ℕ) (t : Shown) (u c : List Bool) (field : Field) (old new : Draft) → IsPut i t old new → IsPlain t u c → slice_get old.format.now.fields i ≡ Some field
-    → ((s : Shown) → IsPlain s u c → FitsOn frame.methods.now (bits_at frame.context.now) frame.path.now (seen_of old) field s) → GoesOn frame old new
+    → (IsPrepared old.format.now old.told.prepared.now → (s : Shown) → IsPlain s u c → FitsOn frame.methods.now (bits_at frame.context.now) frame.path.now (seen_of old) field s) → GoesOn frame old new
 put_plain frame i t u c field old new put plain here reads = put_goes frame i t old new put
-    (λ d x y at whole. let one : Some field ≡ Some d = sym here ∙ at in let same : field ≡ d = cc in subst (λ z. FitsOn frame.methods.now (bits_at frame.context.now) frame.path.now (seen_of old) z t) same (reads t plain))
+    (λ prepared d x y at whole.
+    let one : Some field ≡ Some d = sym here ∙ at in let same : field ≡ d = cc in subst (λ z. FitsOn frame.methods.now (bits_at frame.context.now) frame.path.now (seen_of old) z t) same (reads prepared t plain))
+
+-- both sides that what is prepared gives
+pub told_in : (frame : PageFrame) (d : Draft) (i : ℕ) (field : Field) (o : Option BothSides)
+    → (IsPrepared d.format.now d.told.prepared.now → slice_get d.format.now.fields i ≡ Some field → IfSome o (λ b. ReadsAs frame.methods.now (bits_at frame.context.now) frame.path.now (seen_of d) field b.uncompressed b.compressed))
+    → IfSome o (IsReadIn frame d i field)
+told_in frame d i field (Some b) told = told
+told_in frame d i field None told = tt
 
 -- a field that calls a method
 pub put_called : (frame : PageFrame) (i : ℕ) (w : WholePage) (t : Shown) (u c : List Bool) (old new : Draft) → IsPut i t old new → (out-Shown t).uncompressed ≡ Some u → (out-Shown t).compressed ≡ Some c → (out-Shown t).inner ≡ Some w.page
     → u ≡ w.whole.header → c ≡ w.whole.packed → IsCalled frame old i w → GoesOn frame old new
 put_called frame i w t u c old new put up down inner u_is c_is called = put_goes frame i t old new put
-    (λ d x y at whole.
+    (λ prepared d x y at whole.
     let one : Some called.field ≡ Some d = sym called.field_is ∙ at in
     let same : called.field ≡ d = cc in
     subst (λ z. FitsOn frame.methods.now (bits_at frame.context.now) frame.path.now (seen_of old) z t) same
@@ -149,9 +165,11 @@ pub solved_goes : (frame : PageFrame) (i j : ℕ) (e : Expr) (bits : List Bool) 
     → new.format.now ≡ mid.format.now → new.arguments.now ≡ mid.arguments.now → new.fields.items ≡ mid.fields.items → new.solved.items ≡ mid.solved.items ++ j ∷ [] → new.told.prepared.now ≡ mid.told.prepared.now → IsSolved frame i j e old new
 solved_goes frame i j e bits n old mid new one has spelled value format_is arguments_are fields_are solved_are prepared_is constraint there given =
     record {
-      right = λ r.
-          moved frame.methods.now (bits_at frame.context.now) frame.path.now mid.format.now new.format.now mid.fields.items new.fields.items mid.arguments.now new.arguments.now (mid.solved.items ++ j ∷ []) new.solved.items
-          format_is fields_are arguments_are solved_are (with_one (one.right r));
+      right = λ r. record {
+        read = moved frame.methods.now (bits_at frame.context.now) frame.path.now mid.format.now new.format.now mid.fields.items new.fields.items mid.arguments.now new.arguments.now (mid.solved.items ++ j ∷ []) new.solved.items
+            format_is fields_are arguments_are solved_are (with_one (one.right r).read);
+        prepared = prepared_moved mid.format.now new.format.now mid.told.prepared.now new.told.prepared.now format_is prepared_is (one.right r).prepared;
+      };
       same = record { format_is = format_is ∙ one.same.format_is; arguments_are = arguments_are ∙ one.same.arguments_are; prepared_is = prepared_is ∙ one.same.prepared_is };
     }
   where
@@ -181,7 +199,7 @@ solved_goes frame i j e bits n old mid new one has spelled value format_is argum
         equated_holds (side_in l) (numbers_in l) (attribute_of i Uncompressed measure.Value) constraint e (pos n) given (value_on l v before e (pos n) value)
         (ap (λ (b : List Bool). Some (pos (num b))) bits_are ∙ ap (λ k. Some (pos k)) spelled)
 
-    with_one : IsRight frame mid → AreRead frame.methods.now (bits_at frame.context.now) frame.path.now mid.format.now (seen_of mid) (mid.solved.items ++ j ∷ [])
+    with_one : AreRead frame.methods.now (bits_at frame.context.now) frame.path.now mid.format.now (seen_of mid) mid.solved.items → AreRead frame.methods.now (bits_at frame.context.now) frame.path.now mid.format.now (seen_of mid) (mid.solved.items ++ j ∷ [])
     with_one r = record {
       count = r.count;
       fields = r.fields;

@@ -25,8 +25,9 @@ use Rattle.sem_pages.proofs.Pages.{page_read}
 use Rattle.sem_pages.proofs.Reading.{set_read}
 use Rattle.walk_pages.specs.declared.draft.Draft.{Draft}
 use Rattle.sem_pages.specs.declared.prepared.LengthTest.{LengthTest}
-use Rattle.sem_pages.specs.Prepared.{AreCovered, IsCovered, Passes, by_test, by_value}
-use Rattle.walk_pages.specs.Drafts.{AreEnded, AreSettled, IsRight, IsSettled, IsSummed, seen_with_header}
+use Rattle.sem_pages.specs.Prepared.{AreCovered, IsCovered, Passes, by_encoding, by_test, by_value}
+use Rattle.sem_pages.proofs.Settled.{encoded_hold}
+use Rattle.walk_pages.specs.Drafts.{AreEncoded, AreEnded, AreSettled, IsRight, IsSettled, IsSummed, seen_with_header}
 
 -- ---- checksums
 
@@ -112,8 +113,7 @@ pub page_ended : (frame : PageFrame) (d : Draft) (index : ℕ) (p : Page) (w : W
     → (out-Page p).format ≡ index → (out-Page p).fields ≡ ss
     → AreEnded d.format.now d.arguments.now w.header d.fields.items ss → w.header ≡ header_bits (level_by d.format.now.fields d.fields.items) → w.packed ≡ packed_bits d.format.now.listing (level_by d.format.now.fields ss)
     → ((i : ℕ) (s : Shown) → slice_get ss i ≡ Some s → IsUnsent d.format.now.listing i s)
-    → (((n j : ℕ) (c : Constraint) → slice_get d.solved.items n ≡ Some j → slice_get d.format.now.constraints j ≡ Some c → HoldsOn (seen_at_end ss d.arguments.now w) c)
-    → (j : ℕ) (c : Constraint) → slice_get d.format.now.constraints j ≡ Some c → HoldsOn (seen_at_end ss d.arguments.now w) c)
+    → AreSettled (seen_at_end ss d.arguments.now w) d.format.now d.solved.items
     → IsPageOf frame.methods.now (bits_at frame.context.now) frame.method frame.arguments.now frame.path.now p w.header w.packed
 page_ended frame d index p w ss right at args_are index_is fields_are ended header_is packed_is unsent constraints =
     let methods = frame.methods.now in
@@ -121,33 +121,36 @@ page_ended frame d index p w ss right at args_are index_is fields_are ended head
     let path = frame.path.now in
     let args = d.arguments.now in
     let format = d.format.now in
-    let begun = more_read methods ctx path format (seen_in d.fields.items args) (seen_with_header d.fields.items args w.header) d.solved.items refl (header_less d.fields.items args w.header) right in
+    let begun = more_read methods ctx path format (seen_in d.fields.items args) (seen_with_header d.fields.items args w.header) d.solved.items refl (header_less d.fields.items args w.header) right.read in
     let read = more_read methods ctx path format (seen_with_header ss args w.header) (seen_at_end ss args w) d.solved.items refl (end_less ss args w) (ended.read methods ctx path d.solved.items begun) in
+    let encoded = encoded_hold methods ctx path format (seen_at_end ss args w) d.solved.items read (λ i s here. let u = unsent i s here in (u.uncompressed, u.compressed, u.sides_are)) in
     subst (λ xs. IsPageOf methods ctx frame.method xs path p w.header w.packed) args_are
     (page_read methods ctx frame.method args path p format w d.solved.items (ap (format_at methods frame.method) index_is ∙ at)
     (subst (λ zs. AreRead methods ctx path format (seen_at_end zs args w) d.solved.items) (sym fields_are) read)
     (λ i s here. let u = unsent i s (ap (λ zs. slice_get zs i) (sym fields_are) ∙ here) in (u.uncompressed, u.compressed, u.sides_are))
     (λ i s here out. let u = unsent i s (ap (λ zs. slice_get zs i) (sym fields_are) ∙ here) in ap (λ o. unwrap_or o []) u.sides_are.compressed_is ∙ u.unsent out)
-    (λ j c here. subst (λ zs. HoldsOn (seen_at_end zs args w) c) (sym fields_are) (constraints read.constraints j c here))
+    (λ j c here. subst (λ zs. HoldsOn (seen_at_end zs args w) c) (sym fields_are) (constraints encoded read.constraints j c here))
     (header_is ∙ sym ended.header_is ∙ ap (λ zs. header_bits (level_by format.fields zs)) (sym fields_are))
     (packed_is ∙ ap (λ zs. packed_bits format.listing (level_by format.fields zs)) (sym fields_are)))
 
 -- each constraint has a test that is passed, or is settled
-settled_by : (v : Seen) (cs : List Constraint) (tests : List LengthTest) (others solved : List ℕ) → ((m : ℕ) (t : LengthTest) → slice_get tests m ≡ Some t → Passes v t)
-    → ((m j : ℕ) → slice_get others m ≡ Some j → IsSettled v cs solved j) → (j : ℕ) (c : Constraint) → slice_get cs j ≡ Some c → ((n : ℕ) → slice_get solved n ≡ Some j → HoldsOn v c) → IsCovered tests others j c → HoldsOn v c
-settled_by v cs tests others solved passed settled j c here is (by_test m t at test) = test v (passed m t at)
-settled_by v cs tests others solved passed settled j c here is (by_value m at) = settled m j at c here is
+settled_by : (v : Seen) (ds : List Field) (cs : List Constraint) (tests : List LengthTest) (others solved : List ℕ) → ((m : ℕ) (t : LengthTest) → slice_get tests m ≡ Some t → Passes v t) → AreEncoded v ds
+    → ((m j : ℕ) → slice_get others m ≡ Some j → IsSettled v cs solved j) → (j : ℕ) (c : Constraint) → slice_get cs j ≡ Some c → ((n : ℕ) → slice_get solved n ≡ Some j → HoldsOn v c) → IsCovered ds tests others j c → HoldsOn v c
+settled_by v ds cs tests others solved passed encoded settled j c here is (by_test m t at test) = test v (passed m t at)
+settled_by v ds cs tests others solved passed encoded settled j c here is (by_encoding t settles test) = encoded t settles c test
+settled_by v ds cs tests others solved passed encoded settled j c here is (by_value m at) = settled m j at c here is
 
-pub covered_hold : (v : Seen) (cs : List Constraint) (tests : List LengthTest) (others solved : List ℕ) → AreCovered cs tests others (length cs) → ((m : ℕ) (t : LengthTest) → slice_get tests m ≡ Some t → Passes v t)
-    → ((m j : ℕ) → slice_get others m ≡ Some j → IsSettled v cs solved j) → ((n j : ℕ) (c : Constraint) → slice_get solved n ≡ Some j → slice_get cs j ≡ Some c → HoldsOn v c) → (j : ℕ) (c : Constraint) → slice_get cs j ≡ Some c → HoldsOn v c
-covered_hold v cs tests others solved covered passed settled is j c here = settled_by v cs tests others solved passed settled j c here (λ n at. is n j c at here) (covered j c (slice_get_within cs j c here) here)
+pub covered_hold : (v : Seen) (ds : List Field) (cs : List Constraint) (tests : List LengthTest) (others solved : List ℕ) → AreCovered ds cs tests others (length cs) → ((m : ℕ) (t : LengthTest) → slice_get tests m ≡ Some t → Passes v t)
+    → ((m j : ℕ) → slice_get others m ≡ Some j → IsSettled v cs solved j) → AreEncoded v ds → ((n j : ℕ) (c : Constraint) → slice_get solved n ≡ Some j → slice_get cs j ≡ Some c → HoldsOn v c)
+    → (j : ℕ) (c : Constraint) → slice_get cs j ≡ Some c → HoldsOn v c
+covered_hold v ds cs tests others solved covered passed settled encoded is j c here = settled_by v ds cs tests others solved passed encoded settled j c here (λ n at. is n j c at here) (covered j c (slice_get_within cs j c here) here)
 
-pub settled_moved : (v v' : Seen) (cs : List Constraint) (solved solved' : List ℕ) → v ≡ v' → solved ≡ solved' → AreSettled v cs solved → AreSettled v' cs solved'
-settled_moved v v' cs solved solved' v_is solved_are settled = subst (AreSettled v' cs) solved_are (subst (λ z. AreSettled z cs solved) v_is settled)
+pub settled_moved : (v v' : Seen) (format : Format) (solved solved' : List ℕ) → v ≡ v' → solved ≡ solved' → AreSettled v format solved → AreSettled v' format solved'
+settled_moved v v' format solved solved' v_is solved_are settled = subst (AreSettled v' format) solved_are (subst (λ z. AreSettled z format solved) v_is settled)
 
 -- the same by what the code reads
-pub covered_moved : (v v' : Seen) (cs cs' : List Constraint) (tests tests' : List LengthTest) (others others' solved solved' : List ℕ) → v ≡ v' → cs ≡ cs' → tests ≡ tests' → others ≡ others' → solved ≡ solved'
-    → AreCovered cs' tests' others' (length cs') → ((m : ℕ) (t : LengthTest) → slice_get tests m ≡ Some t → Passes v t) → ((m j : ℕ) → slice_get others m ≡ Some j → IsSettled v cs solved j)
-    → ((n j : ℕ) (c : Constraint) → slice_get solved' n ≡ Some j → slice_get cs' j ≡ Some c → HoldsOn v' c) → (j : ℕ) (c : Constraint) → slice_get cs' j ≡ Some c → HoldsOn v' c
-covered_moved v v' cs cs' tests tests' others others' solved solved' v_is cs_are tests_are others_are solved_are covered =
-    rw (sym v_is, sym cs_are, sym solved_are) (covered_hold v cs tests others solved (rw (cs_are, tests_are, others_are) covered))
+pub covered_moved : (v v' : Seen) (ds : List Field) (cs cs' : List Constraint) (tests tests' : List LengthTest) (others others' solved solved' : List ℕ) → v ≡ v' → cs ≡ cs' → tests ≡ tests' → others ≡ others' → solved ≡ solved'
+    → AreCovered ds cs' tests' others' (length cs') → ((m : ℕ) (t : LengthTest) → slice_get tests m ≡ Some t → Passes v t) → ((m j : ℕ) → slice_get others m ≡ Some j → IsSettled v cs solved j)
+    → AreEncoded v' ds → ((n j : ℕ) (c : Constraint) → slice_get solved' n ≡ Some j → slice_get cs' j ≡ Some c → HoldsOn v' c) → (j : ℕ) (c : Constraint) → slice_get cs' j ≡ Some c → HoldsOn v' c
+covered_moved v v' ds cs cs' tests tests' others others' solved solved' v_is cs_are tests_are others_are solved_are covered =
+    rw (sym v_is, sym cs_are, sym solved_are) (covered_hold v ds cs tests others solved (rw (cs_are, tests_are, others_are) covered))

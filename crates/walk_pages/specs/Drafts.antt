@@ -14,6 +14,9 @@ use Rattle.sem_filling.specs.Fits.{Context, vals}
 use Rattle.sem_pages.specs.declared.frame.PageFrame.{PageFrame}
 use Rattle.sem_pages.specs.declared.page.BothSides.{BothSides}
 use Rattle.sem_pages.specs.declared.page.Shown.{Shown, out-Shown, roll-Shown}
+use Rattle.sem_pages.specs.declared.prepared.LengthTest.{LengthTest}
+use Rattle.sem_pages.specs.Prepared.{IsPrepared, IsTest}
+use Rattle.sem_pages.specs.Prepared as prepared
 use Rattle.sem_pages.specs.Pages.{AreRead, HoldsOn, IsPageOf, IsPlain, ReadsAs, Seen, level_by, numbers_seen, seen_in}
 use Rattle.walk_pages.specs.declared.draft.Draft.{Draft}
 use Rattle.walk_pages.specs.declared.draft.PackedPage.{PackedPage}
@@ -32,9 +35,14 @@ BeginsWith (Some b) s = IsPlain s b.uncompressed b.compressed
 abbrev pub seen_of : Draft → Seen
 seen_of d = seen_in d.fields.items d.arguments.now
 
--- each field that is read fits its encoding in the frame, and each constraint that is solved holds
-abbrev pub IsRight : PageFrame → Draft → Type 0
-IsRight frame d = AreRead frame.methods.now (bits_at frame.context.now) frame.path.now d.format.now (seen_of d) d.solved.items
+-- each field that is read fits its encoding in the frame, and each constraint that is solved holds; and what is prepared is of the format
+pub record IsRight (frame : PageFrame) (d : Draft) : Type 0 where
+  pub read : AreRead frame.methods.now (bits_at frame.context.now) frame.path.now d.format.now (seen_of d) d.solved.items
+  pub prepared : IsPrepared d.format.now d.told.prepared.now
+
+-- the field of the format, which has this index, fits its encoding with these sides
+abbrev pub IsReadIn : PageFrame → Draft → ℕ → Field → BothSides → Type 0
+IsReadIn frame d i field b = IsPrepared d.format.now d.told.prepared.now → slice_get d.format.now.fields i ≡ Some field → ReadsAs frame.methods.now (bits_at frame.context.now) frame.path.now (seen_of d) field b.uncompressed b.compressed
 
 -- the format, what is prepared of it, and the values of the parameters stay
 pub record IsSame (old new : Draft) : Type 0 where
@@ -99,9 +107,14 @@ seen_with_header ss args h = record { fields = ss; arguments = args; header = So
 abbrev pub IsSettled : Seen → List Constraint → List ℕ → ℕ → Type 0
 IsSettled v cs solved j = (c : Constraint) → slice_get cs j ≡ Some c → ((n : ℕ) → slice_get solved n ≡ Some j → HoldsOn v c) → HoldsOn v c
 
--- the constraints hold of what is seen, if those do that are solved
-abbrev pub AreSettled : Seen → List Constraint → List ℕ → Type 0
-AreSettled v cs solved = ((n j : ℕ) (c : Constraint) → slice_get solved n ≡ Some j → slice_get cs j ≡ Some c → HoldsOn v c) → (j : ℕ) (c : Constraint) → slice_get cs j ≡ Some c → HoldsOn v c
+-- what the encodings of these fields settle holds of what is seen
+abbrev pub AreEncoded : Seen → List Field → Type 0
+AreEncoded v ds = (t : LengthTest) → prepared.IsSettled ds t → (c : Constraint) → IsTest c t → HoldsOn v c
+
+-- the constraints of the format hold of what is seen, if those do that are solved or settled by encodings
+abbrev pub AreSettled : Seen → Format → List ℕ → Type 0
+AreSettled v format solved = AreEncoded v format.fields → ((n j : ℕ) (c : Constraint) → slice_get solved n ≡ Some j → slice_get format.constraints j ≡ Some c → HoldsOn v c)
+    → (j : ℕ) (c : Constraint) → slice_get format.constraints j ≡ Some c → HoldsOn v c
 
 -- the fields are as right as they were, and the header is the same
 pub record AreEnded (format : Format) (args : List ℤ) (h : List Bool) (old new : List Shown) : Type 0 where

@@ -1,6 +1,6 @@
 //! A level that is being read.
 
-ghost use Rattle.std.specs.Prelude.{◌≡◌, IfOk, IsTrue, None, length};
+ghost use Rattle.std.specs.Prelude.{◌≡◌, IfOk, IfSome, IsTrue, None, length};
 ghost use Rattle.sem_profile.specs.declared.profile.Encoding.TheVariants as encoding;
 ghost use Rattle.sem_pages.specs.declared.page.Shown.{out-Shown};
 ghost use Rattle.sem_pages.specs.declared.frame.PageFrame.{PageFrame};
@@ -18,7 +18,7 @@ use sem_filling::WholeSides;
 use sem_pages::{
     BothSides, Page, PageFrame, Prepared, Shown, Source, View, Word, coded, encoded, natural, value,
 };
-use sem_profile::{Constraint, Encoding, Format, Library};
+use sem_profile::{Constraint, Encoding, Field, Format, Library};
 use smallvec::SmallVec;
 use sqlite_items::at;
 use std::alloc::{AllocError, Global};
@@ -165,8 +165,7 @@ impl<'a> Draft<'a> {
             cursor,
             ahead: self.ahead,
         };
-        let place = self.place_of(frame, field);
-        let Some(both) = coded(alloc, frame, &self.view(), declared, place, &source)? else {
+        let Some(both) = self.both_sides(alloc, frame, field, declared, &source)? else {
             return Ok(false);
         };
         if !self.put(field, plain(both)) {
@@ -174,6 +173,25 @@ impl<'a> Draft<'a> {
         }
         self.pass(takes, both.compressed.len());
         Ok(true)
+    }
+
+    /// Both sides of the field by its library method: what is prepared of it, if there is something, or what its encoding says.
+    #[inline(always)]
+    fn both_sides(
+        &self,
+        alloc: Global,
+        frame: &PageFrame<'_>,
+        field: usize,
+        declared: &Field,
+        source: &Source<'_, '_>,
+    ) -> Result<Option<BothSides>, AllocError>
+        ensures { IfOk result (λ o. IfSome o (λ b. spec.IsReadIn frame.now self.now field declared.now b)) }
+    {
+        if let Some(Some(computed)) = at(self.told.prepared.computed.as_slice(), field) {
+            return Ok(computed.sides(&self.view()));
+        }
+        let place = self.place_of(frame, field);
+        coded(alloc, frame, &self.view(), declared, place, source)
     }
 
     /// Gives a field that uncompressed side, and the packed one by its encoding.

@@ -134,7 +134,7 @@ fn ended_with(
 #[inline(always)]
 fn constraints_hold(format: &Format, prepared: &Prepared, view: &View<'_>, solved: &[usize]) -> bool
     requires { IsPrepared format.now prepared.now }
-    ensures { IsTrue result → spec.AreSettled view.now format.now.constraints solved.now }
+    ensures { IsTrue result → spec.AreSettled view.now format.now solved.now }
 {
     have_lengths(prepared.lengths.as_slice(), view)
         && others_hold(

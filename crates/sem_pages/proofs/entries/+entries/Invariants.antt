@@ -1,6 +1,5 @@
 use Rattle.std.proofs.Common.{drop}
 use Rattle.std.specs.List.{flat_map}
-use Rattle.std.specs.Map.{keys_of}
 use Rattle.sem_filling.specs.declared.filling.Filling.{Filling}
 use Rattle.sem_filling.specs.Fillings.{fields_of}
 use Rattle.sem_filling.specs.Entries.{entries_below}
@@ -12,4 +11,4 @@ use Rattle.sem_pages.proofs.entries.+entries.Given as goal
 abbrev pub invariant-add_page-loop-i : goal.invariant-add_page-loop-i
 invariant-add_page-loop-i l =
     (f : Filling) → Shows l.methods l.method l.page f
-    → GoesTo (keys_of l.context) l.fn.values.items l.values.items (flat_map (entries_at l.path) (drop l.i (fields_of f))) (entries_below f l.path)
+    → GoesTo l.context l.fn.progress l.progress (flat_map (entries_at l.path) (drop l.i (fields_of f))) (entries_below f l.path)

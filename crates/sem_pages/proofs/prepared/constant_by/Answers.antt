@@ -1,4 +1,4 @@
-use Rattle.std.proofs.Common.{rules, sym, subst}
+use Rattle.std.proofs.Common.{sym, subst}
 use Rattle.sem_pages.specs.Pages.{IsCodedOn, numbers_seen}
 use Rattle.sem_pages.proofs.CodedSides.{constant_down_on, constant_up_on}
 use Rattle.sem_pages.proofs.prepared.constant_by.Goals as goal

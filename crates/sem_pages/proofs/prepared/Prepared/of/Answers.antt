@@ -1,7 +1,8 @@
 use Rattle.std.proofs.Common.{◌≤◌, ◌∙◌, rules, refl, ap, subst, length, arith}
 use Rattle.std.specs.Prelude.{slice_get}
 use Rattle.std.proofs.lemmas.Option.{slice_get_read}
-use Rattle.sem_pages.specs.Prepared.{AreConstants}
+use Rattle.sem_pages.specs.Made.{AreMade}
+use Rattle.sem_pages.specs.Prepared.{AreConstants, HasComputed, IsCovered}
 use Rattle.sem_pages.proofs.prepared.Prepared.of.Goals as goal
 
 pub loop-j-preserved : goal.loop-j-preserved
@@ -12,7 +13,9 @@ loop-j-preserved c =
 pub returns : goal.returns
 returns c = record {
   constants = subst (λ z. AreConstants z c.in_ok-constants.constants) c.as_slice.ensures c.in_ok-constants.ensures;
+  computed = subst (λ z. AreMade HasComputed z c.in_ok-computed.computed (length z)) c.as_slice-2.ensures c.in_ok-computed.ensures;
   covered = λ j d lt at.
       let count : length c.args.format.now.constraints ≤ c.loop-j.j = (search rules) in
-      c.loop-j.invariant j d (omega (arith, lt, count)) (ap (λ z. slice_get z j) c.as_slice-constraints.ensures ∙ at);
+      subst (λ z. IsCovered z c.loop-j.tests.lengths c.loop-j.tests.others j d) c.as_slice-fields.ensures
+      (c.loop-j.invariant j d (omega (arith, lt, count)) (ap (λ z. slice_get z j) c.as_slice-constraints.ensures ∙ at));
 }

@@ -1,6 +1,4 @@
-use Rattle.std.proofs.Common.{rules, subst}
-use Rattle.sem_context.specs.Entries.{bits_at}
-use Rattle.sem_pages.specs.Pages.{ReadsAs}
+use Rattle.std.proofs.Common.{rules}
 use Rattle.walk_pages.proofs.Drafting.{goes_trans, put_plain}
 use Rattle.walk_pages.proofs.draft.Draft.code.Goals as goal
 
@@ -9,5 +7,5 @@ returns c = λ _.
     let reads = rw c.in-Some-2.is at c.in_ok-both.ensures in
     goes_trans c.args.frame.now c.args.self.now c.put.new.self c.pass.new.self
     (put_plain c.args.frame.now c.args.field c.plain.result c.in-Some-2.both.uncompressed c.in-Some-2.both.compressed c.in-Some.declared.now c.args.self.now c.put.new.self (c.put.ensures c.if-not-put.false) c.plain.ensures (search rules)
-    (subst (λ v. ReadsAs c.args.frame.now.methods.now (bits_at c.args.frame.now.context.now) c.args.frame.now.path.now v c.in-Some.declared.now c.in-Some-2.both.uncompressed c.in-Some-2.both.compressed) c.view.ensures reads))
+    (λ prepared. reads prepared (search rules)))
     (c.pass.ensures c.args.frame.now)

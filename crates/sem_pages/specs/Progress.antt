@@ -1,0 +1,21 @@
+-- How far a context has gone on by the entries that come first in it.
+use Rattle.std.specs.Prelude.{◌≡◌, ℕ, Bool, List, ◌++◌, length, drop, fold}
+use Rattle.std.specs.Map.{keys_of}
+use Rattle.sem_context.specs.Entries.{Entries, with_bits_at}
+use Rattle.sem_filling.specs.Entries.{Path}
+use Rattle.sem_pages.specs.declared.entries.Progress.{Progress}
+
+-- entries with bits put at places, one after the other
+abbrev pub changed : Entries → List (ℕ × List Bool) → Entries
+changed es changes = fold (λ done c. with_bits_at done c.0 c.1) es changes
+
+-- These entries have the paths that come first in the context, and as many are passed; the changes put them in their places.
+pub record IsPassed (ctx : Entries) (p : Progress) (es : Entries) : Type 0 where
+  pub count : length es ≡ p.passed
+  pub more : List Path
+  pub paths_are : keys_of ctx ≡ keys_of es ++ more
+  pub changed_are : changed ctx p.changes.items ≡ es ++ drop p.passed ctx
+
+-- where some entries were passed, these are passed after them
+abbrev pub GoesOn : Entries → Progress → Progress → Entries → Type 0
+GoesOn ctx old new es = (before : Entries) → IsPassed ctx old before → IsPassed ctx new (before ++ es)
