@@ -12,7 +12,8 @@ again: such a run may end as ever, with the whole text. These are counted apart.
 
 A drawing (walk_guess) can't answer want of memory: where a growth is refused to it alone, the walk answers, and the row's own output must come. Each level that is
 drawn up grows one list, that of its fields, and nothing else in the rows of `rohcfn`. So each of these says how many levels are drawn up for it, and just so many
-growths may end so. A page (walk_pages) is no drawing: it answers that memory is out. In the rows of calls that draw, two growths in a row are refused as well: that of
+growths may end so. On a line there are those of the list of kept pages, too: where one is refused, no page of that flow is kept, and its next packet goes without
+it. A page (walk_pages) is no drawing: it answers that memory is out. In the rows of calls that draw, two growths in a row are refused as well: that of
 a drawing and the first one of the walk after it. Senders draw up the first packet of a flow alone, which stands before the call of their rows. The call writes a
 page, so the second growth would be that of the call which is made again: there no two are refused."""
 import concurrent.futures
@@ -139,8 +140,9 @@ def build(library):
 
 
 def rows():
-    """Name, bundle, output and status of each row, and how many levels are drawn up for it; all this was written by hand. A candidate is drawn up level by level up to
-    where it leads nowhere; of `tick` that is the first one, but in an empty context, and then the last where the first isn't the item."""
+    """Name, bundle, output and status of each row, and how many growths are refused to what answers without them, which is how many levels are drawn up for it but on a
+    line (of_flows); all this was written by hand. A candidate is drawn up level by level up to where it leads nowhere; of `tick` that is the first one, but in an
+    empty context, and then the last where the first isn't the item."""
     yield "plain packed", bundle("pack --top plain", PLAIN.decode(), items="16:5abc\n"), "18:96af00\n", 0, 1
     yield "a bad part", "=== %s\n" % ("\x1b" * 90), "bundle: I4 bad part %s..\n" % ("\\u{1b}" * 80), 1, 0
     yield from of_tick()
@@ -192,14 +194,15 @@ def of_seq():
 
 def of_flows():
     """Rows of lines of flows. Both ends draw up the first packet of a flow, whose context is empty, and a receiver one that is refused; another one goes by a page.
-    Senders of frames draw up each."""
+    Senders of frames draw up each. An end of a line that isn't of frames has a list of the flows' last pages, up to the greatest flow that was heard of. It has room for
+    4, and then for 8, 16, 32 and 64: so it grows once where no flow is above 3, and five times where one is above 31."""
     events, items = "send 0 8:01\nsend 1 8:01\nsend 0 8:02\n", "0 8:01\n1 8:01\n0 8:02\n"
-    yield "two flows", bundle("line --top tick", TICK, events=events), "0080800180800014\n" + items, 0, 2
-    yield "two flows received", bundle("line --receive --top tick", TICK, octets="0080800180800014\n"), items, 0, 2
-    yield "a flow that is reset", bundle("line --top tick", TICK, events="send 0 8:01\nreset 0\nsend 0 8:01\n"), "00808010008080\n0 8:01\n0 8:01\n", 0, 2
+    yield "two flows", bundle("line --top tick", TICK, events=events), "0080800180800014\n" + items, 0, 2 + 1
+    yield "two flows received", bundle("line --receive --top tick", TICK, octets="0080800180800014\n"), items, 0, 2 + 1
+    yield "a flow that is reset", bundle("line --top tick", TICK, events="send 0 8:01\nreset 0\nsend 0 8:01\n"), "00808010008080\n0 8:01\n0 8:01\n", 0, 2 + 1
     events, items = "send 40 8:01\nreset 40\nsend 63 8:01\n", "40 8:01\n63 8:01\n"
-    yield "two flows of 64", bundle("line --wide --top tick", TICK, events=events), "288080683f8080\n" + items, 0, 2
-    yield "two flows of 64 received", bundle("line --wide --receive --top tick", TICK, octets="288080683f8080\n"), items, 0, 2
+    yield "two flows of 64", bundle("line --wide --top tick", TICK, events=events), "288080683f8080\n" + items, 0, 2 + 5
+    yield "two flows of 64 received", bundle("line --wide --receive --top tick", TICK, octets="288080683f8080\n"), items, 0, 2 + 5
     yield "frames", bundle("line --frames --top tick", TICK, events="send 0 8:01\nsend 1 8:01\nsend 0 8:02\n"), "0002808001028080000114\n0 8:01\n1 8:01\n0 8:02\n", 0, 3
     yield "frames received", bundle("line --frames --receive --top tick", TICK, octets="0002808001020000000114\n"), "0 8:01\n1 refused U2 Refused tick.short\n0 8:02\n", 0, 2
     yield "frames for a loss", bundle("line --frames --robust 1 --top tick", TICK, events="send 0 8:01\nreset 0\nsend 0 8:02\n"), "000280808000028100\n0 8:01\n0 8:02\n", 0, 3
@@ -350,7 +353,7 @@ def usages():
 
 
 class Row:
-    """A row that a program runs with the library, which refuses growths, and what is printed where they are refused to its call. How many levels are drawn up is known,
+    """A row that a program runs with the library, which refuses growths, and what is printed where they are refused to its call. How many growths it ends without is known,
     or None where it isn't. A row of words has a text for the person who called, of which a part is known, and which may suggest a word."""
 
     def __init__(self, library, program, text, output, status=0, drawn=0, refused=None, words=(), part="", suggests=False):
@@ -412,7 +415,7 @@ def sweep(name, row, count):
     drawn = ends.count("drawn")
     differs = count == 1 and row.drawn is not None and drawn != row.drawn
     if differs:
-        print("%s: %d growths were refused to drawings" % (name, drawn))
+        print("%s: %d growths were refused to drawings and to kept pages" % (name, drawn))
     wrong = ends.count("wrong") + lacks + differs
     return len(ends) - ends.count("wrong"), wrong, ends.count("call"), drawn, ends.count("suggested")
 
@@ -441,7 +444,7 @@ def main():
             return 1
         with concurrent.futures.ProcessPoolExecutor() as pool:
             passed, failed, called, drawn, suggested = map(sum, zip(*pool.map(sweep, *zip(*jobs(library)))))
-    print("refusals: %d passed, %d failed; %d growths were refused to calls of rows, %d to drawings, %d to suggestions" % (passed, failed, called, drawn, suggested))
+    print("refusals: %d passed, %d failed; %d growths were refused to calls of rows, %d to drawings and kept pages, %d to suggestions" % (passed, failed, called, drawn, suggested))
     return 1 if failed or not passed else 0
 
 

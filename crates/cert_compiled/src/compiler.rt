@@ -6,7 +6,7 @@ ghost use Rattle.cert_compiled.specs.Compiled as spec;
 
 use crate::looks::{Looks, looks_of};
 use crate::operations::{CompiledPlan, Operations};
-use crate::pages::{page_operations, page_writing};
+use crate::pages::{PageOperation, PageWriting, page_operations, page_writing};
 use crate::places::{entry_counts, places_of};
 use crate::steps::OperationsSoFar;
 use cert_types::{Direction, FormatPlans, MethodPlans, Step};
@@ -132,24 +132,105 @@ fn format_acts(
     match &entry.plans {
         Some(plans) => {
             let prepared = Prepared::of(alloc, format)?;
+            let reading = reading_of(alloc, format, &prepared, plans.read.as_slice())?;
+            let writing = writing_of(
+                alloc,
+                calls.methods,
+                format,
+                &prepared,
+                plans.write.as_slice(),
+            )?;
+            let places = places_of(alloc, calls.counts, format)?;
+            let looks = looks_at(alloc, calls, format, sizes)?;
+            let (read, page) = reading.parts();
+            let (write, page_writing) = writing.parts();
             Ok(CompiledPlan {
-                looks: looks_at(alloc, calls, format, sizes)?,
-                places: Some(places_of(alloc, calls.counts, format)?),
-                read: operations(alloc, format, Direction::Read, plans.read.as_slice())?,
-                page: page_operations(alloc, format, &prepared, plans.read.as_slice())?,
-                page_writing: page_writing(
-                    alloc,
-                    calls.methods,
-                    format,
-                    &prepared,
-                    plans.write.as_slice(),
-                )?,
-                write: operations(alloc, format, Direction::Write, plans.write.as_slice())?,
+                looks,
+                places: Some(places),
                 prepared: Some(prepared),
+                read,
+                page,
+                page_writing,
+                write,
             })
         }
         None => Ok(NONE),
     }
+}
+
+/// The operations of a read plan, and those by which a page is read.
+struct Reading {
+    read: Option<Operations>,
+    page: Option<Items<PageOperation>>,
+}
+
+// A call of its own, so that no caller's proof goes through the cases.
+impl Drop for Reading {
+    fn drop(self) {
+        let Reading {
+            read: _read,
+            page: _page,
+        } = self;
+    }
+}
+
+impl Reading {
+    fn parts(self) -> (Option<Operations>, Option<Items<PageOperation>>) {
+        let Reading { read, page } = self;
+        (read, page)
+    }
+}
+
+fn reading_of(
+    alloc: Global,
+    format: &Format,
+    prepared: &Prepared,
+    plan: &[Step],
+) -> Result<Reading, AllocError> {
+    let read = operations(alloc, format, Direction::Read, plan)?;
+    let page = page_operations(alloc, format, prepared, plan)?;
+    Ok(Reading { read, page })
+}
+
+/// The same of a write plan.
+struct Writing {
+    write: Option<Operations>,
+    page_writing: Option<Items<PageWriting>>,
+}
+
+// As above.
+impl Drop for Writing {
+    fn drop(self) {
+        let Writing {
+            write: _write,
+            page_writing: _page_writing,
+        } = self;
+    }
+}
+
+impl Writing {
+    fn parts(self) -> (Option<Operations>, Option<Items<PageWriting>>) {
+        let Writing {
+            write,
+            page_writing,
+        } = self;
+        (write, page_writing)
+    }
+}
+
+fn writing_of(
+    alloc: Global,
+    methods: &[Method],
+    format: &Format,
+    prepared: &Prepared,
+    plan: &[Step],
+) -> Result<Writing, AllocError> {
+    let write = operations(alloc, format, Direction::Write, plan)?;
+    let page_writing = page_writing(alloc, methods, format, prepared, plan)?;
+    Ok(Writing {
+        write,
+        page_writing,
+    })
 }
 
 /// What a look at the format goes over, where its bounds are there.

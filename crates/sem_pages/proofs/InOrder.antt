@@ -113,9 +113,12 @@ front_put (c ∷ cs) (e ∷ es) more distinct paths =
     ∙ ap (λ b. overridden (cond b ((c.0, e.1) ∷ cs) (c ∷ with_entry cs e.0 e.1)) es) (sym ((bytes_eq-Decides e.0 c.0).1 (sym same)))
 
 -- from the first on
+pub passed_all : (ctx : Entries) (begun p : Progress) (f : Filling) → begun.passed ≡ 0 → begun.changes.items ≡ [] → GoesOn ctx begun p (entries f) → IsPassed ctx p (entries f)
+passed_all ctx begun p f first none goes = goes [] (record { count = sym first; more = keys_of ctx; paths_are = refl; changed_are = ap (changed ctx) none ∙ ap (λ n. drop n ctx) (sym first) })
+
 pub from_first : (ctx : Entries) (begun p : Progress) (f : Filling) → AreDistinct ctx → begun.passed ≡ 0 → begun.changes.items ≡ [] → GoesOn ctx begun p (entries f) → changed ctx p.changes.items ≡ next ctx f
 from_first ctx begun p f distinct first none goes =
-    let passed = goes [] (record { count = sym first; more = keys_of ctx; paths_are = refl; changed_are = ap (changed ctx) none ∙ ap (λ n. drop n ctx) (sym first) }) in
+    let passed = passed_all ctx begun p f first none goes in
     passed.changed_are ∙ ap (λ n. entries f ++ drop n ctx) (sym passed.count) ∙ front_put ctx (entries f) passed.more distinct passed.paths_are
 
 -- ---- the fields of a level

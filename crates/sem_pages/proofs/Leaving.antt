@@ -26,17 +26,17 @@ use Rattle.sem_filling.proofs.FillingsAsked.{drop_at}
 use Rattle.sem_pages.specs.Pages.{sides_by, value_by, level_by, Shows, ShowsInside, shows, nothing, called, StandsFor}
 use Rattle.sem_pages.proofs.Levels.{level_at, level_drop, level_length}
 
-mapped_at : {A B : Type 0} (f : A → B) (xs : List A) (i : ℕ) (y : B) → slice_get (map f xs) i ≡ Some y → (x : A) × (slice_get xs i ≡ Some x) × (f x ≡ y)
+pub mapped_at : {A B : Type 0} (f : A → B) (xs : List A) (i : ℕ) (y : B) → slice_get (map f xs) i ≡ Some y → (x : A) × (slice_get xs i ≡ Some x) × (f x ≡ y)
 mapped_at f [] i y at = let wrong : None ≡ Some y = at in absurd cc
 mapped_at f (x ∷ xs) zero y at = let one : Some (f x) ≡ Some y = at in (x, refl, cc)
 mapped_at f (x ∷ xs) (suc i) y at = mapped_at f xs i y at
 
 -- what a page that shows a filling says, for a format that is known
-record Shown_by (methods : List Method) (p : Page) (f : Filling) (format : Format) : Type 0 where
-  level_is : level f ≡ level_by format.fields (out-Page p).fields
-  each : (i : ℕ) (d : Field) (s : Shown) → slice_get format.fields i ≡ Some d → slice_get (out-Page p).fields i ≡ Some s → ShowsInside methods d.encoding (out-Shown s).inner (inner_at f i)
+pub record Shown_by (methods : List Method) (p : Page) (f : Filling) (format : Format) : Type 0 where
+  pub level_is : level f ≡ level_by format.fields (out-Page p).fields
+  pub each : (i : ℕ) (d : Field) (s : Shown) → slice_get format.fields i ≡ Some d → slice_get (out-Page p).fields i ≡ Some s → ShowsInside methods d.encoding (out-Shown s).inner (inner_at f i)
 
-shown_by : (methods : List Method) {k : ℕ} {p : Page} {f : Filling} (format : Format) → format_at methods k (out-Page p).format ≡ Some format → Shows methods k p f → Shown_by methods p f format
+pub shown_by : (methods : List Method) {k : ℕ} {p : Page} {f : Filling} (format : Format) → format_at methods k (out-Page p).format ≡ Some format → Shows methods k p f → Shown_by methods p f format
 shown_by methods {k} {p} {f} format at (shows other there format_is listing_is level_is each) =
     let one : Some other ≡ Some format = sym there ∙ at in
     let same : other ≡ format = cc in

@@ -11,3 +11,4 @@ mod Preparing
 mod Standing
 mod Chaining
 pub mod Settled
+pub mod Steadying

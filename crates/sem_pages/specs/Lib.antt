@@ -3,3 +3,4 @@ pub mod Made
 pub mod Prepared
 pub mod Progress
 pub mod Chains
+pub mod Steady

@@ -1,16 +1,17 @@
 //! What the filling of a page leaves in the context, and its asked values.
 
-ghost use Rattle.std.specs.Prelude.{◌≡◌, ◌<◌, ◌++◌, ◌∷◌, [], false, suc, length, slice_get, IfOk, IfSome, IsTrue, OnOk, OnErr, Some, unwrap_or};
+ghost use Rattle.std.specs.Prelude.{◌≡◌, ◌<◌, ◌++◌, ◌∷◌, [], ℤ, List, false, suc, length, slice_get, IfOk, IfSome, IsTrue, OnOk, OnErr, Some, unwrap_or};
 ghost use Rattle.std.specs.Option.{option_copied};
-ghost use Rattle.sem_filling.specs.Fits.{format_at};
-ghost use Rattle.sem_context.specs.Entries.{Entries};
+ghost use Rattle.sem_filling.specs.Fits.{Fits, format_at};
+ghost use Rattle.sem_context.specs.Entries.{Entries, bits_at};
 ghost use Rattle.sem_filling.specs.declared.filling.Filling as filling;
 ghost use Rattle.sem_filling.specs.declared.filling.FilledField as filled;
-ghost use Rattle.sem_filling.specs.Entries.{Path, below, own_entry, entries_below, next};
+ghost use Rattle.sem_filling.specs.Entries.{Path, below, entries, own_entry, entries_below, next};
 ghost use Rattle.sem_filling.specs.Fillings as fillings;
 ghost use Rattle.sem_filling.specs.FillingLaws.{entries_at};
 ghost use Rattle.sem_pages.specs.Pages as spec;
 ghost use Rattle.sem_pages.specs.Progress.{GoesOn, changed};
+ghost use Rattle.sem_pages.specs.Steady.{Has, IsKept};
 
 use crate::page::{Page, Shown};
 use crate::word::Word;
@@ -99,7 +100,7 @@ fn is_value(value: &AskedValue, field: &Field, word: &Word) -> bool
     ) && word.is_all_of(&value.bits)
 }
 
-fn format_of(methods: &[Method], method: usize, index: usize) -> Option<&Format>
+pub(crate) fn format_of(methods: &[Method], method: usize, index: usize) -> Option<&Format>
     ensures { option_copied result ≡ format_at methods.now method index }
 {
     methods.get(method)?.formats.get(index)
@@ -153,6 +154,8 @@ pub fn advance(
     page: &Page,
 ) -> Result<bool, AllocError>
     ensures ok { IfOk result (λ is. IsTrue is → (f : filling.Filling) → spec.Shows methods.now method page.now f → context.new ≡ next context.old f) }
+    // and what is steady of the page fits again
+    ensures kept { IfOk result (λ is. IsTrue is → (f : filling.Filling) (args : List ℤ) → Fits methods.now (bits_at context.old) method args [] f → spec.Shows methods.now method page.now f → IsKept methods.now (bits_at context.new) method [] page.now) }
     ensures stays { IfOk result (λ is. is ≡ false → context.new ≡ context.old) }
     ensures err { OnErr result (context.new ≡ context.old) }
 {
@@ -180,7 +183,8 @@ fn changes_in_order(
     method: usize,
     page: &Page,
 ) -> Result<Option<Vec<(usize, Bits)>>, AllocError>
-    ensures { IfOk result (λ o. IfSome o (λ changes. (f : filling.Filling) → spec.Shows methods.now method page.now f → changed context.now changes.items ≡ next context.now f)) }
+    ensures next { IfOk result (λ o. IfSome o (λ changes. (f : filling.Filling) → spec.Shows methods.now method page.now f → changed context.now changes.items ≡ next context.now f)) }
+    ensures there { IfOk result (λ o. IfSome o (λ changes. (f : filling.Filling) → spec.Shows methods.now method page.now f → Has (bits_at (changed context.now changes.items)) (entries f))) }
 {
     let mut progress = Progress {
         passed: 0,

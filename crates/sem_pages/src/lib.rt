@@ -14,6 +14,7 @@ pub use frame::PageFrame;
 pub use page::{BothSides, Page, Shown};
 pub use prepared::{Computed, LengthTest, Prepared, have_lengths};
 pub use sides::{are_unsent, header_of, is_header, packed_of};
+pub use steady::is_steady;
 pub use view::View;
 pub use word::Word;
 
@@ -23,8 +24,10 @@ mod constraints;
 mod entries;
 mod expressions;
 mod frame;
+mod joined;
 mod page;
 mod prepared;
 mod sides;
+mod steady;
 mod view;
 mod word;

@@ -6,9 +6,10 @@ ghost use Rattle.sem_profile.specs.Fields.{lists};
 ghost use Rattle.sem_pages.specs.declared.page.Shown as page;
 ghost use Rattle.sem_pages.specs.Pages as spec;
 
+use crate::joined::Joined;
 use crate::page::Shown;
 use crate::word::Word;
-use sem_bits::{Bits, BitsError, Cursor};
+use sem_bits::{Bits, Cursor};
 use sem_profile::{Field, Format, Part};
 use std::alloc::{AllocError, Global};
 
@@ -22,17 +23,13 @@ pub fn header_of(
     requires { length shown.now ≡ length fields.now }
     ensures { IfOk result (λ o. IfSome o (λ b. b ≡ header_bits (spec.level_by fields.now shown.now))) }
 {
-    let mut header = Bits::new(alloc);
-    let mut tail = Word::new();
+    let mut header = Joined::new(alloc);
     for i in 0..fields.len() {
-        if !adds_header(alloc, &mut header, &mut tail, &fields[i], &shown[i])? {
+        if !adds_header(&mut header, &fields[i], &shown[i])? {
             return Ok(None);
         }
     }
-    if !is_ended(alloc, &mut header, &tail)? {
-        return Ok(None);
-    }
-    Ok(Some(header))
+    header.finish(alloc)
 }
 
 /// Whether the bits are the uncompressed sides of the header fields, joined in field order. It takes no memory.
@@ -82,84 +79,34 @@ fn past_word(cursor: &Cursor<'_>, place: usize, word: &Word) -> Option<usize>
     }
 }
 
-/// Adds the uncompressed side at the end of the tail, if the field is one of the header. False where it isn't read, and above the limit.
+/// Adds the uncompressed side at the end, if the field is one of the header. False where it isn't read.
 #[inline(always)]
-fn adds_header(
-    alloc: Global,
-    whole: &mut Bits,
-    tail: &mut Word,
-    field: &Field,
-    shown: &Shown,
-) -> Result<bool, AllocError>
-    ensures { IfOk result (λ b. IsTrue b → whole.new ++ tail.new ≡ (whole.old ++ tail.old) ++ header_bits (spec.sides_by field.now shown.now ∷ [])) }
+fn adds_header(whole: &mut Joined, field: &Field, shown: &Shown) -> Result<bool, AllocError>
+    ensures { IfOk result (λ b. IsTrue b → whole.new ≡ whole.old ++ header_bits (spec.sides_by field.now shown.now ∷ [])) }
 {
     match field.declared.part {
         Part::Header => match &shown.uncompressed {
-            Some(word) => is_added(alloc, whole, tail, word),
+            Some(word) => {
+                whole.add(word)?;
+                Ok(true)
+            }
             None => Ok(false),
         },
         Part::Control | Part::Local => Ok(true),
     }
 }
 
-/// Adds the bits at the end of the tail. Where they would be more than 64 bits with it, it goes to the end of the whole first, so that this isn't done for each
-/// side.
+/// Adds the compressed side of the field at the index. False where there is no such field or it isn't read.
 #[inline(always)]
-fn is_added(
-    alloc: Global,
-    whole: &mut Bits,
-    tail: &mut Word,
-    bits: &Word,
-) -> Result<bool, AllocError>
-    ensures { IfOk result (λ b. IsTrue b → whole.new ++ tail.new ≡ (whole.old ++ tail.old) ++ bits.now) }
-{
-    match tail.joined(bits) {
-        Some(both) => {
-            *tail = both;
-            Ok(true)
-        }
-        None => {
-            if !is_ended(alloc, whole, tail)? {
-                return Ok(false);
-            }
-            *tail = *bits;
-            Ok(true)
-        }
-    }
-}
-
-/// Adds the tail at the end, unless that is above the limit of `Bits`.
-#[inline(never)]
-fn is_ended(alloc: Global, whole: &mut Bits, tail: &Word) -> Result<bool, AllocError>
-    ensures { IfOk result (λ b. IsTrue b → whole.new ≡ whole.old ++ tail.now) }
-{
-    let bits = tail.to_bits(alloc)?;
-    // Most levels have no more than this.
-    if whole.is_empty() {
-        *whole = bits;
-        return Ok(true);
-    }
-    match whole.append(&bits) {
-        Ok(()) => Ok(true),
-        Err(BitsError::Full) => Ok(false),
-        Err(BitsError::OutOfMemory) => Err(AllocError),
-    }
-}
-
-/// Adds the compressed side of the field at the index. False above the limit, and where there is no such field or it isn't read.
-#[inline(always)]
-fn adds_packed(
-    alloc: Global,
-    whole: &mut Bits,
-    tail: &mut Word,
-    shown: &[Shown],
-    index: usize,
-) -> Result<bool, AllocError>
-    ensures { IfOk result (λ b. IsTrue b → whole.new ++ tail.new ≡ (whole.old ++ tail.old) ++ unwrap_or (option_and_then (λ s. (page.out-Shown s).compressed) (slice_get shown.now index)) []) }
+fn adds_packed(whole: &mut Joined, shown: &[Shown], index: usize) -> Result<bool, AllocError>
+    ensures { IfOk result (λ b. IsTrue b → whole.new ≡ whole.old ++ unwrap_or (option_and_then (λ s. (page.out-Shown s).compressed) (slice_get shown.now index)) []) }
 {
     match shown.get(index) {
         Some(field) => match &field.compressed {
-            Some(word) => is_added(alloc, whole, tail, word),
+            Some(word) => {
+                whole.add(word)?;
+                Ok(true)
+            }
             None => Ok(false),
         },
         None => Ok(false),
@@ -176,17 +123,13 @@ pub fn packed_of(
     requires { length shown.now ≡ length format.now.fields }
     ensures { IfOk result (λ o. IfSome o (λ b. b ≡ packed_bits format.now.listing (spec.level_by format.now.fields shown.now))) }
 {
-    let mut packed = Bits::new(alloc);
-    let mut tail = Word::new();
+    let mut packed = Joined::new(alloc);
     for i in format.listing.get().as_slice() {
-        if !adds_packed(alloc, &mut packed, &mut tail, shown, *i)? {
+        if !adds_packed(&mut packed, shown, *i)? {
             return Ok(None);
         }
     }
-    if !is_ended(alloc, &mut packed, &tail)? {
-        return Ok(None);
-    }
-    Ok(Some(packed))
+    packed.finish(alloc)
 }
 
 /// Whether each field is read, and has no packed bits unless it is listed.

@@ -1,6 +1,6 @@
 //! At most 64 bits, as the number that they spell.
 
-ghost use Rattle.std.specs.Prelude.{◌≡◌, ◌+◌, ◌*◌, ◌^◌, ◌<◌, ◌≤◌, ◌++◌, ◌↔◌, [], length, IfOk, IfSome, IsTrue};
+ghost use Rattle.std.specs.Prelude.{◌≡◌, ◌+◌, ◌*◌, ◌^◌, ◌<◌, ◌≤◌, ◌++◌, ◌↔◌, [], length, IfOk, IfSome, IfNone, IsTrue};
 ghost use Rattle.sem_bits.specs.Number.{num, enc};
 
 use sem_bits::{Bits, has_spelling};
@@ -109,7 +109,8 @@ impl Word {
     /// The bits with others after them, if they are at most 64.
     #[inline(always)]
     pub fn joined(&self, other: &Word) -> Option<Word>
-        ensures { IfSome result (λ w. w ≡ self.now ++ other.now) }
+        ensures both { IfSome result (λ w. w ≡ self.now ++ other.now) }
+        ensures none { IfNone result (64 < length self.now + length other.now) }
     {
         let added = other.count;
         let count = self.count + added;
@@ -120,6 +121,24 @@ impl Word {
             count,
             value: beside(self.value, other.value, added),
         })
+    }
+
+    /// The first 64 bits of these with others after them, as their number, and the rest.
+    #[inline(always)]
+    pub(crate) fn filled(&self, other: &Word) -> (u64, Word)
+        requires { 64 < length self.now + length other.now }
+        ensures { self.now ++ other.now ≡ enc 64 result.0 ++ result.1 }
+    {
+        let room = 64 - self.count;
+        if room == 0 {
+            return (self.value, *other);
+        }
+        let left = other.count - room;
+        let rest = Word {
+            count: left,
+            value: other.value & ((1 << left) - 1),
+        };
+        (beside(self.value, other.value >> left, room), rest)
     }
 
     /// The same bits.

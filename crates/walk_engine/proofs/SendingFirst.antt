@@ -1,5 +1,6 @@
 -- What is packed for who needs no filling.
 use Rattle.std.proofs.Common.{◌≡◌, ◌∙◌, refl, sym, subst, ℕ, ◌<◌, List, arith}
+use Rattle.std.specs.Prelude.{IfSome, Option, Some, None}
 use Rattle.sem_context.specs.Entries.{Entries, bits_at}
 use Rattle.sem_filling.specs.declared.filling.Filling.{Filling, out-Filling}
 use Rattle.sem_filling.specs.declared.filling.Item.{Item}
@@ -12,6 +13,7 @@ use Rattle.cert_accepted.specs.Accepted.{Accepting, IsAccepted}
 use Rattle.cert_accepted.specs.declared.frame.AcceptedFrame.{AcceptedFrame}
 use Rattle.cert_candidates.specs.Best.{Best}
 use Rattle.walk_pages.specs.declared.writer.WrittenPage.{WrittenPage}
+use Rattle.walk_pages.specs.Kept.{IsKeptBy}
 use Rattle.walk_pages.specs.Writer.{IsWritten}
 use Rattle.walk_engine.specs.declared.search.Packed.{Packed}
 use Rattle.walk_engine.specs.declared.search.Tried.TheVariants.{Found}
@@ -74,3 +76,8 @@ module _ (a : Accepting) (ctx : Entries) (it : Item) (p : Resolved) (sound : IsS
   of_format place t c n w (inside.Written v) o h same = subst (λ (z : WrittenPage). IsLeastFrom a ctx it c z) (sym same.0) (least_from place t c n w o h same.1)
   of_format place t c n w (inside.Passed many) o h same = absurd same
   of_format place t c n w inside.Untold o h same = tt
+
+-- a page that was there stays one that is kept
+pub still_kept : (a : Accepting) (ctx : Entries) (old now : Option Page) → IfSome now (λ p. old ≡ Some p) → IfSome old (IsKeptBy a ctx) → IfSome now (IsKeptBy a ctx)
+still_kept a ctx old None is kept = tt
+still_kept a ctx old (Some p) is kept = subst (λ o. IfSome o (IsKeptBy a ctx)) is kept

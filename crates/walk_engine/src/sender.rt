@@ -1,12 +1,13 @@
 //! From an item to packed bits, by a page where that is told at once.
 
-ghost use Rattle.std.specs.Prelude.{◌≡◌, ◌<◌, ◌≤◌, Err, IsTrue, IfOk, IfErr, IfSome, IfNone, length};
+ghost use Rattle.std.specs.Prelude.{◌≡◌, ◌<◌, ◌≤◌, Err, Some, IsTrue, IfOk, IfErr, IfSome, IfNone, length};
 ghost use Rattle.sem_filling.specs.declared.filling.Filling as filling;
 ghost use Rattle.sem_pages.specs.Pages.{Shows};
 ghost use Rattle.sem_profile.specs.HeaderLimit.{header_limit};
 ghost use Rattle.walk_engine.specs.Searching as searching;
 ghost use Rattle.walk_engine.specs.Sending as spec;
 ghost use Rattle.walk_engine.specs.Writing as writing;
+ghost use Rattle.walk_pages.specs.Kept.{IsKeptBy};
 
 use crate::asked::wrong_asked;
 use crate::search::{Packed, Tried, looked_past, try_number, walked};
@@ -31,14 +32,17 @@ pub enum Sent {
 }
 
 /// The same as `pack`, for who needs no filling: it is a page where one is written at once. The answer doesn't hang on what is likely: the format, by its index,
-/// that takes the item, as it took the one before. It is written at once, and looked at only where that fails.
+/// that takes the item, as it took the one before. It is written at once, and looked at only where that fails. Nor does it hang on the last page, which the context
+/// has: what is steady of that is written once more where the format is the same.
 pub fn pack_page(
     alloc: Global,
     accepted: &Accepted,
     context: &Context,
     item: &Item,
     likely: Option<usize>,
+    last: Option<Page>,
 ) -> Result<Sent, PackFault>
+    requires { IfSome last (IsKeptBy accepted.now context.now) }
     ensures sent { IfOk result (spec.IsPackedAs accepted.now context.now item.now) }
     // as for `pack`
     ensures fault { IfErr result (λ e. writing.Blames e accepted.now context.now item.now) }
@@ -50,7 +54,8 @@ pub fn pack_page(
     if let Some(name) = wrong_asked(accepted.profile().asked(), item.asked.as_slice()) {
         return Err(PackFault::Asked(name.share()?));
     }
-    match first_sent(alloc, accepted, context, item, likely)? {
+    let mut last = last;
+    match first_sent(alloc, accepted, context, item, likely, &mut last)? {
         Some(found) => Ok(found),
         None => Err(PackFault::NoFormat),
     }
@@ -63,8 +68,10 @@ fn first_sent(
     context: &Context,
     item: &Item,
     likely: Option<usize>,
+    last: &mut Option<Page>,
 ) -> Result<Option<Sent>, AllocError>
-    requires { length item.now.header ≤ header_limit }
+    requires short { length item.now.header ≤ header_limit }
+    requires kept { IfSome last.old (IsKeptBy accepted.now context.now) }
     ensures found { IfOk result (λ o. IfSome o (spec.IsBestSent accepted.now context.now item.now)) }
     ensures none { IfOk result (λ o. IfNone o (searching.NoneFrom accepted.now context.now item.now 0)) }
 {
@@ -74,7 +81,7 @@ fn first_sent(
     let count = accepted.counts()[profile.top()];
     let mut number = 0;
     while number < count {
-        let told = sent_in_format(alloc, accepted, context, item, likely, number)?;
+        let told = sent_in_format(alloc, accepted, context, item, likely, last, number)?;
         match told {
             InFormat::Written(page) => return Ok(Some(Sent::Page(page))),
             InFormat::Passed(many) => {
@@ -109,17 +116,21 @@ enum InFormat {
 }
 
 /// Writes a page of the format that begins with the number, where that has one candidate for an item: then no choice among its candidates has to be looked for.
+#[tactic(auto, using(crate::proofs::SendingFirst::still_kept))]
 fn sent_in_format(
     alloc: Global,
     accepted: &Accepted,
     context: &Context,
     item: &Item,
     likely: Option<usize>,
+    last: &mut Option<Page>,
     number: u64,
 ) -> Result<InFormat, AllocError>
     requires short { length item.now.header ≤ header_limit }
     requires below { searching.IsBelow accepted.now number }
-    ensures { IfOk result (spec.IsInFormat accepted.now context.now item.now number) }
+    requires kept { IfSome last.old (IsKeptBy accepted.now context.now) }
+    ensures is { IfOk result (spec.IsInFormat accepted.now context.now item.now number) }
+    ensures kept { IfOk result (λ _. IfSome last.new (IsKeptBy accepted.now context.now)) }
 {
     accepted.keeps();
     accepted.profile().keeps();
@@ -133,7 +144,8 @@ fn sent_in_format(
             return Ok(InFormat::Passed(many));
         }
     }
-    if let Some(written) = write_format(alloc, accepted, context, item, format)? {
+    let page = taken_where(is_likely, last);
+    if let Some(written) = write_format(alloc, accepted, context, item, format, page)? {
         return Ok(in_format(written, format));
     }
     if is_likely {
@@ -142,6 +154,15 @@ fn sent_in_format(
         }
     }
     Ok(InFormat::Untold)
+}
+
+/// The page, which is taken, where that is asked for.
+#[inline(always)]
+fn taken_where(asked: bool, last: &mut Option<Page>) -> Option<Page>
+    ensures taken { IfSome result (λ p. last.old ≡ Some p) }
+    ensures left { IfSome last.new (λ p. last.old ≡ Some p) }
+{
+    if asked { last.take() } else { None }
 }
 
 /// How many candidates fail from the number on, where it begins a format that a look at it refutes.

@@ -53,7 +53,7 @@ fn read_by_page(
         return Ok(None);
     }
     let mut cursor = Cursor::new(bits);
-    let Some(read) = read_page(alloc, accepted, context, &mut cursor)? else {
+    let Some(read) = read_page(alloc, accepted, context, &mut cursor, None)? else {
         return Ok(None);
     };
     if !is_padding(&cursor) {

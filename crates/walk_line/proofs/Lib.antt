@@ -10,3 +10,4 @@ pub mod StepsTrying
 pub mod LinesBegun
 pub mod StatesWhole
 pub mod UnfinishedKeeping
+mod PagesKept

@@ -4,3 +4,4 @@ pub mod States
 pub mod Laws
 pub mod Steps
 pub mod Runs
+pub mod Pages

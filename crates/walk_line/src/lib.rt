@@ -11,6 +11,7 @@ pub mod fault;
 pub mod flow;
 pub mod laws;
 mod packet;
+mod pages;
 pub mod receiver;
 pub mod runs;
 pub mod sender;

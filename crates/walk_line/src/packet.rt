@@ -4,14 +4,18 @@ ghost use Rattle.std.specs.Prelude.{◌≡◌, ◌↔◌, ◌<◌, ◌≤◌, �
 ghost use Rattle.walk_line.specs.Hearing.{Found};
 ghost use Rattle.walk_line.specs.Steps.{IsFresh, IsNew, IsTaken, IsTried, IsHeard, IsHeardWhole, BlamesPacket, BlamesBegun};
 ghost use Rattle.walk_line.specs.Lines.{flow_limit};
+ghost use Rattle.walk_line.specs.Pages.{AreKeptBy};
+ghost use Rattle.walk_pages.specs.Kept.{IsKeptBy};
 
 use crate::fault::LineFault;
 use crate::flow::{Flow, Opening, start_of};
+use crate::pages::{keep_page, take_page};
 use crate::unfinished::Unfinished;
 use cert_accepted::Accepted;
 use sem_bits::{Bits, Cursor};
 use sem_context::Context;
 use sem_filling::{Item, advance};
+use sem_pages::Page;
 use std::alloc::{AllocError, Global};
 use walk_engine::{UnpackFault, Unpacked, item_of, most_octets, unpack, unpack_drawn};
 use walk_pages::{ReadPage, asked_of, goes_on, read_page};
@@ -72,14 +76,20 @@ fn whole_packet(
     alloc: Global,
     accepted: &Accepted,
     context: &mut Context,
+    page: &mut Option<Page>,
     octets: &[u8],
 ) -> Result<Option<(Item, usize)>, AllocError>
+    requires { IfSome page.old (IsKeptBy accepted.now context.old) }
+    ensures kept { IfOk result (λ _. IfSome page.new (IsKeptBy accepted.now context.new)) }
     ensures some { IfOk result (λ o. IfSome o (λ whole. (whole.1 ≤ length octets.now) × IsTaken accepted.now context.old context.new (take whole.1 octets.now) whole.0)) }
     ensures none { IfOk result (λ o. IfNone o (context.new ≡ context.old)) }
 {
-    match packet_by_page(alloc, accepted, context, octets)? {
+    match packet_by_page(alloc, accepted, context, page, octets)? {
         Some(whole) => Ok(Some(whole)),
-        None => packet_drawn(alloc, accepted, context, octets),
+        None => {
+            *page = None;
+            packet_drawn(alloc, accepted, context, octets)
+        }
     }
 }
 
@@ -88,11 +98,15 @@ fn packet_by_page(
     alloc: Global,
     accepted: &Accepted,
     context: &mut Context,
+    page: &mut Option<Page>,
     octets: &[u8],
 ) -> Result<Option<(Item, usize)>, AllocError>
+    requires { IfSome page.old (IsKeptBy accepted.now context.old) }
+    ensures kept { IfOk result (λ _. IfSome page.new (IsKeptBy accepted.now context.new)) }
     ensures some { IfOk result (λ o. IfSome o (λ whole. (whole.1 ≤ length octets.now) × IsTaken accepted.now context.old context.new (take whole.1 octets.now) whole.0)) }
     ensures none { IfOk result (λ o. IfNone o (context.new ≡ context.old)) }
 {
+    let last = page.take();
     if context.len() == 0 {
         return Ok(None);
     }
@@ -100,7 +114,7 @@ fn packet_by_page(
         return Ok(None);
     };
     let mut cursor = Cursor::new(&bits);
-    let Some(read) = read_page(alloc, accepted, context, &mut cursor)? else {
+    let Some(read) = read_page(alloc, accepted, context, &mut cursor, last)? else {
         return Ok(None);
     };
     let Some(over) = read.bits.checked_add(7) else {
@@ -110,13 +124,18 @@ fn packet_by_page(
     let Some(_own) = Bits::from_octets(alloc, &octets[..count], read.bits)? else {
         return Ok(None);
     };
-    let ReadPage { header, page, .. } = read;
-    let Some(asked) = asked_of(alloc, accepted, &page)? else {
+    let ReadPage {
+        header,
+        page: own,
+        ..
+    } = read;
+    let Some(asked) = asked_of(alloc, accepted, &own)? else {
         return Ok(None);
     };
-    if !goes_on(alloc, accepted, context, &page)? {
+    if !goes_on(alloc, accepted, context, &own)? {
         return Ok(None);
     }
+    *page = Some(own);
     Ok(Some((Item { header, asked }, count)))
 }
 
@@ -159,11 +178,14 @@ pub(crate) fn hear_whole(
     alloc: Global,
     accepted: &Accepted,
     contexts: &mut Vec<Context>,
+    pages: &mut Vec<Option<Page>>,
     octets: &[u8],
     out: &mut Vec<(Flow, Item)>,
 ) -> Result<Option<usize>, AllocError>
     requires some { 0 < length octets.now }
     requires flows { length contexts.old.items ≤ flow_limit }
+    requires kept { AreKeptBy accepted.now contexts.old.items pages.old.items }
+    ensures kept { AreKeptBy accepted.now contexts.new.items pages.new.items }
     ensures some { IfOk result (λ o. IfSome o (λ n. (found : Found) × (out.new.items ≡ out.old.items ++ found) × IsHeardWhole accepted.now contexts.old.items contexts.new.items octets.now n found)) }
     ensures none { IfOk result (λ o. IfNone o ((contexts.new.items ≡ contexts.old.items) × (out.new.items ≡ out.old.items))) }
     ensures flows { length contexts.new.items ≡ length contexts.old.items }
@@ -177,8 +199,12 @@ pub(crate) fn hear_whole(
     };
     let more = octets.len() - 1;
     let ahead = more.min(most_octets(accepted)).min(AHEAD_LIMIT);
-    let context = &mut contexts[usize::from(flow.number())];
-    match whole_packet(alloc, accepted, context, &octets[1..1 + ahead])? {
+    let place = usize::from(flow.number());
+    let mut page = take_page(pages, place);
+    let context = &mut contexts[place];
+    let heard = whole_packet(alloc, accepted, context, &mut page, &octets[1..1 + ahead])?;
+    keep_page(pages, place, page);
+    match heard {
         Some(whole) => {
             out.push((flow, whole.0))?;
             Ok(Some(whole.1 + 1))

@@ -13,15 +13,17 @@ use crate::unfinished::Unfinished;
 use cert_accepted::Accepted;
 use sem_context::Context;
 use sem_filling::Item;
+use sem_pages::Page;
 use std::alloc::{AllocError, Global};
 use std::marker::Model;
 
-/// The receiving end: it gives the item of each packet once its octets are there.
+/// The receiving end: it gives the item of each packet once its octets are there. Of each flow it keeps the last page, while the context is what that left.
 #[derive(Drop)]
 pub struct Receiver<'a> {
     alloc: Global,
     accepted: &'a Accepted,
     contexts: Vec<Context>,
+    pages: Vec<Option<Page>>,
     rest: Unfinished,
     fault: Option<LineFault>,
 }
@@ -30,6 +32,7 @@ impl<'a> Model for Receiver<'a> {
     ghost use Rattle.std.specs.Prelude.{◌≡◌, ◌≤◌, ◌^◌, length};
     ghost use Rattle.walk_line.specs.Hearing.{IsPart};
     ghost use Rattle.walk_line.specs.Lines.{flow_limit};
+    ghost use Rattle.walk_line.specs.Pages.{AreKeptBy};
     ghost use Rattle.walk_line.specs.States.{Receiving};
     ghost use Rattle.sem_expr.specs.contracts.expr.Expr as expr;
     ghost use Rattle.sem_expr.specs.contracts.expr.Cond as cond;
@@ -41,7 +44,7 @@ impl<'a> Model for Receiver<'a> {
 
     ghost view = { λ r. record { accepted = r.accepted.now; contexts = r.contexts.items; rest = r.rest; fault = r.fault } };
 
-    ghost invariant = { λ r. (length r.contexts.items ≤ flow_limit) × (length r.rest ≤ 2 ^ 20) × IsPart r.accepted.now r.contexts.items r.rest };
+    ghost invariant = { λ r. (length r.contexts.items ≤ flow_limit) × (length r.rest ≤ 2 ^ 20) × IsPart r.accepted.now r.contexts.items r.rest × AreKeptBy r.accepted.now r.contexts.items r.pages.items };
 }
 
 impl<'a> Receiver<'a> {
@@ -57,6 +60,7 @@ impl<'a> Receiver<'a> {
             alloc,
             accepted,
             contexts: no_contexts(alloc, version)?,
+            pages: Vec::new(alloc),
             rest: Unfinished::new(alloc),
             fault: None,
         })
@@ -127,7 +131,14 @@ impl<'a> Receiver<'a> {
         if !self.rest.is_empty() {
             return Ok(None);
         }
-        match hear_whole(self.alloc, self.accepted, &mut self.contexts, octets, out) {
+        match hear_whole(
+            self.alloc,
+            self.accepted,
+            &mut self.contexts,
+            &mut self.pages,
+            octets,
+            out,
+        ) {
             Ok(heard) => Ok(heard),
             Err(_) => {
                 self.fault = Some(LineFault::OutOfMemory);
@@ -142,6 +153,7 @@ impl<'a> Receiver<'a> {
         ensures ok { OnOk result ((found : Found) × (out.new.items ≡ out.old.items ++ found) × Hears self.old self.new (octet ∷ []) found) }
         ensures err { IfErr result (λ e. (out.new.items ≡ out.old.items) × FailsAt self.old self.new octet e) }
     {
+        self.pages.clear();
         match hear_octet(
             self.alloc,
             self.accepted,

@@ -1,10 +1,12 @@
 //! The sending end of a line.
 
-ghost use Rattle.std.specs.Prelude.{◌≡◌, ◌<◌, ◌≤◌, ◌+◌, ◌/◌, List, ℕ, false, ◌∷◌, ◌++◌, length, vec_len, vec_capacity, IfOk, IfErr, IsTrue, OnOk, OnErr};
+ghost use Rattle.std.specs.Prelude.{◌≡◌, ◌<◌, ◌≤◌, ◌+◌, ◌/◌, List, ℕ, false, ◌∷◌, ◌++◌, length, vec_len, vec_capacity, IfOk, IfErr, IfSome, IsTrue, OnOk, OnErr};
 ghost use Rattle.std.specs.Option.{SomeIff};
 ghost use Rattle.sem_bits.specs.Octets.{Holds};
 ghost use Rattle.walk_engine.specs.Writing as writing;
 ghost use Rattle.walk_line.specs.Lines.{no_entries};
+ghost use Rattle.walk_pages.specs.Kept.{IsKeptBy};
+ghost use Rattle.walk_engine.specs.Reading.{Fitting};
 ghost use Rattle.walk_line.specs.Lines.Act.{Send, Reset};
 ghost use Rattle.walk_line.specs.States.{IsNotPut, IsPut};
 ghost use Rattle.sem_filling.specs.declared.filling.Filling.{Filling};
@@ -13,28 +15,32 @@ ghost use Rattle.walk_engine.specs.Sending.{ShowsPacked};
 ghost use Rattle.walk_line.specs.Steps.{AddsPacket, IsPacked};
 
 use crate::flow::{FLOW_LIMIT, Flow, LineVersion, no_contexts};
+use crate::pages::{keep_page, take_page};
 use cert_accepted::Accepted;
 use sem_bits::Bits;
 use sem_context::Context;
 use sem_filling::{Item, advance};
+use sem_pages::Page;
 use std::alloc::{AllocError, Global};
 use std::marker::Model;
 use walk_engine::{PackFault, Packed, Sent, pack, pack_page};
 use walk_pages::{WrittenPage, goes_on};
 
-/// The sending end: it packs the items of each flow in the flow's context. Of each flow it keeps the format of the last page, by its index: the next item mostly goes
-/// by that.
+/// The sending end: it packs the items of each flow in the flow's context. Of each flow it keeps the format of the last page, by its index, and the page itself while
+/// the context is what that left: the next item mostly goes by them.
 #[derive(Drop)]
 pub struct Sender<'a> {
     alloc: Global,
     accepted: &'a Accepted,
     contexts: Vec<Context>,
     formats: [Option<usize>; FLOW_LIMIT as usize],
+    pages: Vec<Option<Page>>,
 }
 
 impl<'a> Model for Sender<'a> {
     ghost use Rattle.std.specs.Prelude.{◌≡◌, ◌≤◌, length};
     ghost use Rattle.walk_line.specs.Lines.{flow_limit};
+    ghost use Rattle.walk_line.specs.Pages.{AreKeptBy};
     ghost use Rattle.walk_line.specs.States.{Sending};
     ghost use Rattle.sem_expr.specs.contracts.expr.Expr as expr;
     ghost use Rattle.sem_expr.specs.contracts.expr.Cond as cond;
@@ -46,7 +52,7 @@ impl<'a> Model for Sender<'a> {
 
     ghost view = { λ s. record { accepted = s.accepted.now; contexts = s.contexts.items } };
 
-    ghost invariant = { λ s. length s.contexts.items ≤ flow_limit };
+    ghost invariant = { λ s. (length s.contexts.items ≤ flow_limit) × AreKeptBy s.accepted.now s.contexts.items s.pages.items };
 }
 
 impl<'a> Sender<'a> {
@@ -63,6 +69,7 @@ impl<'a> Sender<'a> {
             accepted,
             contexts: no_contexts(alloc, version)?,
             formats: [None; FLOW_LIMIT as usize],
+            pages: Vec::new(alloc),
         })
     }
 
@@ -77,9 +84,24 @@ impl<'a> Sender<'a> {
             return Err(PackFault::Flow);
         };
         let number = flow.number();
-        let last = &mut self.formats[usize::from(number)];
+        let mut last = Last {
+            format: self.formats[usize::from(number)],
+            page: take_page(&mut self.pages, place),
+        };
         let context = &mut self.contexts[place];
-        put_packet(self.alloc, self.accepted, context, number, item, last, out)
+        let put = put_packet(
+            self.alloc,
+            self.accepted,
+            context,
+            number,
+            item,
+            &mut last,
+            out,
+        );
+        let Last { format, page } = last;
+        self.formats[usize::from(number)] = format;
+        keep_page(&mut self.pages, place, page);
+        put
     }
 
     /// Empties the flow's context, and adds the reset's octet to the octets. It is refused where the line has no such flow, or
@@ -96,6 +118,7 @@ impl<'a> Sender<'a> {
             Ok(()) => {}
             Err(_) => return Err(PackFault::OutOfMemory),
         }
+        let _page = take_page(&mut self.pages, at);
         self.contexts[at] = Context::new(self.alloc);
         Ok(())
     }
@@ -113,29 +136,41 @@ impl<'a> Sender<'a> {
     }
 }
 
-/// Adds the packet of an item to the octets, after the flow's octet, and moves the context on. A refusal changes neither. Where a page is written, its format is the
-/// last one then.
+/// What a flow keeps of its last page: its format, by its index, and the page itself, while the context is what that left.
+#[derive(Drop)]
+struct Last {
+    format: Option<usize>,
+    page: Option<Page>,
+}
+
+/// Adds the packet of an item to the octets, after the flow's octet, and moves the context on. A refusal changes neither. Where a page is written, it is the last one
+/// then.
 fn put_packet(
     alloc: Global,
     accepted: &Accepted,
     context: &mut Context,
     flow: u8,
     item: &Item,
-    last: &mut Option<usize>,
+    last: &mut Last,
     out: &mut Vec<u8>,
 ) -> Result<(), PackFault>
+    requires { IfSome last.old.page (IsKeptBy accepted.now context.old) }
     ensures ok { OnOk result (IsPacked accepted.now context.old context.new flow item.now out.old.items out.new.items) }
     ensures err { OnErr result ((context.new ≡ context.old) × (out.new.items ≡ out.old.items)) }
     ensures fault { IfErr result (λ e. writing.Blames e accepted.now context.old item.now) }
+    ensures kept { IfSome last.new.page (IsKeptBy accepted.now context.new) }
 {
+    let page = last.page.take();
     // In an empty context no page tells what is left in it.
     if context.len() == 0 {
         return put_best(alloc, accepted, context, flow, item, out);
     }
-    match pack_page(alloc, accepted, context, item, *last) {
+    match pack_page(alloc, accepted, context, item, last.format, page) {
         Ok(Sent::Page(written)) => {
             if put_page(alloc, accepted, context, flow, &written, out)? {
-                *last = Some(written.page.format);
+                let WrittenPage { page, .. } = written;
+                last.format = Some(page.format);
+                last.page = Some(page);
                 return Ok(());
             }
             put_best(alloc, accepted, context, flow, item, out)
@@ -182,6 +217,7 @@ fn put_page(
     out: &mut Vec<u8>,
 ) -> Result<bool, AllocError>
     ensures ok { IfOk result (λ is. IsTrue is → (f : Filling) → ShowsPacked accepted.now f written.now → AddsPacket context.old context.new flow f out.old.items out.new.items) }
+    ensures kept { IfOk result (λ is. IsTrue is → (f : Filling) → Fitting accepted.now context.old f → ShowsPacked accepted.now f written.now → IsKeptBy accepted.now context.new written.now.page) }
     ensures stays { IfOk result (λ is. is ≡ false → (context.new ≡ context.old) × (out.new.items ≡ out.old.items)) }
     ensures err { OnErr result ((context.new ≡ context.old) × (out.new.items ≡ out.old.items)) }
 {

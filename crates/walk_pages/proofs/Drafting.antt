@@ -40,7 +40,7 @@ use Rattle.walk_pages.specs.Drafts.{BeginsWith, GoesOn, HasValue, IsCalled, IsPu
 
 -- ---- the start
 
-not_whole : (s : Shown) (u c : List Bool) → blank ≡ s → IsWhole s u c → ⊥
+pub not_whole : (s : Shown) (u c : List Bool) → blank ≡ s → IsWhole s u c → ⊥
 not_whole s u c is whole =
     let out : (out-Shown blank).uncompressed ≡ None = ap (λ x. x.uncompressed) (out-roll-Shown record { uncompressed = None; compressed = None; inner = None }) in
     let wrong : None ≡ Some u = sym out ∙ ap (λ x. (out-Shown x).uncompressed) is ∙ whole.uncompressed_is in
@@ -86,10 +86,10 @@ goes_trans frame old mid new one other = record {
 }
 
 -- where no field is read or solved
-pub ahead_goes : (frame : PageFrame) (old new : Draft) → new.format.now ≡ old.format.now → new.arguments.now ≡ old.arguments.now → new.fields.items ≡ old.fields.items → new.solved.items ≡ old.solved.items → new.told.prepared.now ≡ old.told.prepared.now → GoesOn frame old new
+pub ahead_goes : (frame : PageFrame) (old new : Draft) → new.format.now ≡ old.format.now → new.arguments.now ≡ old.arguments.now → new.fields ≡ old.fields → new.solved.items ≡ old.solved.items → new.told.prepared.now ≡ old.told.prepared.now → GoesOn frame old new
 ahead_goes frame old new format_is arguments_are fields_are solved_are prepared_is = record {
   right = λ r. record {
-    read = moved frame.methods.now (bits_at frame.context.now) frame.path.now old.format.now new.format.now old.fields.items new.fields.items old.arguments.now new.arguments.now old.solved.items new.solved.items
+    read = moved frame.methods.now (bits_at frame.context.now) frame.path.now old.format.now new.format.now old.fields new.fields old.arguments.now new.arguments.now old.solved.items new.solved.items
         format_is fields_are arguments_are solved_are r.read;
     prepared = prepared_moved old.format.now new.format.now old.told.prepared.now new.told.prepared.now format_is prepared_is r.prepared;
   };
@@ -104,7 +104,7 @@ pub put_goes : (frame : PageFrame) (i : ℕ) (t : Shown) (old new : Draft) → I
     → (IsPrepared old.format.now old.told.prepared.now → (d : Field) (u c : List Bool) → slice_get old.format.now.fields i ≡ Some d → IsWhole t u c → FitsOn frame.methods.now (bits_at frame.context.now) frame.path.now (seen_of old) d t) → GoesOn frame old new
 put_goes frame i t old new put fits = record {
   right = λ r. record {
-    read = moved frame.methods.now (bits_at frame.context.now) frame.path.now old.format.now new.format.now (slice_set old.fields.items i t) new.fields.items old.arguments.now new.arguments.now old.solved.items new.solved.items
+    read = moved frame.methods.now (bits_at frame.context.now) frame.path.now old.format.now new.format.now (slice_set old.fields i t) new.fields old.arguments.now new.arguments.now old.solved.items new.solved.items
         put.same.format_is put.fields_are put.same.arguments_are put.solved_are
         (set_read (seen_of old) i put.before t put.before_is (nothing_keeps put.before t put.not_up put.not_down) frame.methods.now (bits_at frame.context.now) frame.path.now old.format.now old.solved.items (fits r.prepared) r.read);
     prepared = prepared_moved old.format.now new.format.now old.told.prepared.now new.told.prepared.now put.same.format_is put.same.prepared_is r.prepared;
@@ -162,11 +162,11 @@ last_or (x ∷ xs) j k (suc n) at P old new = last_or xs j k n at P (λ m here. 
 
 -- what was solved
 pub solved_goes : (frame : PageFrame) (i j : ℕ) (e : Expr) (bits : List Bool) (n : ℕ) (old mid new : Draft) → GoesOn frame old mid → HasValue i bits old mid → num bits ≡ n → val (numbers_seen (seen_of old)) e ≡ Some (pos n)
-    → new.format.now ≡ mid.format.now → new.arguments.now ≡ mid.arguments.now → new.fields.items ≡ mid.fields.items → new.solved.items ≡ mid.solved.items ++ j ∷ [] → new.told.prepared.now ≡ mid.told.prepared.now → IsSolved frame i j e old new
+    → new.format.now ≡ mid.format.now → new.arguments.now ≡ mid.arguments.now → new.fields ≡ mid.fields → new.solved.items ≡ mid.solved.items ++ j ∷ [] → new.told.prepared.now ≡ mid.told.prepared.now → IsSolved frame i j e old new
 solved_goes frame i j e bits n old mid new one has spelled value format_is arguments_are fields_are solved_are prepared_is constraint there given =
     record {
       right = λ r. record {
-        read = moved frame.methods.now (bits_at frame.context.now) frame.path.now mid.format.now new.format.now mid.fields.items new.fields.items mid.arguments.now new.arguments.now (mid.solved.items ++ j ∷ []) new.solved.items
+        read = moved frame.methods.now (bits_at frame.context.now) frame.path.now mid.format.now new.format.now mid.fields new.fields mid.arguments.now new.arguments.now (mid.solved.items ++ j ∷ []) new.solved.items
             format_is fields_are arguments_are solved_are (with_one (one.right r).read);
         prepared = prepared_moved mid.format.now new.format.now mid.told.prepared.now new.told.prepared.now format_is prepared_is (one.right r).prepared;
       };
@@ -178,8 +178,8 @@ solved_goes frame i j e bits n old mid new one has spelled value format_is argum
     here_set (z ∷ xs) zero x y at = refl
     here_set (z ∷ xs) (suc k) x y at = here_set xs k x y at
 
-    set_side : shown_side (slice_get (slice_set old.fields.items i has.after) i) Uncompressed ≡ Some bits
-    set_side = ap (λ s. shown_side s Uncompressed) (here_set old.fields.items i has.put.before has.after has.put.before_is) ∙ has.plain.sides_are.uncompressed_is
+    set_side : shown_side (slice_get (slice_set old.fields i has.after) i) Uncompressed ≡ Some bits
+    set_side = ap (λ s. shown_side s Uncompressed) (here_set old.fields i has.put.before has.after has.put.before_is) ∙ has.plain.sides_are.uncompressed_is
 
     moved_side : (x : Subject) (side : Side) (b : List Bool) → seen_side (seen_with (seen_of old) i has.after) x side ≡ Some b → seen_side (seen_of mid) x side ≡ Some b
     moved_side (subject.Field k) side b at = ap (λ ss. shown_side (slice_get ss k) side) has.put.fields_are ∙ at

@@ -111,7 +111,7 @@ end_less ss args w l bears = record { arguments_are = bears.arguments_are; sides
 
 pub page_ended : (frame : PageFrame) (d : Draft) (index : ℕ) (p : Page) (w : WholeSides) (ss : List Shown) → IsRight frame d → format_at frame.methods.now frame.method index ≡ Some d.format.now → d.arguments.now ≡ frame.arguments.now
     → (out-Page p).format ≡ index → (out-Page p).fields ≡ ss
-    → AreEnded d.format.now d.arguments.now w.header d.fields.items ss → w.header ≡ header_bits (level_by d.format.now.fields d.fields.items) → w.packed ≡ packed_bits d.format.now.listing (level_by d.format.now.fields ss)
+    → AreEnded d.format.now d.arguments.now w.header d.fields ss → w.header ≡ header_bits (level_by d.format.now.fields d.fields) → w.packed ≡ packed_bits d.format.now.listing (level_by d.format.now.fields ss)
     → ((i : ℕ) (s : Shown) → slice_get ss i ≡ Some s → IsUnsent d.format.now.listing i s)
     → AreSettled (seen_at_end ss d.arguments.now w) d.format.now d.solved.items
     → IsPageOf frame.methods.now (bits_at frame.context.now) frame.method frame.arguments.now frame.path.now p w.header w.packed
@@ -121,7 +121,7 @@ page_ended frame d index p w ss right at args_are index_is fields_are ended head
     let path = frame.path.now in
     let args = d.arguments.now in
     let format = d.format.now in
-    let begun = more_read methods ctx path format (seen_in d.fields.items args) (seen_with_header d.fields.items args w.header) d.solved.items refl (header_less d.fields.items args w.header) right.read in
+    let begun = more_read methods ctx path format (seen_in d.fields args) (seen_with_header d.fields args w.header) d.solved.items refl (header_less d.fields args w.header) right.read in
     let read = more_read methods ctx path format (seen_with_header ss args w.header) (seen_at_end ss args w) d.solved.items refl (end_less ss args w) (ended.read methods ctx path d.solved.items begun) in
     let encoded = encoded_hold methods ctx path format (seen_at_end ss args w) d.solved.items read (λ i s here. let u = unsent i s here in (u.uncompressed, u.compressed, u.sides_are)) in
     subst (λ xs. IsPageOf methods ctx frame.method xs path p w.header w.packed) args_are

@@ -3,3 +3,4 @@ pub mod Drafting
 pub mod Ending
 pub mod NumbersShown
 pub mod Telling
+mod Leaving

@@ -33,7 +33,7 @@ BeginsWith (Some b) s = IsPlain s b.uncompressed b.compressed
 
 -- what is seen of it
 abbrev pub seen_of : Draft → Seen
-seen_of d = seen_in d.fields.items d.arguments.now
+seen_of d = seen_in d.fields d.arguments.now
 
 -- each field that is read fits its encoding in the frame, and each constraint that is solved holds; and what is prepared is of the format
 pub record IsRight (frame : PageFrame) (d : Draft) : Type 0 where
@@ -53,10 +53,10 @@ pub record IsSame (old new : Draft) : Type 0 where
 -- Of a field nothing was read, and this stands there now; nothing else is read or solved.
 pub record IsPut (i : ℕ) (after : Shown) (old new : Draft) : Type 0 where
   pub before : Shown
-  pub before_is : slice_get old.fields.items i ≡ Some before
+  pub before_is : slice_get old.fields i ≡ Some before
   pub not_up : (out-Shown before).uncompressed ≡ None
   pub not_down : (out-Shown before).compressed ≡ None
-  pub fields_are : new.fields.items ≡ slice_set old.fields.items i after
+  pub fields_are : new.fields ≡ slice_set old.fields i after
   pub solved_are : new.solved.items ≡ old.solved.items
   pub same : IsSame old new
 

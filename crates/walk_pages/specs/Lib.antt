@@ -2,3 +2,4 @@ pub mod Drafts
 pub mod Reader
 pub mod Writer
 pub mod Picks
+pub mod Kept

@@ -1,13 +1,19 @@
 //! A level that is being read.
 
-ghost use Rattle.std.specs.Prelude.{◌≡◌, IfOk, IfSome, IsTrue, None, length};
+ghost use Rattle.std.specs.Prelude.{◌≡◌, IfOk, IfSome, IsTrue, None, Some, length, slice_get};
+ghost use Rattle.sem_context.specs.Entries.{bits_at};
+ghost use Rattle.sem_filling.specs.Fits.{format_at};
+ghost use Rattle.sem_profile.specs.declared.profile.Field as normal;
 ghost use Rattle.sem_profile.specs.declared.profile.Encoding.TheVariants as encoding;
 ghost use Rattle.sem_pages.specs.declared.page.Shown.{out-Shown};
+ghost use Rattle.sem_pages.specs.declared.page.Shown as page;
 ghost use Rattle.sem_pages.specs.declared.frame.PageFrame.{PageFrame};
 ghost use Rattle.sem_pages.specs.Pages.{IsPlain};
 ghost use Rattle.sem_pages.specs.Made.{AreMade};
 ghost use Rattle.sem_pages.specs.Prepared.{IsPrepared};
+ghost use Rattle.sem_pages.specs.Steady.{AreKept, IsSteady};
 ghost use Rattle.walk_pages.specs.Drafts as spec;
+ghost use Rattle.walk_pages.specs.Kept.{AreLeft, IsKeptIn};
 
 use crate::choices::Choices;
 use cert_compiled::{Length, PageOperation};
@@ -16,11 +22,12 @@ use sem_bits::{Bits, Cursor};
 use sem_expr::{Expr, Side};
 use sem_filling::WholeSides;
 use sem_pages::{
-    BothSides, Page, PageFrame, Prepared, Shown, Source, View, Word, coded, encoded, natural, value,
+    BothSides, Page, PageFrame, Prepared, Shown, Source, View, Word, coded, encoded, is_steady,
+    natural, value,
 };
-use sem_profile::{Constraint, Encoding, Field, Format, Library};
+use sem_profile::{Constraint, Encoding, Field, Format, Library, Method};
 use smallvec::SmallVec;
-use sqlite_items::at;
+use sqlite_items::{Items, at};
 use std::alloc::{AllocError, Global};
 
 /// A level that is being read: its format, what that tells of it, the values of the parameters, the fields so far, how many places after the cursor's what is
@@ -30,7 +37,7 @@ pub(crate) struct Draft<'a> {
     pub(crate) format: &'a Format,
     pub(crate) told: Told<'a>,
     pub(crate) arguments: &'a [i64],
-    pub(crate) fields: Vec<Shown>,
+    pub(crate) fields: Items<Shown>,
     pub(crate) ahead: usize,
     pub(crate) solved: SmallVec<usize, 4>,
     pub(crate) choices: Choices,
@@ -88,6 +95,56 @@ impl<'a> Draft<'a> {
         })
     }
 
+    /// Of the format what is steady of these fields, which a page of it shows, is read.
+    #[inline(always)]
+    pub(crate) fn again(
+        alloc: Global,
+        format: &'a Format,
+        told: Told<'a>,
+        frame: &PageFrame<'a>,
+        from: usize,
+        fields: Items<Shown>,
+    ) -> Draft<'a>
+        requires prepared { IsPrepared format.now told.prepared.now }
+        requires count { length fields ≡ length format.now.fields }
+        requires kept { AreKept frame.now.methods.now (bits_at frame.now.context.now) frame.now.path.now format.now fields }
+        ensures { spec.IsRight frame.now result × (result.format.now ≡ format.now) × (result.arguments.now ≡ frame.now.arguments.now) × (result.told.prepared.now ≡ told.entry.prepared.now) }
+    {
+        let mut fields = fields;
+        leave_steady(frame.methods, format.fields.as_slice(), &mut fields);
+        Draft {
+            format,
+            told,
+            arguments: frame.arguments,
+            fields,
+            ahead: from,
+            solved: SmallVec::new(alloc),
+            choices: Choices::NONE,
+        }
+    }
+
+    /// Of the format what is steady of the last page is read, if that is one of the format, by its index; else the constants.
+    #[inline(always)]
+    pub(crate) fn after(
+        alloc: Global,
+        index: usize,
+        format: &'a Format,
+        told: Told<'a>,
+        frame: &PageFrame<'a>,
+        from: usize,
+        last: Option<Page>,
+    ) -> Result<Draft<'a>, AllocError>
+        requires prepared { IsPrepared format.now told.prepared.now }
+        requires format { format_at frame.now.methods.now frame.now.method index ≡ Some format.now }
+        requires kept { IfSome last (IsKeptIn frame.now) }
+        ensures { IfOk result (λ d. spec.IsRight frame.now d × (d.format.now ≡ format.now) × (d.arguments.now ≡ frame.now.arguments.now) × (d.told.prepared.now ≡ told.entry.prepared.now)) }
+    {
+        match fields_of(last, index, format) {
+            Some(fields) => Ok(Draft::again(alloc, format, told, frame, from, fields)),
+            None => Draft::new(alloc, format, told, frame, from),
+        }
+    }
+
     /// What is seen of it.
     #[inline(always)]
     pub(crate) fn view(&self) -> View<'_>
@@ -139,10 +196,13 @@ impl<'a> Draft<'a> {
     pub(crate) fn put(&mut self, field: usize, shown: Shown) -> bool
         ensures { IsTrue result → spec.IsPut field shown self.old self.new }
     {
-        if field >= self.fields.len() || !is_blank(&self.fields[field]) {
+        let Some(before) = self.fields.get(field) else {
+            return false;
+        };
+        if !is_blank(before) {
             return false;
         }
-        self.fields[field] = shown;
+        self.fields.set(field, shown);
         true
     }
 
@@ -158,6 +218,10 @@ impl<'a> Draft<'a> {
     ) -> Result<bool, AllocError>
         ensures { IfOk result (λ b. IsTrue b → spec.GoesOn frame.now self.old self.new) }
     {
+        if let Some(count) = self.packed_count(field) {
+            self.pass(takes, count);
+            return Ok(true);
+        }
         let Some(declared) = self.format.fields.get(field) else {
             return Ok(false);
         };
@@ -268,6 +332,26 @@ impl<'a> Draft<'a> {
         }
     }
 
+    /// Passes the field, which is read, where the source has its uncompressed side next if it takes that. Whether it is so. None where it isn't read.
+    #[inline(always)]
+    pub(crate) fn pass_up(&mut self, field: usize, takes: bool, cursor: &Cursor<'_>) -> Option<bool>
+        ensures { (frame : PageFrame) → spec.GoesOn frame self.old self.new }
+    {
+        let up = at(self.fields.as_slice(), field)?.uncompressed?;
+        if takes {
+            let source = Source {
+                cursor,
+                ahead: self.ahead,
+            };
+            let next = source.word(up.len())?;
+            if !next.is(&up) {
+                return Some(false);
+            }
+            self.pass(true, up.len());
+        }
+        Some(true)
+    }
+
     /// Takes the bits of a checksum.
     fn sum(&mut self, field: usize, cursor: &Cursor<'_>) -> bool
         ensures { (frame : PageFrame) → IsTrue result → spec.GoesOn frame self.old self.new }
@@ -330,7 +414,9 @@ impl<'a> Draft<'a> {
         }
     }
 
-    fn packed_count(&self, field: usize) -> Option<usize> {
+    /// How many packed bits the field has, once they are read.
+    #[inline(always)]
+    pub(crate) fn packed_count(&self, field: usize) -> Option<usize> {
         match &at(self.fields.as_slice(), field)?.compressed {
             Some(word) => Some(word.len()),
             None => None,
@@ -411,8 +497,8 @@ impl<'a> Draft<'a> {
 
 /// A level of which the constants alone are read.
 #[inline(always)]
-fn begun(alloc: Global, constants: &[Option<BothSides>]) -> Result<Vec<Shown>, AllocError>
-    ensures { IfOk result (λ v. AreMade spec.BeginsWith constants.now v.items (length constants.now)) }
+fn begun(alloc: Global, constants: &[Option<BothSides>]) -> Result<Items<Shown>, AllocError>
+    ensures { IfOk result (λ v. AreMade spec.BeginsWith constants.now v (length constants.now)) }
 {
     let mut fields = Vec::with_capacity(alloc, constants.len())?;
     for i in 0..constants.len() {
@@ -421,7 +507,46 @@ fn begun(alloc: Global, constants: &[Option<BothSides>]) -> Result<Vec<Shown>, A
             None => fields.push(blank())?,
         }
     }
-    Ok(fields)
+    Ok(Items::from_vec(fields))
+}
+
+/// The fields of the page, if it is of that format.
+#[inline(always)]
+fn fields_of(last: Option<Page>, index: usize, format: &Format) -> Option<Items<Shown>>
+    ensures { IfSome result (λ fields. (length fields ≡ length format.now.fields) × ((frame : PageFrame) → IfSome last (IsKeptIn frame) → format_at frame.methods.now frame.method index ≡ Some format.now → AreKept frame.methods.now (bits_at frame.context.now) frame.path.now format.now fields)) }
+{
+    let page = last?;
+    if page.format != index || page.fields.len() != format.fields.len() {
+        return None;
+    }
+    let Page { fields, .. } = page;
+    Some(fields)
+}
+
+/// Leaves what is steady of the fields, and makes the others blank.
+#[inline(always)]
+fn leave_steady(methods: &[Method], fields: &[Field], shown: &mut Items<Shown>)
+    ensures { AreLeft methods.now fields.now shown.old shown.new }
+{
+    for i in 0..shown.len() {
+        if !is_steady_at(methods, fields, shown.as_slice(), i) {
+            shown.set(i, blank());
+        }
+    }
+}
+
+/// Whether that of this index is steady.
+#[inline(always)]
+fn is_steady_at(methods: &[Method], fields: &[Field], shown: &[Shown], index: usize) -> bool
+    ensures { IsTrue result → (d : normal.Field) (s : page.Shown) → slice_get fields.now index ≡ Some d → slice_get shown.now index ≡ Some s → IsSteady methods.now d s }
+{
+    let Some(field) = at(fields, index) else {
+        return false;
+    };
+    let Some(shown) = at(shown, index) else {
+        return false;
+    };
+    is_steady(methods, field, shown)
 }
 
 /// A field of which nothing is read.

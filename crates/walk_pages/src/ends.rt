@@ -95,7 +95,7 @@ fn ended_with(
     requires format { format_at frame.now.methods.now frame.now.method index ≡ Some draft.format.now }
     requires arguments { draft.arguments.now ≡ frame.now.arguments.now }
     requires prepared { IsPrepared draft.format.now draft.told.prepared.now }
-    requires header { header.now ≡ header_bits (level_by draft.format.now.fields draft.fields.items) }
+    requires header { header.now ≡ header_bits (level_by draft.format.now.fields draft.fields) }
     ensures { IfOk result (λ o. IfSome o (spec.IsPackedPage frame.now header.now)) }
 {
     let Draft {
@@ -124,7 +124,7 @@ fn ended_with(
     Ok(Some(PackedPage {
         page: Page {
             format: index,
-            fields: Items::from_vec(fields),
+            fields,
         },
         packed,
     }))
@@ -193,14 +193,14 @@ fn end_sums(
     alloc: Global,
     format: &Format,
     arguments: &[i64],
-    fields: &mut Vec<Shown>,
+    fields: &mut Items<Shown>,
     header: &Bits,
 ) -> Result<bool, AllocError>
-    ensures { IfOk result (λ b. IsTrue b → spec.AreEnded format.now arguments.now header.now fields.old.items fields.new.items) }
+    ensures { IfOk result (λ b. IsTrue b → spec.AreEnded format.now arguments.now header.now fields.old fields.new) }
 {
     for i in 0..fields.len() {
         // Most fields are no checksums, for which nothing has to be called.
-        if fields[i].uncompressed.is_some() {
+        if is_up(fields.as_slice(), i) {
             continue;
         }
         if !is_ended(alloc, format, arguments, fields, header, i)? {
@@ -210,17 +210,26 @@ fn end_sums(
     Ok(true)
 }
 
+/// Whether the uncompressed side of the field is there.
+#[inline(always)]
+fn is_up(fields: &[Shown], index: usize) -> bool {
+    match at(fields, index) {
+        Some(shown) => shown.uncompressed.is_some(),
+        None => false,
+    }
+}
+
 /// The same of one field.
 #[inline(never)]
 fn is_ended(
     alloc: Global,
     format: &Format,
     arguments: &[i64],
-    fields: &mut Vec<Shown>,
+    fields: &mut Items<Shown>,
     header: &Bits,
     index: usize,
 ) -> Result<bool, AllocError>
-    ensures { IfOk result (λ b. IsTrue b → spec.AreEnded format.now arguments.now header.now fields.old.items fields.new.items) }
+    ensures { IfOk result (λ b. IsTrue b → spec.AreEnded format.now arguments.now header.now fields.old fields.new) }
 {
     let Some(shown) = fields.get(index) else {
         return Ok(false);
@@ -235,14 +244,15 @@ fn is_ended(
     let Some(sum) = sum_of(alloc, &view, field)? else {
         return Ok(false);
     };
-    if !is_sum(&fields[index], &sum) {
+    if !is_sum(shown, &sum) {
         return Ok(false);
     }
-    fields[index] = Shown {
+    let ended = Shown {
         uncompressed: Some(Word::new()),
         compressed: Some(sum),
         inner: None,
     };
+    fields.set(index, ended);
     Ok(true)
 }
 

@@ -2,6 +2,7 @@
 
 ghost use Rattle.std.specs.Prelude.{◌≡◌, IfOk, IfSome, IsTrue};
 ghost use Rattle.walk_pages.specs.Drafts as spec;
+ghost use Rattle.walk_pages.specs.Kept.{IsKeptIn};
 
 use crate::draft::{Draft, Inside, WholePage};
 use crate::ends::ended;
@@ -10,8 +11,8 @@ use cert_accepted::Accepted;
 use cert_compiled::PageOperation;
 use sem_bits::{Bits, Cursor};
 use sem_filling::FieldPath;
-use sem_pages::{PageFrame, add_values};
-use sem_profile::Encoding;
+use sem_pages::{Page, PageFrame, add_values};
+use sem_profile::{DEPTH_LIMIT, Encoding};
 use smallvec::SmallVec;
 use std::alloc::{AllocError, Global};
 
@@ -40,6 +41,39 @@ pub(crate) fn read_method(
     ended(alloc, frame, start.index, draft)
 }
 
+/// The page of the top whose packed bits begin at the cursor's place, where that is told. What is steady of the last page is taken from that, where it is of the
+/// same format.
+pub(crate) fn read_top(
+    alloc: Global,
+    accepted: &Accepted,
+    frame: &PageFrame<'_>,
+    cursor: &Cursor<'_>,
+    last: Option<Page>,
+) -> Result<Option<WholePage>, AllocError>
+    requires methods { frame.now.methods.now ≡ accepted.now.profile.methods }
+    requires kept { IfSome last (IsKeptIn frame.now) }
+    ensures { IfOk result (λ o. IfSome o (spec.IsWholePage frame.now)) }
+{
+    let Some(start) = picked(alloc, accepted, frame, cursor, 0)? else {
+        return Ok(None);
+    };
+    let mut draft = Draft::after(alloc, start.index, start.format, start.told, frame, 0, last)?;
+    for operation in start.operations {
+        if !step(
+            DEPTH_LIMIT,
+            alloc,
+            accepted,
+            frame,
+            &mut draft,
+            operation,
+            cursor,
+        )? {
+            return Ok(None);
+        }
+    }
+    ended(alloc, frame, start.index, draft)
+}
+
 /// Does what an operation says. Whether that is done.
 #[cycle(reading)]
 #[inline(always)]
@@ -61,6 +95,10 @@ fn step(
                 field: *field,
                 takes: *takes,
             };
+            if let Some(count) = draft.packed_count(*field) {
+                draft.pass(*takes, count);
+                return Ok(true);
+            }
             call(depth, alloc, accepted, frame, draft, inside, cursor)
         }
         _ => draft.operation(alloc, frame, operation, cursor),

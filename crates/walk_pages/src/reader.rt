@@ -5,17 +5,18 @@ ghost use Rattle.sem_context.specs.Entries.{bits_at};
 ghost use Rattle.sem_filling.specs.declared.filling.Filling as filling;
 ghost use Rattle.sem_filling.specs.Entries.{next};
 ghost use Rattle.sem_filling.specs.Fillings.{asked_values, level};
+ghost use Rattle.sem_filling.specs.Fronts.{FitsTop};
 ghost use Rattle.sem_pages.specs.Pages.{IsPageOf, Shows};
+ghost use Rattle.walk_pages.specs.Kept.{IsKeptBy};
 ghost use Rattle.walk_pages.specs.Reader as spec;
 
 use crate::draft::WholePage;
-use crate::methods::read_method;
+use crate::methods::read_top;
 use cert_accepted::Accepted;
 use sem_bits::{Bits, Cursor};
 use sem_context::Context;
 use sem_filling::{AskedValue, WholeSides};
 use sem_pages::{Page, PageFrame, advance, asked_values};
-use sem_profile::DEPTH_LIMIT;
 use sqlite_items::{Items, at};
 use std::alloc::{AllocError, Global};
 
@@ -27,18 +28,21 @@ pub struct ReadPage {
     pub bits: usize,
 }
 
-/// Reads the page whose packed bits are at the cursor's place, where that is told at once. Else the cursor stays, though a filling may be there.
+/// Reads the page whose packed bits are at the cursor's place, where that is told at once. Else the cursor stays, though a filling may be there. What is steady of
+/// the last page, which the context keeps, is taken from that where the format is the same; no answer hangs on it.
 pub fn read_page(
     alloc: Global,
     accepted: &Accepted,
     context: &Context,
     cursor: &mut Cursor<'_>,
+    last: Option<Page>,
 ) -> Result<Option<ReadPage>, AllocError>
+    requires { IfSome last (IsKeptBy accepted.now context.now) }
     ensures read { IfOk result (λ o. IfSome o (spec.IsRead accepted.now context.now cursor.old cursor.new)) }
     ensures none { IfOk result (λ o. IfNone o (cursor.new ≡ cursor.old)) }
     ensures stays { OnErr result (cursor.new ≡ cursor.old) }
 {
-    let Some(found) = top_page(alloc, accepted, context, cursor)? else {
+    let Some(found) = top_page(alloc, accepted, context, cursor, last)? else {
         return Ok(None);
     };
     let WholePage { page, whole } = found;
@@ -60,7 +64,9 @@ fn top_page(
     accepted: &Accepted,
     context: &Context,
     cursor: &Cursor<'_>,
+    last: Option<Page>,
 ) -> Result<Option<WholePage>, AllocError>
+    requires { IfSome last (IsKeptBy accepted.now context.now) }
     ensures { IfOk result (λ o. IfSome o (λ w. IsPageOf accepted.now.profile.methods (bits_at context.now) accepted.now.profile.top [] [] w.page w.whole.header w.whole.packed)) }
 {
     let profile = accepted.profile();
@@ -75,7 +81,7 @@ fn top_page(
         path: "",
         first: 0,
     };
-    read_method(DEPTH_LIMIT, alloc, accepted, &frame, cursor, 0)
+    read_top(alloc, accepted, &frame, cursor, last)
 }
 
 /// The least count of packed bits of the method, by its bounds.
@@ -106,9 +112,11 @@ pub fn goes_on(
     page: &Page,
 ) -> Result<bool, AllocError>
     ensures ok { IfOk result (λ is. IsTrue is → (f : filling.Filling) → Shows accepted.now.profile.methods accepted.now.profile.top page.now f → context.new ≡ next context.old f) }
+    ensures kept { IfOk result (λ is. IsTrue is → (f : filling.Filling) → FitsTop accepted.now.profile.methods accepted.now.profile.top (bits_at context.old) f → Shows accepted.now.profile.methods accepted.now.profile.top page.now f → IsKeptBy accepted.now context.new page.now) }
     ensures stays { IfOk result (λ is. is ≡ false → context.new ≡ context.old) }
     ensures err { OnErr result (context.new ≡ context.old) }
 {
     let profile = accepted.profile();
-    advance(alloc, context, profile.methods(), profile.top(), page)
+    let is = advance(alloc, context, profile.methods(), profile.top(), page)?;
+    Ok(is)
 }

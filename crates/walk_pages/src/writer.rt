@@ -1,6 +1,7 @@
 //! What is written by a page.
 
 ghost use Rattle.std.specs.Prelude.{IfOk, IfSome};
+ghost use Rattle.walk_pages.specs.Kept.{IsKeptBy};
 ghost use Rattle.walk_pages.specs.Writer as spec;
 
 use crate::draft::PackedPage;
@@ -30,21 +31,30 @@ pub fn write_page(
 ) -> Result<Option<WrittenPage>, AllocError>
     ensures { IfOk result (λ o. IfSome o (spec.IsWritten accepted.now context.now item.now)) }
 {
-    write(alloc, accepted, context, item, Target::Candidate(number))
+    write(
+        alloc,
+        accepted,
+        context,
+        item,
+        Target::Candidate(number),
+        None,
+    )
 }
 
 /// The same in the format of the top with this index, where each call goes to the first format that its arguments leave. It isn't promised that the page is of that
-/// format.
+/// format. What is steady of the last page, which the context keeps, is taken from that where the format is the same.
 pub fn write_format(
     alloc: Global,
     accepted: &Accepted,
     context: &Context,
     item: &Item,
     format: usize,
+    last: Option<Page>,
 ) -> Result<Option<WrittenPage>, AllocError>
+    requires { IfSome last (IsKeptBy accepted.now context.now) }
     ensures { IfOk result (λ o. IfSome o (spec.IsWritten accepted.now context.now item.now)) }
 {
-    write(alloc, accepted, context, item, Target::Format(format))
+    write(alloc, accepted, context, item, Target::Format(format), last)
 }
 
 #[inline(always)]
@@ -54,10 +64,12 @@ fn write(
     context: &Context,
     item: &Item,
     target: Target,
+    last: Option<Page>,
 ) -> Result<Option<WrittenPage>, AllocError>
+    requires { IfSome last (IsKeptBy accepted.now context.now) }
     ensures { IfOk result (λ o. IfSome o (spec.IsWritten accepted.now context.now item.now)) }
 {
-    let Some(found) = top_page(alloc, accepted, context, item, target)? else {
+    let Some(found) = top_page(alloc, accepted, context, item, target, last)? else {
         return Ok(None);
     };
     let PackedPage { page, packed } = found;
@@ -81,7 +93,9 @@ fn top_page(
     context: &Context,
     item: &Item,
     target: Target,
+    last: Option<Page>,
 ) -> Result<Option<PackedPage>, AllocError>
+    requires { IfSome last (IsKeptBy accepted.now context.now) }
     ensures { IfOk result (λ o. IfSome o (spec.IsTopPage accepted.now context.now item.now.header)) }
 {
     let profile = accepted.profile();
@@ -100,5 +114,5 @@ fn top_page(
         asked: item.asked.as_slice(),
         target,
     };
-    write_top(alloc, accepted, &frame, &given, &item.header)
+    write_top(alloc, accepted, &frame, &given, &item.header, last)
 }

@@ -3,6 +3,7 @@
 ghost use Rattle.std.specs.Prelude.{◌≡◌, IfOk, IfSome, IsTrue, Some};
 ghost use Rattle.sem_pages.specs.declared.frame.PageFrame.{PageFrame};
 ghost use Rattle.walk_pages.specs.Drafts as spec;
+ghost use Rattle.walk_pages.specs.Kept.{IsKeptIn};
 ghost use Rattle.walk_pages.specs.Picks as picks;
 
 use crate::choices::Choices;
@@ -14,7 +15,7 @@ use cert_compiled::{Length, Origin, PageWriting, first_left};
 use sem_bits::{Bits, Cursor};
 use sem_filling::whole_sides::reference_near;
 use sem_filling::{AskedValue, FieldPath};
-use sem_pages::{PageFrame, Source, Word, add_values, natural};
+use sem_pages::{Page, PageFrame, Source, Word, add_values, natural};
 use sem_profile::{DEPTH_LIMIT, Encoding, Format, Library, Method};
 use smallvec::SmallVec;
 use sqlite_items::at;
@@ -84,14 +85,24 @@ pub(crate) fn write_top(
     frame: &PageFrame<'_>,
     given: &Given<'_, '_>,
     header: &Bits,
+    last: Option<Page>,
 ) -> Result<Option<PackedPage>, AllocError>
-    requires { frame.now.methods.now ≡ accepted.now.profile.methods }
+    requires methods { frame.now.methods.now ≡ accepted.now.profile.methods }
+    requires kept { IfSome last (IsKeptIn frame.now) }
     ensures { IfOk result (λ o. IfSome o (spec.IsPackedPage frame.now header.now)) }
 {
     let Some(start) = start_for(accepted, frame, given.target) else {
         return Ok(None);
     };
-    let mut draft = Draft::new(alloc, start.format, start.told, frame, given.from)?;
+    let mut draft = Draft::after(
+        alloc,
+        start.index,
+        start.format,
+        start.told,
+        frame,
+        given.from,
+        last,
+    )?;
     draft.begin(start.choices);
     for operation in start.operations {
         if !step(
@@ -137,7 +148,13 @@ fn step(
                 },
                 format: *format,
             };
-            call(depth, alloc, accepted, frame, draft, wanted, given)
+            if let Some(is) = draft.pass_up(*field, *takes, given.header) {
+                return Ok(is);
+            }
+            if !call(depth, alloc, accepted, frame, draft, wanted, given)? {
+                return Ok(false);
+            }
+            Ok(true)
         }
         PageWriting::Pass(count) => {
             draft.pass(true, *count);
@@ -177,6 +194,27 @@ fn write_field(
 ) -> Result<bool, AllocError>
     ensures { IfOk result (λ b. IsTrue b → spec.GoesOn frame.now draft.old draft.new) }
 {
+    let takes = is_taken(wanted.origin);
+    if let Some(is) = draft.pass_up(wanted.field, takes, given.header) {
+        return Ok(is);
+    }
+    if !write_new(alloc, frame, draft, wanted, given)? {
+        return Ok(false);
+    }
+    Ok(true)
+}
+
+/// The same where nothing is read of the field.
+#[inline(always)]
+fn write_new(
+    alloc: Global,
+    frame: &PageFrame<'_>,
+    draft: &mut Draft<'_>,
+    wanted: FieldWriting,
+    given: &Given<'_, '_>,
+) -> Result<bool, AllocError>
+    ensures { IfOk result (λ b. IsTrue b → spec.GoesOn frame.now draft.old draft.new) }
+{
     let field = wanted.field;
     match wanted.origin {
         Origin::Library => draft.code(alloc, frame, field, false, given.header),
@@ -193,6 +231,12 @@ fn write_field(
             draft.solve(alloc, frame, field, count, number)
         }
     }
+}
+
+/// Whether the bits are the next ones of the header.
+#[inline(always)]
+fn is_taken(origin: Origin) -> bool {
+    matches!(origin, Origin::Header)
 }
 
 fn asked_at(asked: &[AskedValue], place: usize) -> Option<Word> {

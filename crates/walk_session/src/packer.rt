@@ -75,7 +75,7 @@ fn send_plain(
     if context.len() == 0 {
         return send_best(alloc, accepted, context, item, room);
     }
-    match pack_page(alloc, accepted, context, item, *last) {
+    match pack_page(alloc, accepted, context, item, *last, None) {
         Ok(Sent::Page(written)) => {
             if !has_room(written.packed.len(), room) {
                 return Err(PackRefusal::NoRoom(written.packed.len()));

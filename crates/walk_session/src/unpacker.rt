@@ -62,7 +62,7 @@ fn received_at_once(
     ensures stays { OnErr result ((context.new ≡ context.old) × (header.new ≡ header.old) × (asked.new ≡ asked.old)) }
 {
     let mut cursor = Cursor::new(bits);
-    let Some(read) = read_page(alloc, accepted, context, &mut cursor)? else {
+    let Some(read) = read_page(alloc, accepted, context, &mut cursor, None)? else {
         return Ok(None);
     };
     let ReadPage {

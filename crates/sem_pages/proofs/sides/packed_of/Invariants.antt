@@ -4,4 +4,4 @@ use Rattle.sem_pages.specs.Pages.{level_by}
 use Rattle.sem_pages.proofs.sides.packed_of.Given as goal
 
 abbrev pub invariant-loop-i : goal.invariant-loop-i
-invariant-loop-i l = (l.packed ++ l.tail) ++ packed_bits (drop l.i-index l.i-items) (level_by l.format.fields l.shown) ≡ packed_bits l.format.listing (level_by l.format.fields l.shown)
+invariant-loop-i l = l.packed ++ packed_bits (drop l.i-index l.i-items) (level_by l.format.fields l.shown) ≡ packed_bits l.format.listing (level_by l.format.fields l.shown)

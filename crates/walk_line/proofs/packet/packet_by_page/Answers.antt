@@ -17,3 +17,8 @@ returns-clause-some c =
           (entries read.filling) _ held.1 read.fits c.new-cursor.ensures read.advances own.1 (own.0 ∙ read.bits_is) refl (c.in_ok-goes_on.ensures.ok c.if-not-branch.false read.filling read.shown)
           (λ i. record { header = read.header_is i; asked = asked read.filling read.shown i }),
     )
+
+pub returns-clause-kept : goal.returns-clause-kept
+returns-clause-kept c =
+    let read = rw c.in-Some-2.is at c.in_ok-read.ensures.read in
+    c.in_ok-goes_on.ensures.kept c.if-not-branch.false read.filling read.fits read.shown

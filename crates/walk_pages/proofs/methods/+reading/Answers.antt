@@ -13,3 +13,6 @@ read_method-new-requires t c =
     let found = rw c.in-Some.is at c.in_ok-start.ensures in
     let same : c.args.frame.now.methods.now ≡ c.args.accepted.now.profile.methods = (search rules) in
     record { prepared = found.told c.in-Some.start.format.now (ap (λ z. format_at z c.args.frame.now.method c.in-Some.start.index) (sym same) ∙ found.format_is) }
+
+pub step-returns-in-Some : goal.step-returns-in-Some
+step-returns-in-Some t c = λ _. c.pass.ensures c.args.frame.now

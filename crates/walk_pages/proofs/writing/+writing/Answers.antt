@@ -31,3 +31,9 @@ write_method-new-requires t c =
     let found = c.in-Some.ensures in
     let same : c.args.frame.now.methods.now ≡ c.args.accepted.now.profile.methods = (search rules) in
     record { prepared = found.told c.in-Some.start.format.now (ap (λ z. format_at z c.args.frame.now.method c.in-Some.start.index) (sym same) ∙ found.format_is) }
+
+pub step-returns-in-Some : goal.step-returns-in-Some
+step-returns-in-Some t c = λ _. c.pass_up.ensures c.args.frame.now
+
+pub step-returns-else-not-branch : goal.step-returns-else-not-branch
+step-returns-else-not-branch t c = λ _. goes_trans c.args.frame.now c.args.draft.now c.pass_up.new.self c.call.new.draft (c.pass_up.ensures c.args.frame.now) (c.in_ok-call-in-Call.ensures c.if-not-branch.false)

@@ -2,11 +2,11 @@ use Rattle.std.proofs.Common.{◌≡◌, ◌∙◌, ap, rules, sym}
 use Rattle.sem_filling.specs.Fits.{format_at}
 use Rattle.walk_pages.proofs.writing.write_top.Goals as goal
 
-pub new-requires : goal.new-requires
-new-requires c =
+pub after-requires-clause-prepared : goal.after-requires-clause-prepared
+after-requires-clause-prepared c =
     let found = c.in-Some.ensures in
     let same : c.args.frame.now.methods.now ≡ c.args.accepted.now.profile.methods = (search rules) in
-    record { prepared = found.told c.in-Some.start.format.now (ap (λ z. format_at z c.args.frame.now.method c.in-Some.start.index) (sym same) ∙ found.format_is) }
+    found.told c.in-Some.start.format.now (ap (λ z. format_at z c.args.frame.now.method c.in-Some.start.index) (sym same) ∙ found.format_is)
 
 pub loop-operation-init : goal.loop-operation-init
 loop-operation-init c =

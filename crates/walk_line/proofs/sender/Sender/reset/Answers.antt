@@ -2,6 +2,7 @@ use Rattle.std.proofs.Common.{◌≡◌, ◌∙◌, ap, rules, subst, sym, ◌<�
 use Rattle.walk_line.specs.Lines.{reset_octet}
 use Rattle.walk_line.specs.Lines.Act.{Reset}
 use Rattle.walk_line.specs.States.{Sending}
+use Rattle.walk_line.proofs.PagesKept.{others_kept}
 use Rattle.walk_line.proofs.LinesSends.{reset_put, reset_fault, none_there}
 use Rattle.walk_line.proofs.sender.Sender.reset.Goals as goal
 
@@ -22,3 +23,9 @@ returns-clause-ok c =
       reset_put c.self.inside.accepted.now c.self.inside.contexts.items c.args.self.now c.args.flow c.in-Some.at c.len.result c.new.result count (subst (λ n. c.args.flow < n) count below) same c.new.ensures c.self.view_is,
       c.in-Ok.ensures.items ∙ ap (λ k. c.args.out.now.items ++ k ∷ []) c.reset_octet.ensures,
     )
+
+pub invariant_of-self : goal.invariant_of-self
+invariant_of-self c = (
+  (search rules),
+  others_kept c.self.inside.accepted.now c.self.inside.contexts.items c.self.inside.pages.items c.take_page-page.new.pages.items c.in-Some.at c.new.result c.self.invariant.1 c.take_page-page.ensures.left,
+)
