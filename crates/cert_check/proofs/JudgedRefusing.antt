@@ -28,10 +28,7 @@ use Rattle.cert_rules.specs.Refusals as refusals
 use Rattle.cert_rules.specs.Valid.{plans_at, HasPlans, HasEntry}
 use Rattle.cert_trees.specs.declared.fault.TreeFault.{TreeFault}
 use Rattle.cert_trees.specs.Faults.{IsTreeFault, leaf_reached, nowhere_reached, bit_past, constant_outside, reference_beyond}
-use Rattle.std.proofs.lemmas.Option.{slice_get_within}
 use Rattle.sem_filling.proofs.Each.{Before}
-use Rattle.sem_profile.specs.WellFormed.{AreWellFormed}
-use Rattle.cert_trees.specs.Calling.{CallsWithin}
 use Rattle.cert_check.specs.declared.validity.Verdict.{Verdict}
 use Rattle.cert_check.specs.declared.validity.Verdict.TheVariants as verdict
 use Rattle.cert_check.specs.Right.{Serve, AreEntriesRight, IsEntryRight, IsMethodRight}
@@ -204,9 +201,3 @@ right_verdict methods xs table ys top t cert es r a b c d right h =
     let as_shown = subst (λ x. AreEntriesRight x ys (record { version = cert.version; methods = es })) (sym a)
     (subst (λ y. AreEntriesRight methods y (record { version = cert.version; methods = es })) (sym b) (subst (λ e. AreEntriesRight methods table (record { version = cert.version; methods = e })) (sym d) right)) in
     whole_verdict methods xs table ys top t cert (record { version = cert.version; methods = es }) r a b c (λ i. record { version = cert.version; methods = d i }) as_shown h
-
--- each call is of one of the methods
-pub calls_within : (methods : List Method) → AreWellFormed methods → CallsWithin methods
-calls_within methods formed k j m at calls =
-    let callee = (formed.formats k calls.format_place m calls.format at calls.format_at).calls calls.field_place j calls.field calls.arguments calls.field_at calls.is_call in
-    slice_get_within methods j callee.0 callee.1

@@ -10,9 +10,9 @@ ghost use Rattle.cert_prove.specs.Refusals.{Blames};
 
 use crate::fault::Unordered;
 use crate::gaps::{first_missing, missing_sides};
-use crate::marks::{all_due, wake_all};
+use crate::marks::wake_all;
 use crate::possible::{Possible, possible_steps};
-use crate::rest::{next_step, unwritten};
+use crate::rest::{agenda_of, next_step};
 use cert_plans::Knowledge;
 use cert_plans::listed::listed_flags;
 use cert_types::{Direction, STEP_LIMIT, Step, Version};
@@ -86,13 +86,11 @@ pub fn follow_order<'a>(
     let found = possible_steps(alloc, version, direction, table, sizes, format)?;
     let possible = found.as_slice();
     let fields = format.fields.len();
-    let mut waits = all_due(alloc, possible)?;
-    let mut needs = unwritten(alloc, possible.len())?;
-    let listed = listed_flags(alloc, format)?;
+    let mut agenda = agenda_of(alloc, format, possible)?;
     let mut known = Knowledge::at_start(alloc, format)?;
     let room = possible.len().min(STEP_LIMIT);
     let mut steps = Items::from_vec(Vec::with_capacity(alloc, room)?);
-    let mut missing = first_missing(direction, format, listed.as_slice(), &known, 0);
+    let mut missing = first_missing(direction, format, agenda.listed.as_slice(), &known, 0);
     'more: while missing < fields {
         if is_full(&steps) {
             return Ok(Followed {
@@ -102,7 +100,15 @@ pub fn follow_order<'a>(
                 end: End::Full,
             });
         }
-        let Some(next) = next_step(alloc, &known, format, possible, &mut needs, &mut waits)? else {
+        let Some(next) = next_step(
+            alloc,
+            &known,
+            format,
+            possible,
+            &mut agenda.needs,
+            &mut agenda.waits,
+        )?
+        else {
             return Ok(Followed {
                 possible: found,
                 steps,
@@ -114,8 +120,8 @@ pub fn follow_order<'a>(
         let written = next.rule.gives.written();
         let gives = written.as_slice();
         known.learn_all(gives);
-        wake_all(gives, &mut waits);
-        missing = first_missing(direction, format, listed.as_slice(), &known, missing);
+        wake_all(gives, &mut agenda.waits);
+        missing = first_missing(direction, format, agenda.listed.as_slice(), &known, missing);
     }
     Ok(Followed {
         possible: found,

@@ -1,17 +1,19 @@
 //! Steps that needn't be looked at.
 
-ghost use Rattle.std.specs.Prelude.{◌≡◌, true, false, List, replicate, map, None, option_map, IfOk, OnOk};
+ghost use Rattle.std.specs.Prelude.{◌≡◌, ◌+◌, ◌-◌, ◌*◌, ◌^◌, ◌/◌, ◌<◌, true, false, List, length, replicate, map, None, option_map, IfOk, OnOk};
 ghost use Rattle.cert_types.specs.declared.rule.Fact.{Fact};
 ghost use Rattle.std.specs.List.{find};
 ghost use Rattle.std.specs.Option.{option_copied};
 ghost use Rattle.sem_profile.specs.declared.profile.Format.{Format};
 ghost use Rattle.cert_plans.specs.Knowing.{shows};
+ghost use Rattle.cert_plans.specs.Listed.{AreFlags};
 ghost use Rattle.cert_plans.specs.Needing.{told};
 ghost use Rattle.cert_prove.specs.Searching as spec;
 
-use crate::marks::{Waits, first_due, lay_aside};
+use crate::marks::{Waits, all_due, first_due, lay_aside};
 use crate::needed::needed;
 use crate::possible::Possible;
+use cert_plans::listed::listed_flags;
 use cert_plans::{Knowledge, NeedRule, lacking};
 use cert_types::Fact;
 use sem_profile::Format;
@@ -27,6 +29,48 @@ pub enum Rest {
     Until(Fact),
     /// It gives nothing new any more.
     Over,
+}
+
+/// What the order goes by, beside what is known.
+pub(crate) struct Agenda {
+    /// What each of the steps needs, once it is written out.
+    pub(crate) needs: Vec<Option<Items<Fact>>>,
+    pub(crate) waits: Waits,
+    /// For each field of the format whether it is listed.
+    pub(crate) listed: Items<bool>,
+}
+
+// A call of its own, so that no caller's proof goes through the cases.
+impl Drop for Agenda {
+    fn drop(self) {
+        let Agenda {
+            needs: _needs,
+            waits: _waits,
+            listed: _listed,
+        } = self;
+    }
+}
+
+/// The agenda at the start: each of the steps has to be looked at, and nothing is written out.
+pub(crate) fn agenda_of(
+    alloc: Global,
+    format: &Format,
+    possible: &[Possible<'_>],
+) -> Result<Agenda, AllocError>
+    ensures needs { IfOk result (λ agenda. agenda.needs.items ≡ replicate (length possible.now) None) }
+    ensures due { IfOk result (λ agenda. agenda.waits.due ≡ replicate (length possible.now / 64 + 1) (2 ^ 64 - 1)) }
+    ensures rows { IfOk result (λ agenda. length agenda.waits.noted ≡ 128 * length agenda.waits.due) }
+    ensures few { IfOk result (λ agenda. 128 * length agenda.waits.due < 2 ^ 64) }
+    ensures listed { IfOk result (λ agenda. AreFlags format.now agenda.listed) }
+{
+    let waits = all_due(alloc, possible)?;
+    let needs = unwritten(alloc, possible.len())?;
+    let listed = listed_flags(alloc, format)?;
+    Ok(Agenda {
+        needs,
+        waits,
+        listed,
+    })
 }
 
 /// The first of the steps that is enabled and gives something new. Why those before it needn't be looked at is noted. What a step waits for
@@ -60,7 +104,7 @@ pub(crate) fn next_step<'a, 's>(
 }
 
 /// Nothing is written out for any of so many steps.
-pub(crate) fn unwritten(alloc: Global, count: usize) -> Result<Vec<Option<Items<Fact>>>, AllocError>
+fn unwritten(alloc: Global, count: usize) -> Result<Vec<Option<Items<Fact>>>, AllocError>
     ensures { IfOk result (λ needs. needs.items ≡ replicate count None) }
 {
     let mut needs = Vec::with_capacity(alloc, count)?;

@@ -2,7 +2,7 @@
 use Rattle.std.specs.Prelude.{ℕ, List, [], ◌++◌, codes, decimal, flat_map}
 use Rattle.text_source.specs.Places.{line_of, column_of}
 use Rattle.sem_profile.specs.declared.profile.Method.{Method}
-use Rattle.walk_robust.specs.declared.lacks.Lack.{Lack}
+use Rattle.walk_loss.specs.declared.unserved.Lack.{Lack}
 use Rattle.tool_loss.specs.Loss.{unserved_words}
 use Rattle.tool_items.specs.Why.{reason_text}
 use Rattle.tool_names.specs.Names.{format_name, method_name, method_place}

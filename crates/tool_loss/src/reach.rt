@@ -9,7 +9,7 @@ use std::alloc::{AllocError, Global};
 use text_source::line_column;
 use tool_items::why::reason_text;
 use tool_names::names::{format_name, method_name, method_place};
-use walk_robust::Lack;
+use walk_loss::Lack;
 
 /// Adds a line for each, after a line feed: where the top method stands in the profile, the format, after how many lost packets it isn't read, and the use of a
 /// reference that doesn't serve then.

@@ -23,7 +23,7 @@ use Rattle.walk_engine.specs.declared.reader.UnpackFault.{UnpackFault}
 use Rattle.walk_engine.specs.declared.reader.UnpackFault.TheVariants.{Truncated, Refused, OutOfMemory}
 use Rattle.walk_engine.specs.declared.search.Packed.{Packed}
 use Rattle.walk_engine.specs.declared.writer.PackFault.{PackFault}
-use Rattle.walk_robust.specs.declared.lacks.Lack.{Lack}
+use Rattle.walk_loss.specs.declared.unserved.Lack.{Lack}
 use Rattle.walk_robust.specs.declared.sender.RobustFault.{RobustFault}
 use Rattle.walk_robust.specs.declared.sender.RobustFault.TheVariants.{NoReach, Contexts}
 use Rattle.walk_engine.specs.declared.writer.PackFault.TheVariants as writer

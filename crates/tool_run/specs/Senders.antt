@@ -9,7 +9,7 @@ use Rattle.sem_filling.specs.Entries.{next}
 use Rattle.sem_filling.specs.declared.filling.Item.{Item}
 use Rattle.walk_robust.specs.Answers as robust
 use Rattle.walk_robust.specs.Lacks as lacking
-use Rattle.walk_robust.specs.declared.lacks.Lack.{Lack}
+use Rattle.walk_loss.specs.declared.unserved.Lack.{Lack}
 use Rattle.walk_robust.specs.declared.sender.RobustFault.{RobustFault}
 use Rattle.walk_robust.specs.declared.sender.RobustFault.TheVariants.{Pack, NoReach, Contexts}
 use Rattle.tool_input.specs.OneLine.{IsLine}

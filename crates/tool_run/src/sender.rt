@@ -11,7 +11,8 @@ use sem_filling::{Item, advance};
 use sqlite_items::Items;
 use std::alloc::{AllocError, Global};
 use walk_engine::{PackFault, Packed, pack};
-use walk_robust::{Lack, Robust, RobustFault};
+use walk_loss::Lack;
+use walk_robust::{Robust, RobustFault};
 
 /// A sender of items, packed one after the other.
 #[derive(Drop)]

@@ -25,110 +25,68 @@ use Rattle.tool_words.specs.declared.words.Order.{Order}
 use Rattle.tool_words.specs.declared.words.WordsError.{WordsError}
 use Rattle.tool_words.specs.declared.words.WordsError.TheVariants as error
 
+-- a flag of that name, which takes no value
+abbrev pub flag_rule : List ℕ → Rule
+flag_rule name = record (new_rule name) { long = Some name; action = Some SetTrue }
+
+-- an option of that name, which takes a value
+abbrev pub option_rule : List ℕ → Rule
+option_rule name = record (new_rule name) { long = Some name; value_names = 1 }
+
 -- `--top NAME`, which has to be there
 abbrev pub top_flag : Rule
-top_flag = record (new_rule (codes "top")) {
-  long = Some (codes "top");
-  value_names = 1;
-  required = true;
-}
+top_flag = record (option_rule (codes "top")) { required = true }
 
 -- `--context`, which takes no value
 abbrev pub context_flag : Rule
-context_flag = record (new_rule (codes "context")) {
-  long = Some (codes "context");
-  action = Some SetTrue;
-}
+context_flag = flag_rule (codes "context")
 
 -- `--items`, `--v2`, `--explain`, `--receive`, `--wide`, `--frames` and `--json`, likewise
 abbrev pub items_flag : Rule
-items_flag = record (new_rule (codes "items")) {
-  long = Some (codes "items");
-  action = Some SetTrue;
-}
+items_flag = flag_rule (codes "items")
 
 abbrev pub version_flag : Rule
-version_flag = record (new_rule (codes "v2")) {
-  long = Some (codes "v2");
-  action = Some SetTrue;
-}
+version_flag = flag_rule (codes "v2")
 
 abbrev pub explain_flag : Rule
-explain_flag = record (new_rule (codes "explain")) {
-  long = Some (codes "explain");
-  action = Some SetTrue;
-}
+explain_flag = flag_rule (codes "explain")
 
 abbrev pub receive_flag : Rule
-receive_flag = record (new_rule (codes "receive")) {
-  long = Some (codes "receive");
-  action = Some SetTrue;
-}
+receive_flag = flag_rule (codes "receive")
 
 abbrev pub wide_flag : Rule
-wide_flag = record (new_rule (codes "wide")) {
-  long = Some (codes "wide");
-  action = Some SetTrue;
-}
+wide_flag = flag_rule (codes "wide")
 
 abbrev pub json_flag : Rule
-json_flag = record (new_rule (codes "json")) {
-  long = Some (codes "json");
-  action = Some SetTrue;
-}
+json_flag = flag_rule (codes "json")
 
 abbrev pub frames_flag : Rule
-frames_flag = record (new_rule (codes "frames")) {
-  long = Some (codes "frames");
-  action = Some SetTrue;
-}
+frames_flag = flag_rule (codes "frames")
 
 -- `--strict`, `--by-item` and `--all`, likewise
 abbrev pub strict_flag : Rule
-strict_flag = record (new_rule (codes "strict")) {
-  long = Some (codes "strict");
-  action = Some SetTrue;
-}
+strict_flag = flag_rule (codes "strict")
 
 abbrev pub list_flag : Rule
-list_flag = record (new_rule (codes "by-item")) {
-  long = Some (codes "by-item");
-  action = Some SetTrue;
-}
+list_flag = flag_rule (codes "by-item")
 
 abbrev pub all_flag : Rule
-all_flag = record (new_rule (codes "all")) {
-  long = Some (codes "all");
-  action = Some SetTrue;
-}
+all_flag = flag_rule (codes "all")
 
 -- `--not FORMAT` and `--at-most BITS`, which need not be there
 abbrev pub avoided_option : Rule
-avoided_option = record (new_rule (codes "not")) {
-  long = Some (codes "not");
-  value_names = 1;
-}
+avoided_option = option_rule (codes "not")
 
 abbrev pub most_option : Rule
-most_option = record (new_rule (codes "at-most")) {
-  long = Some (codes "at-most");
-  value_names = 1;
-}
+most_option = option_rule (codes "at-most")
 
 -- `--lost N`, whose value is 8 where it is not given
 abbrev pub lost_option : Rule
-lost_option = record (new_rule (codes "lost")) {
-  long = Some (codes "lost");
-  value_names = 1;
-  defaults = codes "8" ∷ [];
-}
+lost_option = record (option_rule (codes "lost")) { defaults = codes "8" ∷ [] }
 
 -- `--robust N`, which need not be there
 abbrev pub robust_option : Rule
-robust_option = record (new_rule (codes "robust")) {
-  long = Some (codes "robust");
-  value_names = 1;
-}
+robust_option = option_rule (codes "robust")
 
 -- a command of that name with the first flag
 abbrev pub with_top : List ℕ → App
@@ -204,9 +162,13 @@ abbrev pub bare_program : App
 bare_program = on_top (λ top. record top { no_binary_name = true; subcommand_required = true })
     (new_app (codes "rohcfn"))
 
+-- where there is a command it is this one, and has no flags for those below it
+abbrev pub IsCommand : App → Result ClapCommand AllocError → Type 0
+IsCommand app result = IfOk result (λ c. (app_of c ≡ app) × ((fields_of c).has_globals ≡ false))
+
 -- where there is a command, and one that has no flags for those below it, the second stands below the first
 abbrev pub IsAdded : Result ClapCommand AllocError → Result ClapCommand AllocError → Result ClapCommand AllocError → Type 0
-IsAdded command below result = (a s : App) → IfOk command (λ c. app_of c ≡ a) → IfOk below (λ c. app_of c ≡ s) → IfOk below (λ c. (fields_of c).has_globals ≡ false) →
+IsAdded command below result = (a s : App) → IfOk command (λ c. app_of c ≡ a) → IsCommand s below →
     IfOk result (λ c. app_of c ≡ with_subcommand a s.top)
 
 -- with the commands that take items or packets

@@ -1,8 +1,7 @@
 //! The command line: which commands there are, and the flags and options of each.
 ghost use Rattle.std.specs.Prelude.{◌≡◌, false, IfOk};
-ghost use Rattle.clap.specs.Words.{app_of};
-ghost use Rattle.clap.specs.declared.builder.command.Command.TheViews.{out-Command as fields_of};
-ghost use Rattle.tool_words.specs.Words.{IsAdded, bare_program, header_program, program, with_all, with_avoided, with_checks, with_drawing, with_explain, with_flags, with_items, with_json, with_list, with_listed, with_losses, with_lost, with_reasons, with_receive, with_robust, with_sending, with_strict, with_top, with_version, with_wide, with_frames, with_line};
+ghost use Rattle.clap.specs.Words.{App, Rule, app_of, rule_of, with_rule};
+ghost use Rattle.tool_words.specs.Words.{IsAdded, IsCommand, bare_program, flag_rule, header_program, option_rule, program, with_all, with_avoided, with_checks, with_drawing, with_explain, with_flags, with_items, with_json, with_list, with_listed, with_losses, with_lost, with_reasons, with_receive, with_robust, with_sending, with_strict, with_top, with_version, with_wide, with_frames, with_line};
 
 use clap::{Arg, ArgAction};
 use std::alloc::{AllocError, Global};
@@ -139,24 +138,51 @@ fn added<'a>(
     command.subcommand(below)
 }
 
+// The flag of that name, which takes no value.
+fn flag<'a>(alloc: Global, name: &'a str, help: &'a str) -> Arg<'a>
+    ensures rule { rule_of result ≡ flag_rule name.entry.now }
+    ensures local { result.global ≡ false }
+{
+    Arg::new(alloc, name)
+        .long(name)
+        .help(help)
+        .action(ArgAction::SetTrue)
+}
+
+// The option of that name, which takes a value.
+fn option<'a>(alloc: Global, name: &'a str, value: &'a str, help: &'a str) -> Arg<'a>
+    ensures rule { rule_of result ≡ option_rule name.entry.now }
+    ensures local { result.global ≡ false }
+{
+    Arg::new(alloc, name)
+        .long(name)
+        .value_name(value)
+        .help(help)
+}
+
+// The command, where there is one, with that argument. (It is handed on as the `Result` that it came as, so that nothing is held across a `?`.)
+fn taking<'a>(
+    command: Result<clap::Command<'a>, AllocError>,
+    arg: Arg<'a>,
+) -> Result<clap::Command<'a>, AllocError>
+    requires { arg.global ≡ false }
+    ensures { (app : App) (rule : Rule) → IsCommand app command.entry → rule_of arg.entry ≡ rule → IsCommand (with_rule app rule) result }
+{
+    command?.arg(arg)
+}
+
 // A command with the flag `--top`.
 fn with_top<'a>(
     alloc: Global,
     name: &'a str,
     about: &'a str,
 ) -> Result<clap::Command<'a>, AllocError>
-    ensures app { IfOk result (λ command. app_of command ≡ with_top name.entry.now) }
-    ensures local { IfOk result (λ command. (fields_of command).has_globals ≡ false) }
+    ensures { IsCommand (with_top name.entry.now) result }
 {
-    let top = Arg::new(alloc, "top")
-        .long("top")
-        .value_name("NAME")
-        .help("The method at which a header starts")
-        .required(true);
     clap::Command::new(alloc, name)
         .about(about)
         .after_help(INPUT)
-        .arg(top)
+        .arg(option(alloc, "top", "NAME", "The method at which a header starts").required(true))
 }
 
 // A command that may make a certificate, with the flags `--top` and `--v2`.
@@ -165,14 +191,16 @@ fn with_version<'a>(
     name: &'a str,
     about: &'a str,
 ) -> Result<clap::Command<'a>, AllocError>
-    ensures app { IfOk result (λ command. app_of command ≡ with_version name.entry.now) }
-    ensures local { IfOk result (λ command. (fields_of command).has_globals ≡ false) }
+    ensures { IsCommand (with_version name.entry.now) result }
 {
-    let second = Arg::new(alloc, "v2")
-        .long("v2")
-        .help("Makes a certificate of version 2, where none is given")
-        .action(ArgAction::SetTrue);
-    with_top(alloc, name, about)?.arg(second)
+    taking(
+        with_top(alloc, name, about),
+        flag(
+            alloc,
+            "v2",
+            "Makes a certificate of version 2, where none is given",
+        ),
+    )
 }
 
 // A command with the flags `--top` and `--json`.
@@ -181,14 +209,9 @@ fn with_drawing<'a>(
     name: &'a str,
     about: &'a str,
 ) -> Result<clap::Command<'a>, AllocError>
-    ensures app { IfOk result (λ command. app_of command ≡ with_drawing name.entry.now) }
-    ensures local { IfOk result (λ command. (fields_of command).has_globals ≡ false) }
+    ensures { IsCommand (with_drawing name.entry.now) result }
 {
-    let json = Arg::new(alloc, "json")
-        .long("json")
-        .help(JSON_HELP)
-        .action(ArgAction::SetTrue);
-    with_top(alloc, name, about)?.arg(json)
+    taking(with_top(alloc, name, about), flag(alloc, "json", JSON_HELP))
 }
 
 // A command with the flags `--top`, `--v2` and `--json`.
@@ -197,14 +220,12 @@ fn with_json<'a>(
     name: &'a str,
     about: &'a str,
 ) -> Result<clap::Command<'a>, AllocError>
-    ensures app { IfOk result (λ command. app_of command ≡ with_json name.entry.now) }
-    ensures local { IfOk result (λ command. (fields_of command).has_globals ≡ false) }
+    ensures { IsCommand (with_json name.entry.now) result }
 {
-    let json = Arg::new(alloc, "json")
-        .long("json")
-        .help(JSON_HELP)
-        .action(ArgAction::SetTrue);
-    with_version(alloc, name, about)?.arg(json)
+    taking(
+        with_version(alloc, name, about),
+        flag(alloc, "json", JSON_HELP),
+    )
 }
 
 // A command with the flags `--top`, `--json` and `--strict`.
@@ -213,14 +234,16 @@ fn with_strict<'a>(
     name: &'a str,
     about: &'a str,
 ) -> Result<clap::Command<'a>, AllocError>
-    ensures app { IfOk result (λ command. app_of command ≡ with_strict name.entry.now) }
-    ensures local { IfOk result (λ command. (fields_of command).has_globals ≡ false) }
+    ensures { IsCommand (with_strict name.entry.now) result }
 {
-    let strict = Arg::new(alloc, "strict")
-        .long("strict")
-        .help("Ends with status 1 where anything is warned of")
-        .action(ArgAction::SetTrue);
-    with_drawing(alloc, name, about)?.arg(strict)
+    taking(
+        with_drawing(alloc, name, about),
+        flag(
+            alloc,
+            "strict",
+            "Ends with status 1 where anything is warned of",
+        ),
+    )
 }
 
 // A command with the flags `--top`, `--v2` and `--json`, and the option `--lost`.
@@ -229,15 +252,18 @@ fn with_lost<'a>(
     name: &'a str,
     about: &'a str,
 ) -> Result<clap::Command<'a>, AllocError>
-    ensures app { IfOk result (λ command. app_of command ≡ with_lost name.entry.now) }
-    ensures local { IfOk result (λ command. (fields_of command).has_globals ≡ false) }
+    ensures { IsCommand (with_lost name.entry.now) result }
 {
-    let lost = Arg::new(alloc, "lost")
-        .long("lost")
-        .value_name("N")
-        .help("How many packets in a row are lost at most, 0 to 63")
-        .default_value(USUALLY_LOST);
-    with_json(alloc, name, about)?.arg(lost)
+    taking(
+        with_json(alloc, name, about),
+        option(
+            alloc,
+            "lost",
+            "N",
+            "How many packets in a row are lost at most, 0 to 63",
+        )
+        .default_value(USUALLY_LOST),
+    )
 }
 
 // A command with the flags `--top`, `--v2` and `--json`, and the option `--robust`.
@@ -246,14 +272,12 @@ fn with_robust<'a>(
     name: &'a str,
     about: &'a str,
 ) -> Result<clap::Command<'a>, AllocError>
-    ensures app { IfOk result (λ command. app_of command ≡ with_robust name.entry.now) }
-    ensures local { IfOk result (λ command. (fields_of command).has_globals ≡ false) }
+    ensures { IsCommand (with_robust name.entry.now) result }
 {
-    let robust = Arg::new(alloc, "robust")
-        .long("robust")
-        .value_name("N")
-        .help(ROBUST_HELP);
-    with_json(alloc, name, about)?.arg(robust)
+    taking(
+        with_json(alloc, name, about),
+        option(alloc, "robust", "N", ROBUST_HELP),
+    )
 }
 
 // A command with the flags `--top`, `--v2`, `--json` and `--by-item`, and the option `--robust`.
@@ -262,14 +286,16 @@ fn with_list<'a>(
     name: &'a str,
     about: &'a str,
 ) -> Result<clap::Command<'a>, AllocError>
-    ensures app { IfOk result (λ command. app_of command ≡ with_list name.entry.now) }
-    ensures local { IfOk result (λ command. (fields_of command).has_globals ≡ false) }
+    ensures { IsCommand (with_list name.entry.now) result }
 {
-    let listing = Arg::new(alloc, "by-item")
-        .long("by-item")
-        .help("Lists the format and the bits of each item instead")
-        .action(ArgAction::SetTrue);
-    with_robust(alloc, name, about)?.arg(listing)
+    taking(
+        with_robust(alloc, name, about),
+        flag(
+            alloc,
+            "by-item",
+            "Lists the format and the bits of each item instead",
+        ),
+    )
 }
 
 // The same with the flag `--all`.
@@ -278,14 +304,12 @@ fn with_all<'a>(
     name: &'a str,
     about: &'a str,
 ) -> Result<clap::Command<'a>, AllocError>
-    ensures app { IfOk result (λ command. app_of command ≡ with_all name.entry.now) }
-    ensures local { IfOk result (λ command. (fields_of command).has_globals ≡ false) }
+    ensures { IsCommand (with_all name.entry.now) result }
 {
-    let all = Arg::new(alloc, "all")
-        .long("all")
-        .help("Ends with status 1 where an item is refused")
-        .action(ArgAction::SetTrue);
-    with_list(alloc, name, about)?.arg(all)
+    taking(
+        with_list(alloc, name, about),
+        flag(alloc, "all", "Ends with status 1 where an item is refused"),
+    )
 }
 
 // The same with the option `--at-most`.
@@ -294,14 +318,17 @@ fn with_checks<'a>(
     name: &'a str,
     about: &'a str,
 ) -> Result<clap::Command<'a>, AllocError>
-    ensures app { IfOk result (λ command. app_of command ≡ with_checks name.entry.now) }
-    ensures local { IfOk result (λ command. (fields_of command).has_globals ≡ false) }
+    ensures { IsCommand (with_checks name.entry.now) result }
 {
-    let most = Arg::new(alloc, "at-most")
-        .long("at-most")
-        .value_name("BITS")
-        .help("Ends with status 1 where the mean is above so many bits");
-    with_all(alloc, name, about)?.arg(most)
+    taking(
+        with_all(alloc, name, about),
+        option(
+            alloc,
+            "at-most",
+            "BITS",
+            "Ends with status 1 where the mean is above so many bits",
+        ),
+    )
 }
 
 // A command with the flags `--top`, `--v2` and `--json`, and the options `--lost` and `--robust`.
@@ -310,14 +337,12 @@ fn with_losses<'a>(
     name: &'a str,
     about: &'a str,
 ) -> Result<clap::Command<'a>, AllocError>
-    ensures app { IfOk result (λ command. app_of command ≡ with_losses name.entry.now) }
-    ensures local { IfOk result (λ command. (fields_of command).has_globals ≡ false) }
+    ensures { IsCommand (with_losses name.entry.now) result }
 {
-    let robust = Arg::new(alloc, "robust")
-        .long("robust")
-        .value_name("N")
-        .help(ROBUST_HELP);
-    with_lost(alloc, name, about)?.arg(robust)
+    taking(
+        with_lost(alloc, name, about),
+        option(alloc, "robust", "N", ROBUST_HELP),
+    )
 }
 
 // A command that makes or checks a certificate, with the flags `--top`, `--v2`, `--json` and `--explain`.
@@ -326,14 +351,12 @@ fn with_explain<'a>(
     name: &'a str,
     about: &'a str,
 ) -> Result<clap::Command<'a>, AllocError>
-    ensures app { IfOk result (λ command. app_of command ≡ with_explain name.entry.now) }
-    ensures local { IfOk result (λ command. (fields_of command).has_globals ≡ false) }
+    ensures { IsCommand (with_explain name.entry.now) result }
 {
-    let explain = Arg::new(alloc, "explain")
-        .long("explain")
-        .help("Explains a refusal below its line")
-        .action(ArgAction::SetTrue);
-    with_json(alloc, name, about)?.arg(explain)
+    taking(
+        with_json(alloc, name, about),
+        flag(alloc, "explain", "Explains a refusal below its line"),
+    )
 }
 
 // A command with the flags `--top`, `--v2` and `--context`.
@@ -342,14 +365,12 @@ fn with_flags<'a>(
     name: &'a str,
     about: &'a str,
 ) -> Result<clap::Command<'a>, AllocError>
-    ensures app { IfOk result (λ command. app_of command ≡ with_flags name.entry.now) }
-    ensures local { IfOk result (λ command. (fields_of command).has_globals ≡ false) }
+    ensures { IsCommand (with_flags name.entry.now) result }
 {
-    let context = Arg::new(alloc, "context")
-        .long("context")
-        .help("Prints the last context after the lines")
-        .action(ArgAction::SetTrue);
-    with_version(alloc, name, about)?.arg(context)
+    taking(
+        with_version(alloc, name, about),
+        flag(alloc, "context", "Prints the last context after the lines"),
+    )
 }
 
 // A command with the flags `--top`, `--v2` and `--context`, and the option `--robust`.
@@ -358,14 +379,12 @@ fn with_sending<'a>(
     name: &'a str,
     about: &'a str,
 ) -> Result<clap::Command<'a>, AllocError>
-    ensures app { IfOk result (λ command. app_of command ≡ with_sending name.entry.now) }
-    ensures local { IfOk result (λ command. (fields_of command).has_globals ≡ false) }
+    ensures { IsCommand (with_sending name.entry.now) result }
 {
-    let robust = Arg::new(alloc, "robust")
-        .long("robust")
-        .value_name("N")
-        .help(ROBUST_HELP);
-    with_flags(alloc, name, about)?.arg(robust)
+    taking(
+        with_flags(alloc, name, about),
+        option(alloc, "robust", "N", ROBUST_HELP),
+    )
 }
 
 // A command with the flags `--top`, `--v2`, `--context` and `--json`.
@@ -374,14 +393,12 @@ fn with_listed<'a>(
     name: &'a str,
     about: &'a str,
 ) -> Result<clap::Command<'a>, AllocError>
-    ensures app { IfOk result (λ command. app_of command ≡ with_listed name.entry.now) }
-    ensures local { IfOk result (λ command. (fields_of command).has_globals ≡ false) }
+    ensures { IsCommand (with_listed name.entry.now) result }
 {
-    let json = Arg::new(alloc, "json")
-        .long("json")
-        .help(JSON_HELP)
-        .action(ArgAction::SetTrue);
-    with_flags(alloc, name, about)?.arg(json)
+    taking(
+        with_flags(alloc, name, about),
+        flag(alloc, "json", JSON_HELP),
+    )
 }
 
 // A command with the flags `--top`, `--v2`, `--context`, `--json` and `--items`.
@@ -390,14 +407,12 @@ fn with_items<'a>(
     name: &'a str,
     about: &'a str,
 ) -> Result<clap::Command<'a>, AllocError>
-    ensures app { IfOk result (λ command. app_of command ≡ with_items name.entry.now) }
-    ensures local { IfOk result (λ command. (fields_of command).has_globals ≡ false) }
+    ensures { IsCommand (with_items name.entry.now) result }
 {
-    let items = Arg::new(alloc, "items")
-        .long("items")
-        .help("Lists those of the part items instead")
-        .action(ArgAction::SetTrue);
-    with_listed(alloc, name, about)?.arg(items)
+    taking(
+        with_listed(alloc, name, about),
+        flag(alloc, "items", "Lists those of the part items instead"),
+    )
 }
 
 // A command with the flags `--top`, `--v2`, `--context`, `--json` and `--items`, and the option `--not`.
@@ -406,13 +421,17 @@ fn with_avoided<'a>(
     name: &'a str,
     about: &'a str,
 ) -> Result<clap::Command<'a>, AllocError>
-    ensures app { IfOk result (λ command. app_of command ≡ with_avoided name.entry.now) }
-    ensures local { IfOk result (λ command. (fields_of command).has_globals ≡ false) }
+    ensures { IsCommand (with_avoided name.entry.now) result }
 {
-    let avoided = Arg::new(alloc, "not").long("not").value_name("FORMAT").help(
-        "Tells why items that are packed aren't packed by this format",
-    );
-    with_items(alloc, name, about)?.arg(avoided)
+    taking(
+        with_items(alloc, name, about),
+        option(
+            alloc,
+            "not",
+            "FORMAT",
+            "Tells why items that are packed aren't packed by this format",
+        ),
+    )
 }
 
 // The same with the option `--robust`.
@@ -421,14 +440,12 @@ fn with_reasons<'a>(
     name: &'a str,
     about: &'a str,
 ) -> Result<clap::Command<'a>, AllocError>
-    ensures app { IfOk result (λ command. app_of command ≡ with_reasons name.entry.now) }
-    ensures local { IfOk result (λ command. (fields_of command).has_globals ≡ false) }
+    ensures { IsCommand (with_reasons name.entry.now) result }
 {
-    let robust = Arg::new(alloc, "robust")
-        .long("robust")
-        .value_name("N")
-        .help(ROBUST_HELP);
-    with_avoided(alloc, name, about)?.arg(robust)
+    taking(
+        with_avoided(alloc, name, about),
+        option(alloc, "robust", "N", ROBUST_HELP),
+    )
 }
 
 // A command with the flags `--top`, `--v2` and `--receive`.
@@ -437,14 +454,12 @@ fn with_receive<'a>(
     name: &'a str,
     about: &'a str,
 ) -> Result<clap::Command<'a>, AllocError>
-    ensures app { IfOk result (λ command. app_of command ≡ with_receive name.entry.now) }
-    ensures local { IfOk result (λ command. (fields_of command).has_globals ≡ false) }
+    ensures { IsCommand (with_receive name.entry.now) result }
 {
-    let receive = Arg::new(alloc, "receive")
-        .long("receive")
-        .help("Receives the part octets instead")
-        .action(ArgAction::SetTrue);
-    with_version(alloc, name, about)?.arg(receive)
+    taking(
+        with_version(alloc, name, about),
+        flag(alloc, "receive", "Receives the part octets instead"),
+    )
 }
 
 // A command with the flags `--top`, `--v2`, `--receive` and `--wide`.
@@ -453,14 +468,12 @@ fn with_wide<'a>(
     name: &'a str,
     about: &'a str,
 ) -> Result<clap::Command<'a>, AllocError>
-    ensures app { IfOk result (λ command. app_of command ≡ with_wide name.entry.now) }
-    ensures local { IfOk result (λ command. (fields_of command).has_globals ≡ false) }
+    ensures { IsCommand (with_wide name.entry.now) result }
 {
-    let wide = Arg::new(alloc, "wide")
-        .long("wide")
-        .help("Takes a line of 64 flows in place of 16")
-        .action(ArgAction::SetTrue);
-    with_receive(alloc, name, about)?.arg(wide)
+    taking(
+        with_receive(alloc, name, about),
+        flag(alloc, "wide", "Takes a line of 64 flows in place of 16"),
+    )
 }
 
 // The same with the flag `--frames`.
@@ -469,14 +482,16 @@ fn with_frames<'a>(
     name: &'a str,
     about: &'a str,
 ) -> Result<clap::Command<'a>, AllocError>
-    ensures app { IfOk result (λ command. app_of command ≡ with_frames name.entry.now) }
-    ensures local { IfOk result (λ command. (fields_of command).has_globals ≡ false) }
+    ensures { IsCommand (with_frames name.entry.now) result }
 {
-    let frames = Arg::new(alloc, "frames")
-        .long("frames")
-        .help("Takes a line of 64 flows with each packet in a frame")
-        .action(ArgAction::SetTrue);
-    with_wide(alloc, name, about)?.arg(frames)
+    taking(
+        with_wide(alloc, name, about),
+        flag(
+            alloc,
+            "frames",
+            "Takes a line of 64 flows with each packet in a frame",
+        ),
+    )
 }
 
 // The same with the option `--robust`.
@@ -485,12 +500,10 @@ fn with_line<'a>(
     name: &'a str,
     about: &'a str,
 ) -> Result<clap::Command<'a>, AllocError>
-    ensures app { IfOk result (λ command. app_of command ≡ with_line name.entry.now) }
-    ensures local { IfOk result (λ command. (fields_of command).has_globals ≡ false) }
+    ensures { IsCommand (with_line name.entry.now) result }
 {
-    let robust = Arg::new(alloc, "robust")
-        .long("robust")
-        .value_name("N")
-        .help(ROBUST_HELP);
-    with_frames(alloc, name, about)?.arg(robust)
+    taking(
+        with_frames(alloc, name, about),
+        option(alloc, "robust", "N", ROBUST_HELP),
+    )
 }

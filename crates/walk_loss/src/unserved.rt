@@ -29,6 +29,15 @@ pub struct Unserved {
     pub needed: Bits,
 }
 
+/// Of a format of the top, by its index: its best filling fits in the sender's own context, but not in another that a receiver may hold, to which so many packets
+/// right before were lost. There this use of a reference doesn't serve.
+#[derive(Drop)]
+pub struct Lack {
+    pub format: usize,
+    pub gap: usize,
+    pub unserved: Unserved,
+}
+
 /// The uses of references that don't serve in the context, of a filling that fits the top in some other one: in field order, and in the place of a field that calls
 /// a method those of the filling inside. The error is out of memory.
 pub fn unserved_uses(

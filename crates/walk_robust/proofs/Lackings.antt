@@ -15,7 +15,7 @@ use Rattle.walk_engine.specs.declared.search.Candidate.{Candidate}
 use Rattle.walk_engine.specs.Reading.{Fitting}
 use Rattle.walk_engine.specs.Searching.{number_in}
 use Rattle.walk_engine.specs.Writing.{HasNoneFrom, IsPackedFrom}
-use Rattle.walk_robust.specs.declared.lacks.Lack.{Lack}
+use Rattle.walk_loss.specs.declared.unserved.Lack.{Lack}
 use Rattle.walk_robust.specs.Answers.{FitsEach}
 use Rattle.walk_robust.specs.Lacks.{AddsLack, AreLacks, IsBestOfFormat, IsLack, IsTold, fits_all, format_of, lacks, was_told}
 use Rattle.walk_robust.proofs.Staying.{at_either, at_left, at_right, past, past_is}

@@ -11,7 +11,7 @@ use Rattle.sem_elsewhere.specs.Uses.{Use}
 use Rattle.walk_engine.specs.Reading.{Fitting}
 use Rattle.walk_engine.specs.Searching.{number_in}
 use Rattle.walk_loss.specs.Unserved.{IsFirstUnserved}
-use Rattle.walk_robust.specs.declared.lacks.Lack.{Lack}
+use Rattle.walk_loss.specs.declared.unserved.Lack.{Lack}
 use Rattle.walk_robust.specs.Answers.{FitsEach}
 
 abbrev pub format_of : Filling → ℕ

@@ -13,16 +13,7 @@ use sem_filling::{Filling, Item};
 use sqlite_items::Items;
 use std::alloc::{AllocError, Global};
 use walk_engine::{Candidate, PackFault, pack_from};
-use walk_loss::{Unserved, first_unserved, uses_of};
-
-/// Of a format of the top, by its index: its best filling fits in the sender's own context, but not in another that a receiver may hold, to which so many packets
-/// right before were lost. There this use of a reference doesn't serve.
-#[derive(Drop)]
-pub struct Lack {
-    pub format: usize,
-    pub gap: usize,
-    pub unserved: Unserved,
-}
+use walk_loss::{Lack, first_unserved, uses_of};
 
 impl Robust {
     /// What stands against each format of the top that has a filling with the item which fits in the sender's own context, where none fits in all that a receiver

@@ -1,7 +1,6 @@
 //! A sender whose packets survive losses: it packs each item so that a receiver reads it in every context that it may then hold.
 #![tactic(auto)]
 
-pub use lacks::Lack;
 pub use sender::{PAIR_LIMIT, Robust, RobustFault};
 
 mod common_filling;

@@ -41,14 +41,11 @@ impl Session {
     pub fn new(alloc: Global, accepted: Accepted, flows: u8) -> Result<Session, AllocError>
         ensures { IfOk result (λ s. s ≡ record { accepted = accepted; flows = new_flows flows }) }
     {
-        let mut all = Vec::new(alloc);
-        for _i in 0..flows {
-            all.push(Ends::new(alloc))?;
-        }
+        let (flows, formats) = empty_flows(alloc, flows)?;
         Ok(Session {
             accepted,
-            flows: all,
-            formats: no_formats(alloc, flows)?,
+            flows,
+            formats,
         })
     }
 
@@ -188,6 +185,17 @@ fn held_by(sending: &Sending) -> usize
         Sending::Plain(_) => 1,
         Sending::Robust(robust) => robust.held(),
     }
+}
+
+/// Both ends of so many flows, of which nothing was packed or unpacked, and no last format of each. (They are made where no profile would be let go of.)
+fn empty_flows(alloc: Global, flows: u8) -> Result<(Vec<Ends>, Vec<Option<usize>>), AllocError>
+    ensures { IfOk result (λ made. made.0.items ≡ new_flows flows) }
+{
+    let mut all = Vec::new(alloc);
+    for _i in 0..flows {
+        all.push(Ends::new(alloc))?;
+    }
+    Ok((all, no_formats(alloc, flows)?))
 }
 
 /// No last format of so many flows.

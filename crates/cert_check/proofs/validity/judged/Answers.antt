@@ -1,7 +1,8 @@
 use Rattle.std.proofs.Common.{List, sym, subst}
 use Rattle.sem_profile.specs.declared.profile.Method.{Method}
 use Rattle.cert_trees.specs.Calling.{CallsWithin}
-use Rattle.cert_check.proofs.JudgedRefusing.{whole_verdict, refused_as, found_in, none_in, calls_within}
+use Rattle.cert_trees.proofs.CallingWithin.{calls_within}
+use Rattle.cert_check.proofs.JudgedRefusing.{whole_verdict, refused_as, found_in, none_in}
 use Rattle.cert_check.proofs.validity.judged.Goals as goal
 
 pub top_verdict-requires-clause-within : goal.top_verdict-requires-clause-within

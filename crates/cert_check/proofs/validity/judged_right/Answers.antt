@@ -1,7 +1,8 @@
 use Rattle.std.proofs.Common.{List, sym, subst}
 use Rattle.sem_profile.specs.declared.profile.Method.{Method}
 use Rattle.cert_trees.specs.Calling.{CallsWithin}
-use Rattle.cert_check.proofs.JudgedRefusing.{right_verdict, calls_within}
+use Rattle.cert_trees.proofs.CallingWithin.{calls_within}
+use Rattle.cert_check.proofs.JudgedRefusing.{right_verdict}
 use Rattle.cert_check.proofs.validity.judged_right.Goals as goal
 
 pub top_verdict-requires-clause-within : goal.top_verdict-requires-clause-within

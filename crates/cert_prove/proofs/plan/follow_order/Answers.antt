@@ -3,6 +3,7 @@ use Rattle.std.specs.Prelude.{option_map}
 use Rattle.std.specs.Option.{option_copied}
 use Rattle.std.proofs.lemmas.Bool.{iff_false}
 use Rattle.cert_plans.specs.Knowing.{shows}
+use Rattle.cert_plans.specs.Listed.{AreFlags}
 use Rattle.cert_plans.specs.Needing.{told}
 use Rattle.cert_prove.specs.declared.plan.End.TheVariants.{Complete, Stopped, Full}
 use Rattle.cert_prove.specs.Searching.{ruled, gives_more, AreWaiting}
@@ -14,14 +15,19 @@ use Rattle.cert_prove.proofs.plan.follow_order.Goals as goal
 pub more-init : goal.more-init
 more-init c =
     let known = c.in_ok-known in
+    let agenda = c.in_ok-agenda in
     let first = c.first_missing-missing.ensures in (
       subst (λ z. SoFar c.args.version c.args.direction c.args.table.now c.args.sizes.now c.args.format.now z known.known) (sym (c.from_vec-steps.ensures ∙ c.in_ok-with_capacity.ensures.items))
           (begins c.args.version c.args.direction c.args.table.now c.args.sizes.now c.args.format.now known.known known.ensures.known known.ensures.width),
-      none_rest (shows known.known) c.args.format.now c.as_slice-possible.result.now c.in_ok-waits.waits.due c.in_ok-waits.waits.noted c.in_ok-waits.ensures.due c.in_ok-waits.ensures.rows c.in_ok-waits.ensures.few,
-      none_left c.args.format.now c.as_slice-possible.result.now (shows known.known) c.in_ok-needs.needs.items c.in_ok-needs.ensures,
+      none_rest (shows known.known) c.args.format.now c.as_slice-possible.result.now agenda.agenda.waits.due agenda.agenda.waits.noted agenda.ensures.due agenda.ensures.rows agenda.ensures.few,
+      none_left c.args.format.now c.as_slice-possible.result.now (shows known.known) agenda.agenda.needs.items agenda.ensures.needs,
       first.learnt,
       first.missing,
+      agenda.ensures.listed,
     )
+
+pub first_missing-missing-requires-in-more-clause-flags : goal.first_missing-missing-requires-in-more-clause-flags
+first_missing-missing-requires-in-more-clause-flags c = subst (AreFlags c.args.format.now) (sym c.as_slice-in-more.ensures) c.more.invariant.5
 
 pub first_missing-missing-requires-in-more-clause-learnt : goal.first_missing-missing-requires-in-more-clause-learnt
 first_missing-missing-requires-in-more-clause-learnt c =
@@ -83,4 +89,5 @@ more-preserved c =
       left_on format c.as_slice-possible.result.now (shows known) (shows new) c.next_step.new.needs.items (knows_all known new gives learns) c.in_ok-next.ensures.left,
       c.first_missing-missing-in-more.ensures.learnt,
       c.first_missing-missing-in-more.ensures.missing,
+      c.more.invariant.5,
     )

@@ -1,7 +1,7 @@
 use Rattle.std.proofs.Common.{List, sym, subst}
 use Rattle.sem_profile.specs.declared.profile.Method.{Method}
 use Rattle.cert_trees.specs.Calling.{CallsWithin}
-use Rattle.cert_check.proofs.JudgedRefusing.{calls_within}
+use Rattle.cert_trees.proofs.CallingWithin.{calls_within}
 use Rattle.tool_names.proofs.candidates.count_all.Goals as goal
 
 pub callees_first-requires-clause-within : goal.callees_first-requires-clause-within

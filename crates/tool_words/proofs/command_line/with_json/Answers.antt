@@ -1,0 +1,4 @@
+use Rattle.tool_words.proofs.command_line.with_json.Goals as goal
+
+pub returns : goal.returns
+returns c = c.taking.ensures _ _ c.with_version.ensures c.flag.ensures.rule
