@@ -1,10 +1,15 @@
 -- Lines and words, one after the other.
-use Rattle.std.proofs.Common.{◌≡◌, ◌==◌, ℕ, zero, suc, ◌+◌, ◌<◌, ◌≤◌, Bool, List, [], ◌∷◌, ◌++◌, length, take, drop, map, get_or, ap, refl, sym, ◌∙◌, subst, arith}
+use Rattle.std.proofs.Common.{◌≡◌, ◌==◌, ℕ, zero, suc, ◌+◌, ◌<◌, ◌≤◌, Bool, List, [], ◌∷◌, ◌++◌, length, take, drop, map, get_or, ap, refl, sym, ◌∙◌, subst, append_assoc, arith}
 use Rattle.std.specs.Borrow.{Bor}
 use Rattle.std.specs.List.{AllZip, slice_split}
 use Rattle.std.specs.Str.{IsUtf8}
-use Rattle.std.specs.Prelude.{Option, Some, None, IsTrue, true, false, if◌then◌else◌}
-use Rattle.std.proofs.lemmas.List.{take_more, take_all, map-append, take-append-drop, drop_more}
+use Rattle.std.specs.Prelude.{Option, Some, None, Result, Ok, Err, IfOk, IfSome, IsTrue, MatchResult, decimal, is_err, true, false, if◌then◌else◌}
+use Rattle.hex.specs.Hex.{decode_of, decode_sized}
+use Rattle.hex.specs.declared.error.FromHexError.{FromHexError}
+use Rattle.hex.proofs.HexLemmas.{decode_sized-ok, decode_sized-twice}
+use Rattle.sem_bits.specs.Octets.{Holds}
+use Rattle.sem_bits.specs.Text.{ReadsAs}
+use Rattle.std.proofs.lemmas.List.{append-nil, take_more, take_all, map-append, take-append-drop, drop_more}
 use Rattle.std.proofs.lemmas.List.Splits.{slice_split_at, slice_split_none}
 use Rattle.sem_bits.specs.declared.lines.Line.{Line}
 use Rattle.sem_bits.specs.Lines.{numbered_lines}
@@ -18,7 +23,7 @@ use Rattle.sem_profile.specs.Words.{as_name}
 use Rattle.sem_filling.specs.declared.filling.AskedValue.{AskedValue}
 use Rattle.tool_input.specs.declared.inputs.BadLine.{BadLine}
 use Rattle.tool_input.specs.declared.inputs.BadLine.TheVariants as bad
-use Rattle.tool_input.specs.Inputs.{AreRead, BlamesBroken, BlamesContext, BlamesLine, HasLines, IsBadLine, IsValue, StartsAt, absent, broken, broken_context, given, unread, unread_context}
+use Rattle.tool_input.specs.Inputs.{AreRead, BlamesBroken, BlamesContext, BlamesLine, HasLines, IsBadLine, IsBits, IsValue, StartsAt, absent, broken, broken_context, given, unread, unread_context}
 
 -- ---- two lists, place by place
 
@@ -83,6 +88,34 @@ one_word line h = slice_split_none (λ octet. octet == 32) line (All-Lacks 32 li
 pub more_words : (line word more : List ℕ) → line ≡ word ++ 32 ∷ more → Lacks 32 word → slice_split (λ octet. octet == 32) line ≡ word ∷ slice_split (λ octet. octet == 32) more
 more_words line word more e h = ap (slice_split (λ octet. octet == 32)) e ∙ slice_split_at (λ octet. octet == 32) word 32 more (All-Lacks 32 word h) refl
 
+-- the words so far are read as the values so far, and the rest of them are left
+abbrev pub AreReadSoFar : List (List ℕ) → List (List ℕ) → List AskedValue → Type 0
+AreReadSoFar all left values = (front : List (List ℕ)) × AllZip IsValue front values × (all ≡ front ++ left)
+
+pub words_start : (all : List (List ℕ)) (values : List AskedValue) → values ≡ [] → AreReadSoFar all all values
+words_start all values none = ([], subst (AllZip IsValue []) (sym none) tt, refl)
+
+pub words_more : (all left next : List (List ℕ)) (word : List ℕ) (values new : List AskedValue) (v : AskedValue) → left ≡ word ∷ next → AreReadSoFar all left values → IsValue word v → new ≡ values ++ v ∷ [] → AreReadSoFar all next new
+words_more all left next word values new v here so_far reads is = (
+  so_far.0 ++ word ∷ [],
+  subst (AllZip IsValue (so_far.0 ++ word ∷ [])) (sym is) (zip_push IsValue so_far.0 values word v so_far.1 reads),
+  so_far.2 ∙ ap (λ l. so_far.0 ++ l) here ∙ sym (append_assoc so_far.0 (word ∷ []) next),
+)
+
+pub words_end : (all left : List (List ℕ)) (word : List ℕ) (values new : List AskedValue) (v : AskedValue) → left ≡ word ∷ [] → AreReadSoFar all left values → IsValue word v → new ≡ values ++ v ∷ [] → AllZip IsValue all new
+words_end all left word values new v here so_far reads is =
+    let whole = words_more all left [] word values new v here so_far reads is in
+    subst (λ ws. AllZip IsValue ws new) (sym (whole.2 ∙ append-nil whole.0)) whole.1
+
+zip_without : (front next : List (List ℕ)) (word : List ℕ) → ((v : AskedValue) → IsValue word v → ⊥) → (vs : List AskedValue) → AllZip IsValue (front ++ word ∷ next) vs → ⊥
+zip_without [] next word none [] h = h
+zip_without [] next word none (v ∷ vs) h = none v h.0
+zip_without (f ∷ front) next word none [] h = h
+zip_without (f ∷ front) next word none (v ∷ vs) h = zip_without front next word none vs h.1
+
+pub words_none : (all left next : List (List ℕ)) (word : List ℕ) (values : List AskedValue) → left ≡ word ∷ next → AreReadSoFar all left values → ((v : AskedValue) → IsValue word v → ⊥) → (vs : List AskedValue) → AllZip IsValue all vs → ⊥
+words_none all left next word values here so_far none vs h = zip_without so_far.0 next word none vs (subst (λ ws. AllZip IsValue ws vs) (so_far.2 ∙ ap (λ l. so_far.0 ++ l) here) h)
+
 -- ---- a value of an item
 
 -- a word is cut at its first equals sign
@@ -109,6 +142,37 @@ named text name o e some = by (is_name text) refl
         let same : text ≡ name = cc in
         (same, subst (λ t. IsTrue (is_name t)) same is)
     by false is = let none : None ≡ Some name = sym (ap (λ b. if b then Some text else None) is) ∙ sym e ∙ some in absurd cc
+
+-- ---- the text of whole octets
+
+-- what is decoded into room for as many octets
+pub digits_read : (digits out : List ℕ) (b : List Bool) (many count : ℕ) (r : Result Unit FromHexError) → MatchResult (decode_sized digits many) (λ bytes. (r ≡ Ok tt) × (out ≡ bytes)) (λ e. r ≡ Err e) → is_err r ≡ false → length b ≡ count → Holds out b
+    → ReadsAs (decimal count ++ 58 ∷ digits) b
+digits_read digits out b many count r d fine l held = by (decode_sized digits many) refl
+  where
+    by : (x : Result (List ℕ) FromHexError) → decode_sized digits many ≡ x → ReadsAs (decimal count ++ 58 ∷ digits) b
+    by (Ok bytes) is =
+        let found : (r ≡ Ok tt) × (out ≡ bytes) = rw is at d in
+        let decoded : decode_of digits ≡ Ok bytes = sym (decode_sized-twice digits many (decode_sized-ok digits many bytes is)) ∙ is in
+        record { octets = out; digits = digits; held = held; spelled = ap (λ n. decimal n ++ 58 ∷ digits) (sym l); decoded = decoded ∙ ap Ok (sym found.1) }
+    by (Err e) is =
+        let found : r ≡ Err e = rw is at d in
+        let wrong : true ≡ false = ap is_err (sym found) ∙ fine in
+        absurd (cc wrong)
+
+pub digits_found : {E : Type 0} (o : Result (Option (List Bool)) E) (digits out : List ℕ) (many count : ℕ) (r : Result Unit FromHexError) → MatchResult (decode_sized digits many) (λ bytes. (r ≡ Ok tt) × (out ≡ bytes)) (λ e. r ≡ Err e) → is_err r ≡ false
+    → IfOk o (λ x. IfSome x (λ b. (length b ≡ count) × Holds out b)) → IfOk o (λ x. IfSome x (λ b. (length b ≡ count) × ReadsAs (decimal count ++ 58 ∷ digits) b))
+digits_found (Ok (Some b)) digits out many count r d fine h = (h.0, digits_read digits out b many count r d fine h.0 h.1)
+digits_found (Ok None) digits out many count r d fine h = h
+digits_found (Err e) digits out many count r d fine h = h
+
+pub whole_found : {E : Type 0} (o : Result (Option (List Bool)) E) (text front digits : List ℕ) (count : ℕ) → text ≡ front ++ 58 ∷ digits → front ≡ decimal count → count ≤ 65536
+    → IfOk o (λ x. IfSome x (λ b. (length b ≡ count) × ReadsAs (decimal count ++ 58 ∷ digits) b)) → IfOk o (λ x. IfSome x (IsBits text))
+whole_found (Ok (Some b)) text front digits count cut spelled small h =
+    let whole : text ≡ decimal count ++ 58 ∷ digits = cut ∙ ap (λ t. t ++ 58 ∷ digits) spelled in
+    record { reads = subst (λ t. ReadsAs t b) (sym whole) h.1; short = omega (arith, h.0) }
+whole_found (Ok None) text front digits count cut spelled small h = h
+whole_found (Err e) text front digits count cut spelled small h = h
 
 -- ---- the context
 

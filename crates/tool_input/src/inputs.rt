@@ -1,15 +1,16 @@
 //! The lines of items, packets and a context.
 
-ghost use Rattle.std.specs.Prelude.{◌≡◌, ◌==◌, ℕ, Bool, List, IfOk, IfErr, IfSome, IfNone, map};
+ghost use Rattle.std.specs.Prelude.{◌≡◌, ◌==◌, ◌↔◌, ℕ, Bool, List, [], ◌∷◌, ◌++◌, length, IsTrue, IfOk, IfErr, IfSome, IfNone, decimal, map};
+ghost use Rattle.sem_bits.specs.Text.{ReadsAs};
 ghost use Rattle.std.specs.List.{AllZip, slice_split};
 ghost use Rattle.std.specs.Str.{IsUtf8};
 ghost use Rattle.sem_bits.specs.Lines.{BlamesLines};
 ghost use Rattle.sem_filling.specs.declared.filling.AskedValue.{AskedValue};
 ghost use Rattle.sem_filling.specs.declared.filling.Item.{Item};
-ghost use Rattle.sem_profile.specs.Words.{as_name};
 ghost use Rattle.tool_input.specs.Inputs.{AreItemWords, BlamesBroken, BlamesContext, BlamesLine, HasLines, IsBits, IsItem, IsValue, StartsAt};
 
 use crate::bundle::Parts;
+use itoa::Buffer;
 use sem_bits::Bits;
 use sem_bits::lines::{LinesError, lines};
 use sem_context::{Context, ContextError};
@@ -151,54 +152,120 @@ pub fn read_item(alloc: Global, line: &str, like: &[AskedValue]) -> Result<Optio
     ensures none { IfOk result (λ o. IfNone o ((it : Item) → IsItem line.now it → ⊥)) }
 {
     match line.split_once(' ') {
-        Some(_) => item_in(alloc, line, like),
-        None => item_of(alloc, &[line], like),
+        Some((header, words)) => item_in(alloc, header, words, like),
+        None => item_without(alloc, line),
     }
 }
 
-/// The item of a line of any number of words.
+/// The item of the text of a header, with no values.
 #[inline(never)]
-fn item_in(alloc: Global, line: &str, like: &[AskedValue]) -> Result<Option<Item>, AllocError>
-    ensures found { IfOk result (λ o. IfSome o (IsItem line.now)) }
-    ensures none { IfOk result (λ o. IfNone o ((it : Item) → IsItem line.now it → ⊥)) }
+fn item_without(alloc: Global, header: &str) -> Result<Option<Item>, AllocError>
+    ensures found { IfOk result (λ o. IfSome o (AreItemWords (header.now ∷ []))) }
+    ensures none { IfOk result (λ o. IfNone o ((it : Item) → AreItemWords (header.now ∷ []) it → ⊥)) }
 {
-    let words = pieces(alloc, line)?;
-    item_of(alloc, words.as_slice(), like)
-}
-
-/// The item of words, or `None` where they are none.
-fn item_of(alloc: Global, words: &[&str], like: &[AskedValue]) -> Result<Option<Item>, AllocError>
-    ensures found { IfOk result (λ o. IfSome o (AreItemWords (map (λ word. word.now) words.now))) }
-    ensures none { IfOk result (λ o. IfNone o ((it : Item) → AreItemWords (map (λ word. word.now) words.now) it → ⊥)) }
-{
-    let [header, values @ ..] = words else {
-        return Ok(None);
-    };
     let Some(header) = read_bits(alloc, header)? else {
         return Ok(None);
     };
-    let Some(asked) = read_values(alloc, values, like)? else {
+    let asked = Items::from_vec(Vec::new(alloc));
+    Ok(Some(Item { header, asked }))
+}
+
+/// The item of the text of a header and of the words of its values.
+fn item_in(
+    alloc: Global,
+    header: &str,
+    words: &str,
+    like: &[AskedValue],
+) -> Result<Option<Item>, AllocError>
+    ensures found { IfOk result (λ o. IfSome o (AreItemWords (header.now ∷ slice_split (λ octet. octet == 32) words.now))) }
+    ensures none { IfOk result (λ o. IfNone o ((it : Item) → AreItemWords (header.now ∷ slice_split (λ octet. octet == 32) words.now) it → ⊥)) }
+{
+    let Some(header) = read_header(alloc, header)? else {
+        return Ok(None);
+    };
+    let Some(asked) = read_values(alloc, words, like)? else {
         return Ok(None);
     };
     Ok(Some(Item { header, asked }))
 }
 
+/// The bits of a text, or `None` where it is none. Whole octets, up to 64 of them, take no more room than the bits do.
+fn read_header(alloc: Global, text: &str) -> Result<Option<Bits>, AllocError>
+    ensures found { IfOk result (λ o. IfSome o (IsBits text.now)) }
+    ensures none { IfOk result (λ o. IfNone o ((b : List Bool) → IsBits text.now b → ⊥)) }
+{
+    match read_whole(alloc, text)? {
+        Some(bits) => Ok(Some(bits)),
+        None => read_bits(alloc, text),
+    }
+}
+
+/// The bits of a text of whole octets, up to 64 of them. It is `None` where the text is none, or may be another.
+fn read_whole(alloc: Global, text: &str) -> Result<Option<Bits>, AllocError>
+    ensures { IfOk result (λ o. IfSome o (IsBits text.now)) }
+{
+    let Some((front, digits)) = text.split_once(':') else {
+        return Ok(None);
+    };
+    let many = digits.len() / 2;
+    if many > 64 {
+        return Ok(None);
+    }
+    if !is_count(front, 8 * many) {
+        return Ok(None);
+    }
+    let mut octets = [0u8; 64];
+    read_digits(alloc, digits, &mut octets[..many], 8 * many)
+}
+
+/// Whether a text is the count.
+#[inline(always)]
+fn is_count(text: &str, count: usize) -> bool
+    ensures { IsTrue result ↔ (text.now ≡ decimal count) }
+{
+    let mut buffer = Buffer::new();
+    buffer.format(count) == text
+}
+
+/// The bits of digits, as many as the count, or `None` where they are none. Their octets fill the room.
+#[inline(always)]
+fn read_digits(
+    alloc: Global,
+    digits: &str,
+    room: &mut [u8],
+    count: usize,
+) -> Result<Option<Bits>, AllocError>
+    ensures { IfOk result (λ o. IfSome o (λ b. (length b ≡ count) × ReadsAs (decimal count ++ 58 ∷ digits.now) b)) }
+{
+    if hex::decode_to_slice(digits, room).is_err() {
+        return Ok(None);
+    }
+    Bits::from_octets(alloc, room, count)
+}
+
 /// The values of words, or `None` where one of them gives none.
 fn read_values(
     alloc: Global,
-    words: &[&str],
+    words: &str,
     like: &[AskedValue],
 ) -> Result<Option<Items<AskedValue>>, AllocError>
-    ensures found { IfOk result (λ o. IfSome o (AllZip IsValue (map (λ word. word.now) words.now))) }
-    ensures none { IfOk result (λ o. IfNone o ((values : List AskedValue) → AllZip IsValue (map (λ word. word.now) words.now) values → ⊥)) }
+    ensures found { IfOk result (λ o. IfSome o (AllZip IsValue (slice_split (λ octet. octet == 32) words.now))) }
+    ensures none { IfOk result (λ o. IfNone o ((values : List AskedValue) → AllZip IsValue (slice_split (λ octet. octet == 32) words.now) values → ⊥)) }
 {
-    let mut values = Items::from_vec(Vec::with_capacity(alloc, words.len())?);
-    for word in words {
+    let mut values = Items::from_vec(Vec::with_capacity(alloc, like.len())?);
+    let mut rest = words;
+    while let Some((word, more)) = rest.split_once(' ') {
         let name = name_at(like, values.len());
         match read_value(alloc, word, name)? {
             Some(value) => values.push(value)?,
             None => return Ok(None),
         }
+        rest = more;
+    }
+    let name = name_at(like, values.len());
+    match read_value(alloc, rest, name)? {
+        Some(value) => values.push(value)?,
+        None => return Ok(None),
     }
     Ok(Some(values))
 }
@@ -211,7 +278,7 @@ fn name_at(values: &[AskedValue], place: usize) -> Option<&Name> {
     }
 }
 
-/// The value that a word gives to a field, or `None` where it gives none.
+/// The value that a word gives to a field, or `None` where it gives none. Its name shares its text with the one that it is like, if they are the same.
 fn read_value(
     alloc: Global,
     word: &str,
@@ -220,29 +287,45 @@ fn read_value(
     ensures found { IfOk result (λ o. IfSome o (IsValue word.now)) }
     ensures none { IfOk result (λ o. IfNone o ((v : AskedValue) → IsValue word.now v → ⊥)) }
 {
+    if let Some(name) = like {
+        if let Some(rest) = word.strip_prefix(name.as_str()) {
+            if let Some(spelled) = rest.strip_prefix('=') {
+                return read_named(alloc, name, spelled);
+            }
+        }
+    }
+    read_new(alloc, word)
+}
+
+/// The value that a name and the text of bits give to a field, or `None` where the text is none.
+fn read_named(alloc: Global, name: &Name, spelled: &str) -> Result<Option<AskedValue>, AllocError>
+    ensures found { IfOk result (λ o. IfSome o (IsValue (name.now ++ 61 ∷ spelled.now))) }
+    ensures none { IfOk result (λ o. IfNone o ((v : AskedValue) → IsValue (name.now ++ 61 ∷ spelled.now) v → ⊥)) }
+{
+    name.keeps();
+    let Some(bits) = read_bits(alloc, spelled)? else {
+        return Ok(None);
+    };
+    let name = name.share()?;
+    Ok(Some(AskedValue { name, bits }))
+}
+
+/// The value that a word gives to a field of any name, or `None` where it gives none.
+#[inline(never)]
+fn read_new(alloc: Global, word: &str) -> Result<Option<AskedValue>, AllocError>
+    ensures found { IfOk result (λ o. IfSome o (IsValue word.now)) }
+    ensures none { IfOk result (λ o. IfNone o ((v : AskedValue) → IsValue word.now v → ⊥)) }
+{
     let Some((name, spelled)) = word.split_once('=') else {
         return Ok(None);
     };
-    let Some(name) = named(alloc, name, like)? else {
+    let Some(name) = Name::new(alloc, name)? else {
         return Ok(None);
     };
     let Some(bits) = read_bits(alloc, spelled)? else {
         return Ok(None);
     };
     Ok(Some(AskedValue { name, bits }))
-}
-
-/// The name of a text, or `None` where it is none. It shares its text with the name that it is like, if they are the same.
-fn named(alloc: Global, text: &str, like: Option<&Name>) -> Result<Option<Name>, AllocError>
-    ensures { IfOk result (λ name. name ≡ as_name text.now) }
-{
-    if let Some(name) = like {
-        if name.as_str() == text {
-            name.keeps();
-            return Ok(Some(name.share()?));
-        }
-    }
-    Name::new(alloc, text)
 }
 
 /// A line cut at each blank.

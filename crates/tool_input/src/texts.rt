@@ -30,8 +30,27 @@ pub fn push_bits(alloc: Global, text: &mut String, bits: &Bits) -> Result<(), Al
 fn push_long(alloc: Global, text: &mut String, bits: &Bits) -> Result<(), AllocError>
     ensures { OnOk result (HasMore (λ spelled. IsText spelled bits.now) (string_bytes text.old) (string_bytes text.new)) }
 {
-    let spelled = bits.print_text(alloc)?;
-    text.push_str(spelled.as_str())
+    let octets = bits.to_octets(alloc)?;
+    let many = octets.len();
+    if many > 64 {
+        return push_many(alloc, text, bits.len(), octets.as_slice());
+    }
+    let mut digits = [0u8; 128];
+    push_octets(text, bits.len(), octets.as_slice(), &mut digits[..2 * many])
+}
+
+/// Adds a count, a colon and the hex digits of any number of octets.
+#[inline(never)]
+fn push_many(
+    alloc: Global,
+    text: &mut String,
+    count: usize,
+    octets: &[u8],
+) -> Result<(), AllocError>
+    ensures { OnOk result (string_bytes text.new ≡ string_bytes text.old ++ decimal count ++ 58 ∷ encode_lower octets.now) }
+{
+    let digits = hex::encode(alloc, octets)?;
+    push_digits(text, count, digits.as_str())
 }
 
 /// Adds the text of at most 64 bits.
