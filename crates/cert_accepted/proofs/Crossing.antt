@@ -2,6 +2,7 @@
 use denote.Builtin.{u64}
 use denote.Hole.{as_row}
 use denote.RattleType.{RattleType}
+use denote.Struct.Field.{bool-field}
 use denote.Param.Send.{IsSend, sendable, view_send}
 use denote.Param.SendFields.{as_row_send, declared_send}
 use Rattle.sqlite_items.proofs.items.Items.TheSendSync as items_sent
@@ -19,8 +20,11 @@ items_send R s = as_row_send (Items.the_field R) (items_sent.the_send R s)
 number_send : IsSend u64
 number_send = search sendable depth 20
 
+flag_send : IsSend (as_row bool-field)
+flag_send = search sendable depth 20
+
 pub Accepted-send : IsSend accepted.the_row
 Accepted-send = let numbers = items_sent.the_send u64 number_send in view_send inside.the_row _ _ _ _ (declared_send inside.the_type (
   Profile-send,
-  (certificate_sent.the_send, (items_send u64 number_send, (items_send (Items.the_row u64) numbers, (tables_sent.the_send, (plans_sent.the_send, tt))))),
+  (certificate_sent.the_send, (items_send u64 number_send, (items_send (Items.the_row u64) numbers, (tables_sent.the_send, (plans_sent.the_send, (flag_send, tt)))))),
 ))

@@ -1,7 +1,8 @@
 //! A profile with a certificate that is valid for it.
 
-ghost use Rattle.std.specs.Prelude.{◌≡◌, drop, length, slice_get, IfOk};
+ghost use Rattle.std.specs.Prelude.{◌≡◌, drop, length, slice_get, IfOk, IsTrue};
 ghost use Rattle.sem_context.specs.Entries.{bits_at};
+ghost use Rattle.sem_elsewhere.specs.Paths.{CallAlike};
 ghost use Rattle.cert_accepted.specs.Accepted.{IsAccepted, IsDeterminate};
 ghost use Rattle.cert_compiled.specs.Compiled.{AreCompiled};
 ghost use Rattle.cert_compiled.specs.Single.{AreSingles};
@@ -15,6 +16,7 @@ use cert_tables::{Picked, Tables};
 use cert_types::Certificate;
 use sem_bits::Cursor;
 use sem_filling::Frame;
+use sem_pages::calls_alike;
 use sem_profile::Profile;
 use sqlite_items::Items;
 use std::alloc::{AllocError, Global};
@@ -29,6 +31,8 @@ pub struct Accepted {
     spans: Items<Items<u64>>,
     tables: Tables,
     compiled: CompiledPlans,
+    /// Whether the methods call alike.
+    alike: bool,
 }
 
 impl Model for Accepted {
@@ -36,6 +40,8 @@ impl Model for Accepted {
     ghost use Rattle.cert_compiled.specs.Compiled.{AreCompiled};
     ghost use Rattle.cert_compiled.specs.Single.{AreSingles};
     ghost use Rattle.cert_tables.specs.Kept.{AreTables};
+    ghost use Rattle.sem_elsewhere.specs.Paths.{CallAlike};
+    ghost use Rattle.std.specs.Prelude.{IsTrue};
     ghost use Rattle.sem_expr.specs.contracts.expr.Expr as expr;
     ghost use Rattle.sem_expr.specs.contracts.expr.Cond as cond;
     ghost use Rattle.std.specs.Coded.{codes};
@@ -46,7 +52,7 @@ impl Model for Accepted {
 
     ghost view = { λ a. record { profile = a.profile; certificate = a.certificate; counts = a.counts; spans = a.spans } };
 
-    ghost invariant = { λ a. IsAccepted (record { profile = a.profile; certificate = a.certificate; counts = a.counts; spans = a.spans }) × AreTables a.certificate.methods a.tables × AreCompiled a.profile.methods a.profile.sizes a.compiled.plan_acts × AreSingles a.profile.methods a.certificate.methods a.compiled.singles };
+    ghost invariant = { λ a. IsAccepted (record { profile = a.profile; certificate = a.certificate; counts = a.counts; spans = a.spans }) × AreTables a.certificate.methods a.tables × AreCompiled a.profile.methods a.profile.sizes a.compiled.plan_acts × AreSingles a.profile.methods a.certificate.methods a.compiled.singles × (IsTrue a.alike → CallAlike a.profile.methods) };
 }
 
 impl Accepted {
@@ -66,6 +72,7 @@ impl Accepted {
         ensures profile { result.profile ≡ profile }
         ensures certificate { result.certificate ≡ certificate }
     {
+        let alike = calls_alike(profile.methods());
         Accepted {
             profile,
             certificate,
@@ -73,6 +80,7 @@ impl Accepted {
             spans,
             tables,
             compiled,
+            alike,
         }
     }
 
@@ -146,6 +154,13 @@ impl Accepted {
         ensures singles { AreSingles self.now.profile.methods self.now.certificate.methods result.now.singles }
     {
         &self.compiled
+    }
+
+    /// Whether the methods call alike: then all fillings of the top leave entries at the same paths, in the same order.
+    pub fn calls_alike(&self) -> bool
+        ensures { IsTrue result → CallAlike self.now.profile.methods }
+    {
+        self.alike
     }
 
     /// A law of what is accepted: the certificate is valid for the profile.

@@ -2,7 +2,7 @@
 //! format and what a look at it goes over.
 #![tactic(auto)]
 
-pub use fitting::first_left;
+pub use fitting::format_left;
 pub use looks::Looks;
 pub use operations::{Beginning, CompiledPlan, Count, Operation, Operations, ShortBits};
 pub use pages::{Length, Origin, PageOperation, PageWriting};

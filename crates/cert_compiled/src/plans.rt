@@ -6,6 +6,7 @@ ghost use Rattle.cert_compiled.specs.Compiled as spec;
 ghost use Rattle.cert_compiled.specs.Single.{AreSingles, flag_at};
 
 use crate::compiler::plan_acts;
+use crate::fitting::{Teller, tellers_of};
 use crate::looks::Looks;
 use crate::operations::CompiledPlan;
 use crate::singles::singles_of;
@@ -21,6 +22,8 @@ pub struct CompiledPlans {
     pub plan_acts: Items<Items<CompiledPlan>>,
     /// For each method whether each of its formats has one candidate for an item, as far as that is told.
     pub singles: Items<Items<bool>>,
+    /// For each method which of its formats an argument tells, as far as one does.
+    pub(crate) tellers: Items<Option<Teller>>,
 }
 
 impl CompiledPlans {
@@ -36,7 +39,12 @@ impl CompiledPlans {
     {
         let plan_acts = plan_acts(alloc, methods, table, entries)?;
         let singles = singles_of(alloc, methods, entries)?;
-        Ok(CompiledPlans { plan_acts, singles })
+        let tellers = tellers_of(alloc, methods)?;
+        Ok(CompiledPlans {
+            plan_acts,
+            singles,
+            tellers,
+        })
     }
 
     /// Whether the format of the method, both by their indices, has one candidate for an item, as far as that is told.

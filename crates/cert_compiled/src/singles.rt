@@ -14,7 +14,7 @@ use sqlite_items::{Items, at};
 use std::alloc::{AllocError, Global};
 
 /// How many formats a method may have, at most, for a parameter that tells them apart to be looked for.
-const MOST_FORMATS: usize = 16;
+pub(crate) const MOST_FORMATS: usize = 16;
 
 /// For each format of each method whether all fillings of it that have an item have the same number, as far as that is told. The error is out of memory.
 pub(crate) fn singles_of(
@@ -291,7 +291,7 @@ fn is_among(keys: &[i128], key: i128) -> bool
 }
 
 /// The number that a constraint of the format says the parameter to be.
-fn format_key(format: &Format, parameter: usize) -> Option<i128>
+pub(crate) fn format_key(format: &Format, parameter: usize) -> Option<i128>
     ensures { IfSome result (spec.HasKey parameter format.now.constraints) }
 {
     key_of(format.constraints.as_slice(), parameter)

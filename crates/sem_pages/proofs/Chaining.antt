@@ -8,7 +8,8 @@ use Rattle.sem_pages.specs.declared.chains.Chain.{Chain}
 use Rattle.sem_pages.specs.declared.chains.Link.{Link}
 use Rattle.sem_pages.specs.declared.chains.Operand.{Operand}
 use Rattle.sem_pages.specs.declared.chains.Operand.TheVariants as operand
-use Rattle.sem_pages.specs.Chains.{Follows, IsApplied, IsOperand, Meaning, Spells, attribute, chain, ends, goes, number, parameter}
+use Rattle.sem_pages.specs.declared.chains.Pair.{Pair}
+use Rattle.sem_pages.specs.Chains.{Follows, IsApplied, IsOperand, Meaning, Spells, attribute, chain, ends, field, goes, number, pair, pair_means, parameter, up}
 use Rattle.std.proofs.lemmas.Option.{slice_get-get_or}
 use Rattle.sem_filling.proofs.FillingsAsked.{drop_at}
 use Rattle.sem_pages.proofs.Growing.{front_get, last_get}
@@ -19,7 +20,9 @@ mutual
   pub operand_more : {chains : List Chain} {o : Operand} {m : Meaning} → (more : List Chain) → IsOperand chains o m → IsOperand (chains ++ more) o m
   operand_more more (number is) = number is
   operand_more more (parameter is) = parameter is
+  operand_more more (field is) = field is
   operand_more more (attribute is) = attribute is
+  operand_more more (pair is) = pair is
   operand_more {chains} more (chain {j = j} {c = c} at first links) = chain (front_get chains more j c at) (operand_more more first) (follows_more more links)
 
   follows_more : {chains : List Chain} {ls : List Link} {m whole : Meaning} → (more : List Chain) → Follows chains ls m whole → Follows (chains ++ more) ls m whole
@@ -39,7 +42,9 @@ follows_same other same (goes right applied rest) = goes right applied (follows_
 pub operand_same : {chains : List Chain} {o : Operand} {m : Meaning} (other : Meaning) → ((a : Assignment) → other a ≡ m a) → IsOperand chains o m → IsOperand chains o other
 operand_same other same (number is) = number (λ a. same a ∙ is a)
 operand_same other same (parameter is) = parameter (λ a. same a ∙ is a)
+operand_same other same (field is) = field (λ a. same a ∙ is a)
 operand_same other same (attribute is) = attribute (λ a. same a ∙ is a)
+operand_same other same (pair is) = pair (λ a. same a ∙ is a)
 operand_same other same (chain at first links) = chain at first (follows_same other same links)
 
 -- an operand with no links
@@ -51,7 +56,9 @@ spells_alone chains first links whole m none is same = record { begun = m; is_fi
 number_means : {chains : List Chain} {o : Operand} {m : Meaning} (n : ℤ) → o ≡ operand.Number n → IsOperand chains o m → (a : Assignment) → m a ≡ Some n
 number_means n e (number {n = k} is) a = let same : k ≡ n = cc in is a ∙ ap Some same
 number_means n e (parameter is) a = absurd (cc)
+number_means n e (field is) a = absurd (cc)
 number_means n e (attribute is) a = absurd (cc)
+number_means n e (pair is) a = absurd (cc)
 number_means n e (chain at first links) a = absurd (cc)
 
 pub nothing_follows : {chains : List Chain} {ls : List Link} {m whole : Meaning} → ls ≡ [] → Follows chains ls m whole → (a : Assignment) → whole a ≡ m a
@@ -68,7 +75,9 @@ pub record IsChainAt (chains : List Chain) (j : ℕ) (whole : Meaning) : Type 0 
 chain_there : {chains : List Chain} {o : Operand} {whole : Meaning} (j : ℕ) → o ≡ operand.Chain j → IsOperand chains o whole → IsChainAt chains j whole
 chain_there j e (number is) = absurd (cc)
 chain_there j e (parameter is) = absurd (cc)
+chain_there j e (field is) = absurd (cc)
 chain_there j e (attribute is) = absurd (cc)
+chain_there j e (pair is) = absurd (cc)
 chain_there {chains} {o} {whole} j e (chain {j = k} {c = c} {m = m} at first links) =
     let same : k ≡ j = cc in
     subst (λ z. IsChainAt chains z whole) same (record { found = c; at = at; begun = m; is_first = first; follow = links })
@@ -82,17 +91,43 @@ number_at n is = number_means n refl is
 parameter_means : {chains : List Chain} {o : Operand} {m : Meaning} (i : ℕ) → o ≡ operand.Parameter i → IsOperand chains o m → (a : Assignment) → m a ≡ a.parameter i
 parameter_means i e (number is) a = absurd (cc)
 parameter_means i e (parameter {i = k} is) a = let same : k ≡ i = cc in is a ∙ ap a.parameter same
+parameter_means i e (field is) a = absurd (cc)
 parameter_means i e (attribute is) a = absurd (cc)
+parameter_means i e (pair is) a = absurd (cc)
 parameter_means i e (chain at first links) a = absurd (cc)
 
 attribute_means : {chains : List Chain} {o : Operand} {m : Meaning} (t : Attribute) → o ≡ operand.Attribute t → IsOperand chains o m → (a : Assignment) → m a ≡ a.attribute t
 attribute_means t e (number is) a = absurd (cc)
 attribute_means t e (parameter is) a = absurd (cc)
+attribute_means t e (field is) a = absurd (cc)
+attribute_means t e (pair is) a = absurd (cc)
 attribute_means t e (attribute {t = k} is) a = let same : k ≡ t = cc in is a ∙ ap a.attribute same
 attribute_means t e (chain at first links) a = absurd (cc)
 
 pub attribute_at : {chains : List Chain} {m : Meaning} (t : Attribute) → IsOperand chains (operand.Attribute t) m → (a : Assignment) → m a ≡ a.attribute t
 attribute_at t is = attribute_means t refl is
+
+field_means : {chains : List Chain} {o : Operand} {m : Meaning} (i : ℕ) → o ≡ operand.Field i → IsOperand chains o m → (a : Assignment) → m a ≡ a.attribute (up i)
+field_means i e (number is) a = absurd (cc)
+field_means i e (parameter is) a = absurd (cc)
+field_means i e (field {i = k} is) a = let same : k ≡ i = cc in is a ∙ ap (λ j. a.attribute (up j)) same
+field_means i e (attribute is) a = absurd (cc)
+field_means i e (pair is) a = absurd (cc)
+field_means i e (chain at first links) a = absurd (cc)
+
+pub field_at : {chains : List Chain} {m : Meaning} (i : ℕ) → IsOperand chains (operand.Field i) m → (a : Assignment) → m a ≡ a.attribute (up i)
+field_at i is = field_means i refl is
+
+pair_there : {chains : List Chain} {o : Operand} {m : Meaning} (p : Pair) → o ≡ operand.Pair p → IsOperand chains o m → (a : Assignment) → m a ≡ pair_means p a
+pair_there p e (number is) a = absurd (cc)
+pair_there p e (parameter is) a = absurd (cc)
+pair_there p e (field is) a = absurd (cc)
+pair_there p e (attribute is) a = absurd (cc)
+pair_there p e (pair {p = q} is) a = let same : q ≡ p = cc in is a ∙ ap (λ r. pair_means r a) same
+pair_there p e (chain at first links) a = absurd (cc)
+
+pub pair_at : {chains : List Chain} {m : Meaning} (p : Pair) → IsOperand chains (operand.Pair p) m → (a : Assignment) → m a ≡ pair_means p a
+pair_at p is = pair_there p refl is
 
 pub found_is : (o m : Option ℤ) → m ≡ o → IfSome o (λ v. m ≡ Some v)
 found_is (Some x) m e = e
@@ -127,6 +162,31 @@ spells_number chains first right x links new operator p q n one other whole firs
   follow = subst (λ z. Follows chains z whole whole) (sym none') (ends (λ a. refl));
 }
 
+pub applied : (operator : Operator) (value value' right right' v : ℤ) (m : Option ℤ) → value' ≡ value → right' ≡ right → m ≡ Some right → apply operator value' right' ≡ Some v → both (apply operator) (Some value) m ≡ Some v
+applied operator value value' right right' v m kept own is made = (λ i. both (apply operator) (Some (sym kept i)) ((is ∙ ap Some (sym own)) i)) ∙ made
+
+link_there : {chains : List Chain} {ls : List Link} {m whole : Meaning} (l : Link) (rest : List Link) → ls ≡ l ∷ rest → Follows chains ls m whole
+    → (r : Meaning) × (next : Meaning) × IsOperand chains l.right r × IsApplied l.operator m r next × Follows chains rest next whole
+link_there l rest e (ends is) = absurd (cc)
+link_there {chains} {ls} {m} {whole} l rest e (goes {l = k} {ls = ks} {r = r} {next = next} right applied more) =
+    let one : k ≡ l = cc in
+    let others : ks ≡ rest = cc in
+    (r, next, subst (λ (z : Link). IsOperand chains z.right r) one right, subst (λ (z : Link). IsApplied z.operator m r next) one applied, subst (λ z. Follows chains z next whole) others more)
+
+pub one_link : (links : List Link) (d : Link) → length links ≡ 1 → links ≡ get_or links 0 d ∷ []
+one_link [] d one = absurd (omega (arith, one))
+one_link (x ∷ []) d one = refl
+one_link (x ∷ y ∷ ys) d one = absurd (omega (arith, one))
+
+-- a field with one link, whose operand is a number, is a pair
+pub spells_pair : (chains : List Chain) (first : Operand) (links : List Link) (l : Link) (p : Pair) (whole : Meaning) → links ≡ l ∷ [] → first ≡ operand.Field p.field → l.right ≡ operand.Number p.number → l.operator ≡ p.operator → Spells chains first links whole
+    → IsOperand chains (operand.Pair p) whole
+spells_pair chains first links l p whole one first_is right_is operator_is s = pair (λ a.
+    let t = link_there l [] one s.follow in
+    let left : s.begun a ≡ a.attribute (up p.field) = field_means p.field first_is s.is_first a in
+    let right : t.0 a ≡ Some p.number = number_means p.number right_is t.2 a in
+    nothing_follows refl t.4 a ∙ t.3 a ∙ (λ i. both (apply (operator_is i)) (left i) (right i)))
+
 -- ---- the end of a chain
 
 pub closed_none : (old new : List Chain) (first : Operand) (links : List Link) (whole : Meaning) → new ≡ old → links ≡ [] → Spells old first links whole → IsOperand new first whole
@@ -146,20 +206,11 @@ pub record IsWorked (chains : List Chain) (a : Assignment) (links : List Link) (
   pub value_is : meaning a ≡ Some value
   pub follow : Follows chains links meaning whole
 
-link_there : {chains : List Chain} {ls : List Link} {m whole : Meaning} (l : Link) (rest : List Link) → ls ≡ l ∷ rest → Follows chains ls m whole
-    → (r : Meaning) × (next : Meaning) × IsOperand chains l.right r × IsApplied l.operator m r next × Follows chains rest next whole
-link_there l rest e (ends is) = absurd (cc)
-link_there {chains} {ls} {m} {whole} l rest e (goes {l = k} {ls = ks} {r = r} {next = next} right applied more) =
-    let one : k ≡ l = cc in
-    let others : ks ≡ rest = cc in
-    (r, next, subst (λ (z : Link). IsOperand chains z.right r) one right, subst (λ (z : Link). IsApplied z.operator m r next) one applied, subst (λ z. Follows chains z next whole) others more)
-
-pub worked_on : (chains : List Chain) (a : Assignment) (links rest : List Link) (l : Link) (value right result : ℤ) (whole : Meaning) → links ≡ l ∷ rest → ((r : Meaning) → IsOperand chains l.right r → r a ≡ Some right)
-    → apply l.operator value right ≡ Some result → IsWorked chains a links value whole → IsWorked chains a rest result whole
-worked_on chains a links rest l value right result whole is finds made w =
+pub worked_on : (chains : List Chain) (a : Assignment) (links rest : List Link) (l : Link) (value result : ℤ) (whole : Meaning) → links ≡ l ∷ rest → ((r : Meaning) → IsOperand chains l.right r → both (apply l.operator) (Some value) (r a) ≡ Some result)
+    → IsWorked chains a links value whole → IsWorked chains a rest result whole
+worked_on chains a links rest l value result whole is made w =
     let t = link_there l rest is w.follow in
-    let over : t.0 a ≡ Some right = finds t.0 t.2 in
-    record { meaning = t.1; value_is = t.3 a ∙ (λ i. both (apply l.operator) (w.value_is i) (over i)) ∙ made; follow = t.4 }
+    record { meaning = t.1; value_is = t.3 a ∙ (λ i. both (apply l.operator) (w.value_is i) (t.0 a)) ∙ made t.0 t.2; follow = t.4 }
 
 pub worked_end : (chains : List Chain) (a : Assignment) (links : List Link) (value : ℤ) (whole : Meaning) → links ≡ [] → IsWorked chains a links value whole → whole a ≡ Some value
 worked_end chains a links value whole none w = nothing_follows none w.follow a ∙ w.value_is
@@ -176,9 +227,9 @@ worked_first chains a c links j value whole here links_are is finds =
       follow = subst (λ z. Follows chains z t.begun whole) (sym links_are) (subst (λ (z : Chain). Follows chains z.links t.begun whole) same t.follow);
     }
 
-pub worked_next : (chains : List Chain) (a : Assignment) (links : List Link) (i : ℕ) (d : Link) (value right result : ℤ) (whole : Meaning) → i < length links → ((r : Meaning) → IsOperand chains (get_or links i d).right r → r a ≡ Some right)
-    → apply (get_or links i d).operator value right ≡ Some result → IsWorked chains a (drop i links) value whole → IsWorked chains a (drop (i + 1) links) result whole
-worked_next chains a links i d value right result whole lt finds made w =
+pub worked_next : (chains : List Chain) (a : Assignment) (links : List Link) (i : ℕ) (d : Link) (value result : ℤ) (whole : Meaning) → i < length links
+    → ((r : Meaning) → IsOperand chains (get_or links i d).right r → both (apply (get_or links i d).operator) (Some value) (r a) ≡ Some result) → IsWorked chains a (drop i links) value whole → IsWorked chains a (drop (i + 1) links) result whole
+worked_next chains a links i d value result whole lt made w =
     let n : suc i ≡ i + 1 = omega arith in
     subst (λ k. IsWorked chains a (drop k links) result whole) n
-    (worked_on chains a (drop i links) (drop (suc i) links) (get_or links i d) value right result whole (drop_at links i (get_or links i d) (slice_get-get_or links i d lt)) finds made w)
+    (worked_on chains a (drop i links) (drop (suc i) links) (get_or links i d) value result whole (drop_at links i (get_or links i d) (slice_get-get_or links i d lt)) made w)

@@ -1,5 +1,5 @@
 -- Entries whose paths come first in a context, in their order.
-use Rattle.std.proofs.Common.{◌≡◌, ℕ, zero, suc, ◌+◌, Bool, false, cond, List, [], ◌∷◌, ◌++◌, length, drop, Option, Some, None, refl, sym, ap, ◌∙◌, subst, append_assoc, arith}
+use Rattle.std.proofs.Common.{◌≡◌, ℕ, zero, suc, ◌+◌, Bool, false, cond, List, [], ◌∷◌, ◌++◌, length, drop, Option, Some, None, refl, sym, ap, ◌∙◌, subst, append_assoc, arith, true}
 use Rattle.std.specs.Prelude.{slice_get}
 use Rattle.std.specs.List.{flat_map, AllByRecursion, IsDistinct}
 use Rattle.std.specs.Map.{keys_of}
@@ -17,16 +17,25 @@ use Rattle.sem_filling.specs.Entries.{Path, below, own_entry, entries, entries_b
 use Rattle.sem_filling.specs.FillingLaws.{entries_at, entries_inside}
 use Rattle.sem_filling.proofs.FillingsAsked.{drop_at}
 use Rattle.sem_pages.specs.declared.entries.Progress.{Progress}
-use Rattle.sem_pages.specs.Progress.{GoesOn, IsPassed, changed}
+use Rattle.sem_pages.specs.Progress.{HasFirst, GoesOn, IsPassed, WhereKnown, changed}
 use Rattle.sem_pages.proofs.Growing.{length_push}
 
+-- the first of some entries whose paths come first
+begins_front : (ctx xs ys : Entries) → HasFirst ctx (xs ++ ys) → HasFirst ctx xs
+begins_front ctx xs ys b = (
+  keys_of ys ++ b.0,
+  b.1 ∙ ap (λ ps. ps ++ b.0) (map-append (λ (e : Path × List Bool). e.0) xs ys) ∙ append_assoc (keys_of xs) (keys_of ys) b.0,
+)
+
 -- no entry more
-pub stays : (ctx : Entries) (p : Progress) (es : Entries) → es ≡ [] → GoesOn ctx p p es
-stays ctx p es none before passed = subst (IsPassed ctx p) (sym (append-nil before) ∙ ap (λ z. before ++ z) (sym none)) passed
+pub stays : (known : Bool) (ctx : Entries) (p : Progress) (es : Entries) → es ≡ [] → GoesOn known ctx p p es
+stays known ctx p es none before passed where_known = subst (IsPassed ctx p) (sym (append-nil before) ∙ ap (λ z. before ++ z) (sym none)) passed
 
 -- one, and then others
-pub goes_further : (ctx : Entries) (old now new : Progress) (es others : Entries) → GoesOn ctx old now es → GoesOn ctx now new others → GoesOn ctx old new (es ++ others)
-goes_further ctx old now new es others one other before passed = subst (IsPassed ctx new) (append_assoc before es others) (other (before ++ es) (one before passed))
+pub goes_further : (known : Bool) (ctx : Entries) (old now new : Progress) (es others : Entries) → GoesOn known ctx old now es → GoesOn known ctx now new others → GoesOn known ctx old new (es ++ others)
+goes_further known ctx old now new es others one other before passed where_known =
+    let whole : WhereKnown known ctx ((before ++ es) ++ others) = subst (WhereKnown known ctx) (sym (append_assoc before es others)) where_known in
+    subst (IsPassed ctx new) (append_assoc before es others) (other (before ++ es) (one before passed (λ is. begins_front ctx (before ++ es) others (whole is))) whole)
 
 -- ---- the entry that comes next
 
@@ -34,6 +43,10 @@ next_path : (before more : List Path) (path : Path) → slice_get (before ++ mor
 next_path [] [] path is = absurd (cc)
 next_path [] (p ∷ ps) path is = let same : p ≡ path = cc in (ps, ap (λ z. z ∷ ps) same)
 next_path (b ∷ bs) more path is = next_path bs more path is
+
+path_there : (before more : List Path) (path : Path) → slice_get (before ++ path ∷ more) (length before) ≡ Some path
+path_there [] more path = refl
+path_there (b ∷ bs) more path = path_there bs more path
 
 key_at : (es : Entries) (i : ℕ) (path : Path) (bits : List Bool) → slice_get es i ≡ Some (path, bits) → slice_get (keys_of es) i ≡ Some path
 key_at [] i path bits at = absurd (cc)
@@ -69,16 +82,16 @@ grown ctx old new here kept bits before at next passed is =
     }
 
 -- where it has them
-pub same_passed : (ctx : Entries) (old new : Progress) (here : Path) (kept bits : List Bool) → slice_get ctx old.passed ≡ Some (here, kept) → new.passed ≡ suc old.passed → new.changes.items ≡ old.changes.items → kept ≡ bits
-    → GoesOn ctx old new ((here, bits) ∷ [])
-same_passed ctx old new here kept bits at next none same before passed =
+pub same_passed : (known : Bool) (ctx : Entries) (old new : Progress) (here : Path) (kept bits : List Bool) → slice_get ctx old.passed ≡ Some (here, kept) → new.passed ≡ suc old.passed → new.changes.items ≡ old.changes.items → kept ≡ bits
+    → GoesOn known ctx old new ((here, bits) ∷ [])
+same_passed known ctx old new here kept bits at next none same before passed where_known =
     grown ctx old new here kept bits before at next passed
     (ap (changed ctx) none ∙ passed.changed_are ∙ ap (λ r. before ++ r) (drop_at ctx old.passed (here, kept) at ∙ ap (λ b. (here, b) ∷ drop (suc old.passed) ctx) same))
 
 -- where it comes to have them
-pub changed_passed : (ctx : Entries) (old new : Progress) (here : Path) (kept bits copied : List Bool) → slice_get ctx old.passed ≡ Some (here, kept) → new.passed ≡ suc old.passed
-    → new.changes.items ≡ old.changes.items ++ (old.passed, copied) ∷ [] → copied ≡ bits → GoesOn ctx old new ((here, bits) ∷ [])
-changed_passed ctx old new here kept bits copied at next added same before passed =
+pub changed_passed : (known : Bool) (ctx : Entries) (old new : Progress) (here : Path) (kept bits copied : List Bool) → slice_get ctx old.passed ≡ Some (here, kept) → new.passed ≡ suc old.passed
+    → new.changes.items ≡ old.changes.items ++ (old.passed, copied) ∷ [] → copied ≡ bits → GoesOn known ctx old new ((here, bits) ∷ [])
+changed_passed known ctx old new here kept bits copied at next added same before passed where_known =
     grown ctx old new here kept bits before at next passed
     (ap (changed ctx) added ∙ changed_push ctx old.changes.items (old.passed, copied)
     ∙ ap (λ es. with_bits_at es old.passed copied) (passed.changed_are ∙ ap (λ r. before ++ r) (drop_at ctx old.passed (here, kept) at))
@@ -113,31 +126,38 @@ front_put (c ∷ cs) (e ∷ es) more distinct paths =
     ∙ ap (λ b. overridden (cond b ((c.0, e.1) ∷ cs) (c ∷ with_entry cs e.0 e.1)) es) (sym ((bytes_eq-Decides e.0 c.0).1 (sym same)))
 
 -- from the first on
-pub passed_all : (ctx : Entries) (begun p : Progress) (f : Filling) → begun.passed ≡ 0 → begun.changes.items ≡ [] → GoesOn ctx begun p (entries f) → IsPassed ctx p (entries f)
-passed_all ctx begun p f first none goes = goes [] (record { count = sym first; more = keys_of ctx; paths_are = refl; changed_are = ap (changed ctx) none ∙ ap (λ n. drop n ctx) (sym first) })
+pub passed_all : (known : Bool) (ctx : Entries) (begun p : Progress) (f : Filling) → begun.passed ≡ 0 → begun.changes.items ≡ [] → GoesOn known ctx begun p (entries f) → WhereKnown known ctx (entries f) → IsPassed ctx p (entries f)
+passed_all known ctx begun p f first none goes = goes [] (record { count = sym first; more = keys_of ctx; paths_are = refl; changed_are = ap (changed ctx) none ∙ ap (λ n. drop n ctx) (sym first) })
 
-pub from_first : (ctx : Entries) (begun p : Progress) (f : Filling) → AreDistinct ctx → begun.passed ≡ 0 → begun.changes.items ≡ [] → GoesOn ctx begun p (entries f) → changed ctx p.changes.items ≡ next ctx f
-from_first ctx begun p f distinct first none goes =
-    let passed = passed_all ctx begun p f first none goes in
+pub from_first : (known : Bool) (ctx : Entries) (begun p : Progress) (f : Filling) → AreDistinct ctx → begun.passed ≡ 0 → begun.changes.items ≡ [] → GoesOn known ctx begun p (entries f) → WhereKnown known ctx (entries f) → changed ctx p.changes.items ≡ next ctx f
+from_first known ctx begun p f distinct first none goes where_known =
+    let passed = passed_all known ctx begun p f first none goes where_known in
     passed.changed_are ∙ ap (λ n. entries f ++ drop n ctx) (sym passed.count) ∙ front_put ctx (entries f) passed.more distinct passed.paths_are
+
+-- then they come first
+pub begins_then : (known : Bool) (ctx : Entries) (begun p : Progress) (f : Filling) → begun.passed ≡ 0 → begun.changes.items ≡ [] → GoesOn known ctx begun p (entries f) → WhereKnown known ctx (entries f) → HasFirst (changed ctx p.changes.items) (entries f)
+begins_then known ctx begun p f first none goes where_known =
+    let passed = passed_all known ctx begun p f first none goes where_known in
+    (keys_of (drop p.passed ctx), ap keys_of passed.changed_are ∙ map-append (λ (e : Path × List Bool). e.0) (entries f) (drop p.passed ctx))
 
 -- ---- the fields of a level
 
 -- the entries so far are passed, and with those that are left they are all of them
-abbrev pub GoesTo : Entries → Progress → Progress → Entries → Entries → Type 0
-GoesTo ctx old new left all = (before : Entries) → IsPassed ctx old before → (es : Entries) × IsPassed ctx new es × (es ++ left ≡ before ++ all)
+abbrev pub GoesTo : Bool → Entries → Progress → Progress → Entries → Entries → Type 0
+GoesTo known ctx old new left all = (before : Entries) → IsPassed ctx old before → WhereKnown known ctx (before ++ all) → (es : Entries) × IsPassed ctx new es × (es ++ left ≡ before ++ all)
 
-pub begins : (ctx : Entries) (p : Progress) (left all : Entries) → left ≡ all → GoesTo ctx p p left all
-begins ctx p left all same before passed = (before, passed, ap (λ es. before ++ es) same)
+pub begins : (known : Bool) (ctx : Entries) (p : Progress) (left all : Entries) → left ≡ all → GoesTo known ctx p p left all
+begins known ctx p left all same before passed where_known = (before, passed, ap (λ es. before ++ es) same)
 
-pub goes_to : (ctx : Entries) (old now new : Progress) (es left all : Entries) → GoesOn ctx now new es → GoesTo ctx old now (es ++ left) all → GoesTo ctx old new left all
-goes_to ctx old now new es left all one so_far before passed =
-    let found = so_far before passed in
-    (found.0 ++ es, one found.0 found.1, append_assoc found.0 es left ∙ found.2)
+pub goes_to : (known : Bool) (ctx : Entries) (old now new : Progress) (es left all : Entries) → GoesOn known ctx now new es → GoesTo known ctx old now (es ++ left) all → GoesTo known ctx old new left all
+goes_to known ctx old now new es left all one so_far before passed where_known =
+    let found = so_far before passed where_known in
+    let whole : (found.0 ++ es) ++ left ≡ before ++ all = append_assoc found.0 es left ∙ found.2 in
+    (found.0 ++ es, one found.0 found.1 (λ is. begins_front ctx (found.0 ++ es) left (subst (HasFirst ctx) (sym whole) (where_known is))), whole)
 
-pub ends : (ctx : Entries) (old new : Progress) (all : Entries) → GoesTo ctx old new [] all → GoesOn ctx old new all
-ends ctx old new all so_far before passed =
-    let found = so_far before passed in
+pub ends : (known : Bool) (ctx : Entries) (old new : Progress) (all : Entries) → GoesTo known ctx old new [] all → GoesOn known ctx old new all
+ends known ctx old new all so_far before passed where_known =
+    let found = so_far before passed where_known in
     subst (IsPassed ctx new) (sym (append-nil found.0) ∙ found.2) found.1
 
 own_is : (part : Part) (path : Path) (bits : List Bool) → (part ≡ Local → ⊥) → own_entry part path bits ≡ (path, bits) ∷ []
@@ -146,8 +166,21 @@ own_is Control path bits other = refl
 own_is Local path bits other = absurd (other refl)
 
 -- a field's own entry is passed
-pub next_added : (ctx : Entries) (old new : Progress) (part : Part) (here : Path) (bits : List Bool) → (part ≡ Local → ⊥) → GoesOn ctx old new ((here, bits) ∷ []) → GoesOn ctx old new (own_entry part here bits)
-next_added ctx old new part here bits other goes = subst (GoesOn ctx old new) (sym (own_is part here bits other)) goes
+pub next_added : (known : Bool) (ctx : Entries) (old new : Progress) (part : Part) (here : Path) (bits : List Bool) → (part ≡ Local → ⊥) → GoesOn known ctx old new ((here, bits) ∷ []) → GoesOn known ctx old new (own_entry part here bits)
+next_added known ctx old new part here bits other goes = subst (GoesOn known ctx old new) (sym (own_is part here bits other)) goes
+
+-- where its path is known to come next, it is that which comes next
+pub known_added : (ctx : Entries) (old new : Progress) (part : Part) (here there : Path) (kept bits : List Bool) → (part ≡ Local → ⊥) → slice_get ctx old.passed ≡ Some (there, kept) → GoesOn true ctx old new ((there, bits) ∷ [])
+    → GoesOn true ctx old new (own_entry part here bits)
+known_added ctx old new part here there kept bits other at goes =
+    next_added true ctx old new part here bits other (λ before passed where_known.
+    let b = where_known refl in
+    let count : length (keys_of before) ≡ old.passed = length-map before (λ (e : Path × List Bool). e.0) ∙ passed.count in
+    let keys : keys_of ctx ≡ keys_of before ++ here ∷ b.0 =
+    b.1 ∙ ap (λ ps. ps ++ b.0) (map-append (λ (e : Path × List Bool). e.0) before ((here, bits) ∷ [])) ∙ append_assoc (keys_of before) (here ∷ []) b.0 in
+    let one : Some there ≡ Some here = sym (key_at ctx old.passed there kept at) ∙ ap (λ ps. slice_get ps old.passed) keys ∙ ap (slice_get (keys_of before ++ here ∷ b.0)) (sym count) ∙ path_there (keys_of before) b.0 here in
+    let same : there ≡ here = cc in
+    subst (λ p. IsPassed ctx new (before ++ (p, bits) ∷ [])) same (goes before passed (subst (λ p. WhereKnown true ctx (before ++ (p, bits) ∷ [])) (sym same) where_known)))
 
 -- the entries of the fields from a place on
 from_next : (path : Path) (fields : List FilledField) (i : ℕ) (g : FilledField) → slice_get fields i ≡ Some g → flat_map (entries_at path) (drop i fields) ≡ entries_at path g ++ flat_map (entries_at path) (drop (suc i) fields)
@@ -156,23 +189,23 @@ from_next path (f ∷ fs) zero g is = let same : f ≡ g = cc in ap (λ z. entri
 from_next path (f ∷ fs) (suc i) g is = from_next path fs i g is
 
 -- one field more
-pub turn : (ctx : Entries) (old now new : Progress) (path : Path) (fields : List FilledField) (i : ℕ) (g : FilledField) (all : Entries) → slice_get fields i ≡ Some g → GoesOn ctx now new (entries_at path g)
-    → GoesTo ctx old now (flat_map (entries_at path) (drop i fields)) all → GoesTo ctx old new (flat_map (entries_at path) (drop (i + 1) fields)) all
-turn ctx old now new path fields i g all is one so_far =
+pub turn : (known : Bool) (ctx : Entries) (old now new : Progress) (path : Path) (fields : List FilledField) (i : ℕ) (g : FilledField) (all : Entries) → slice_get fields i ≡ Some g → GoesOn known ctx now new (entries_at path g)
+    → GoesTo known ctx old now (flat_map (entries_at path) (drop i fields)) all → GoesTo known ctx old new (flat_map (entries_at path) (drop (i + 1) fields)) all
+turn known ctx old now new path fields i g all is one so_far =
     let n : suc i ≡ i + 1 = omega arith in
-    subst (λ k. GoesTo ctx old new (flat_map (entries_at path) (drop k fields)) all) n
-    (goes_to ctx old now new (entries_at path g) (flat_map (entries_at path) (drop (suc i) fields)) all one (subst (λ es. GoesTo ctx old now es all) (from_next path fields i g is) so_far))
+    subst (λ k. GoesTo known ctx old new (flat_map (entries_at path) (drop k fields)) all) n
+    (goes_to known ctx old now new (entries_at path g) (flat_map (entries_at path) (drop (suc i) fields)) all one (subst (λ es. GoesTo known ctx old now es all) (from_next path fields i g is) so_far))
 
 -- a field's own entry, and then those of the filling inside it
-pub field_goes : (ctx : Entries) (now mid new : Progress) (path here : Path) (g : FilledField) → here ≡ below path (sides_of g).declared.name → GoesOn ctx now mid (own_entry (sides_of g).declared.part here (sides_of g).uncompressed)
-    → GoesOn ctx mid new (entries_inside (inner_of g) here) → GoesOn ctx now new (entries_at path g)
-field_goes ctx now mid new path here g is own inside =
-    goes_further ctx now mid new (own_entry (sides_of g).declared.part (below path (sides_of g).declared.name) (sides_of g).uncompressed) (entries_inside (inner_of g) (below path (sides_of g).declared.name))
-    (subst (λ h. GoesOn ctx now mid (own_entry (sides_of g).declared.part h (sides_of g).uncompressed)) is own)
-    (subst (λ h. GoesOn ctx mid new (entries_inside (inner_of g) h)) is inside)
+pub field_goes : (known : Bool) (ctx : Entries) (now mid new : Progress) (path here : Path) (g : FilledField) → here ≡ below path (sides_of g).declared.name → GoesOn known ctx now mid (own_entry (sides_of g).declared.part here (sides_of g).uncompressed)
+    → GoesOn known ctx mid new (entries_inside (inner_of g) here) → GoesOn known ctx now new (entries_at path g)
+field_goes known ctx now mid new path here g is own inside =
+    goes_further known ctx now mid new (own_entry (sides_of g).declared.part (below path (sides_of g).declared.name) (sides_of g).uncompressed) (entries_inside (inner_of g) (below path (sides_of g).declared.name))
+    (subst (λ h. GoesOn known ctx now mid (own_entry (sides_of g).declared.part h (sides_of g).uncompressed)) is own)
+    (subst (λ h. GoesOn known ctx mid new (entries_inside (inner_of g) h)) is inside)
 
-pub none_inside : (ctx : Entries) (p : Progress) (o : Option Filling) (here : Path) → o ≡ None → GoesOn ctx p p (entries_inside o here)
-none_inside ctx p o here is = stays ctx p (entries_inside o here) (ap (λ z. entries_inside z here) is)
+pub none_inside : (known : Bool) (ctx : Entries) (p : Progress) (o : Option Filling) (here : Path) → o ≡ None → GoesOn known ctx p p (entries_inside o here)
+none_inside known ctx p o here is = stays known ctx p (entries_inside o here) (ap (λ z. entries_inside z here) is)
 
-pub some_inside : (ctx : Entries) (old new : Progress) (o : Option Filling) (f : Filling) (here : Path) → o ≡ Some f → GoesOn ctx old new (entries_below f here) → GoesOn ctx old new (entries_inside o here)
-some_inside ctx old new o f here is goes = subst (λ z. GoesOn ctx old new (entries_inside z here)) (sym is) goes
+pub some_inside : (known : Bool) (ctx : Entries) (old new : Progress) (o : Option Filling) (f : Filling) (here : Path) → o ≡ Some f → GoesOn known ctx old new (entries_below f here) → GoesOn known ctx old new (entries_inside o here)
+some_inside known ctx old new o f here is goes = subst (λ z. GoesOn known ctx old new (entries_inside z here)) (sym is) goes

@@ -148,32 +148,32 @@ module _ (ds : List Field) (ss : List Shown) (values : List AskedValue) where
 -- ---- entries
 
 -- of a field with these sides
-own_goes : (ctx : Entries) (old new : Progress) (d : Field) (s : Shown) (g : FilledField) (here : Path) → sides_of g ≡ sides_by d s → GoesOn ctx old new (own_entry d.declared.part here (unwrap_or (out-Shown s).uncompressed []))
-    → GoesOn ctx old new (own_entry (sides_of g).declared.part here (sides_of g).uncompressed)
-own_goes ctx old new d s g here is goes = subst (λ (x : Sides). GoesOn ctx old new (own_entry x.declared.part here x.uncompressed)) (sym is) goes
+own_goes : (known : Bool) (ctx : Entries) (old new : Progress) (d : Field) (s : Shown) (g : FilledField) (here : Path) → sides_of g ≡ sides_by d s → GoesOn known ctx old new (own_entry d.declared.part here (unwrap_or (out-Shown s).uncompressed []))
+    → GoesOn known ctx old new (own_entry (sides_of g).declared.part here (sides_of g).uncompressed)
+own_goes known ctx old new d s g here is goes = subst (λ (x : Sides). GoesOn known ctx old new (own_entry x.declared.part here x.uncompressed)) (sym is) goes
 
 -- a field with nothing inside
-pub plain_goes : (methods : List Method) (ctx : Entries) (old new : Progress) (path : Path) (d : Field) (s : Shown) → (out-Shown s).inner ≡ None
-    → GoesOn ctx old new (own_entry d.declared.part (below path d.declared.name) (unwrap_or (out-Shown s).uncompressed [])) → (g : FilledField) → StandsFor methods d s g → GoesOn ctx old new (entries_at path g)
-plain_goes methods ctx old new path d s none own g stands =
+pub plain_goes : (known : Bool) (methods : List Method) (ctx : Entries) (old new : Progress) (path : Path) (d : Field) (s : Shown) → (out-Shown s).inner ≡ None
+    → GoesOn known ctx old new (own_entry d.declared.part (below path d.declared.name) (unwrap_or (out-Shown s).uncompressed [])) → (g : FilledField) → StandsFor methods d s g → GoesOn known ctx old new (entries_at path g)
+plain_goes known methods ctx old new path d s none own g stands =
     let here = below path d.declared.name in
-    field_goes ctx old new new path here g (ap (λ (x : Sides). below path x.declared.name) (sym stands.sides_are)) (own_goes ctx old new d s g here stands.sides_are own)
-    (none_inside ctx new (inner_of g) here (inside_none methods none stands.inside))
+    field_goes known ctx old new new path here g (ap (λ (x : Sides). below path x.declared.name) (sym stands.sides_are)) (own_goes known ctx old new d s g here stands.sides_are own)
+    (none_inside known ctx new (inner_of g) here (inside_none methods none stands.inside))
 
 -- a field that calls a method
-pub called_goes : (methods : List Method) (ctx : Entries) (old mid new : Progress) (path here : Path) (d : Field) (s : Shown) (k : ℕ) (es : List Expr) (p : Page) → (out-Shown s).inner ≡ Some p → d.encoding ≡ encoding.Call k es
-    → here ≡ below path d.declared.name → GoesOn ctx old mid (own_entry d.declared.part here (unwrap_or (out-Shown s).uncompressed [])) → ((f : Filling) → Shows methods k p f → GoesOn ctx mid new (entries_below f here))
-    → (g : FilledField) → StandsFor methods d s g → GoesOn ctx old new (entries_at path g)
-called_goes methods ctx old mid new path here d s k es p is call here_is own inside g stands =
+pub called_goes : (known : Bool) (methods : List Method) (ctx : Entries) (old mid new : Progress) (path here : Path) (d : Field) (s : Shown) (k : ℕ) (es : List Expr) (p : Page) → (out-Shown s).inner ≡ Some p → d.encoding ≡ encoding.Call k es
+    → here ≡ below path d.declared.name → GoesOn known ctx old mid (own_entry d.declared.part here (unwrap_or (out-Shown s).uncompressed [])) → ((f : Filling) → Shows methods k p f → GoesOn known ctx mid new (entries_below f here))
+    → (g : FilledField) → StandsFor methods d s g → GoesOn known ctx old new (entries_at path g)
+called_goes known methods ctx old mid new path here d s k es p is call here_is own inside g stands =
     let q = inside_call methods k es p is call stands.inside in
-    field_goes ctx old mid new path here g (here_is ∙ ap (λ (x : Sides). below path x.declared.name) (sym stands.sides_are)) (own_goes ctx old mid d s g here stands.sides_are own)
-    (some_inside ctx mid new (inner_of g) q.0 here q.1 (inside q.0 q.2))
+    field_goes known ctx old mid new path here g (here_is ∙ ap (λ (x : Sides). below path x.declared.name) (sym stands.sides_are)) (own_goes known ctx old mid d s g here stands.sides_are own)
+    (some_inside known ctx mid new (inner_of g) q.0 here q.1 (inside q.0 q.2))
 
 -- what is left at the end
-pub all_gone : (methods : List Method) {k : ℕ} {p : Page} {f : Filling} (format : Format) (ctx : Entries) (old new : Progress) (path : Path) (n : ℕ) → format_at methods k (out-Page p).format ≡ Some format
+pub all_gone : (known : Bool) (methods : List Method) {k : ℕ} {p : Page} {f : Filling} (format : Format) (ctx : Entries) (old new : Progress) (path : Path) (n : ℕ) → format_at methods k (out-Page p).format ≡ Some format
     → length (out-Page p).fields ≡ length format.fields → length format.fields ≤ n → Shows methods k p f
-    → GoesTo ctx old new (flat_map (entries_at path) (drop n (fields_of f))) (entries_below f path) → GoesOn ctx old new (entries_below f path)
-all_gone methods {k} {p} {f} format ctx old new path n at count le shown goes =
+    → GoesTo known ctx old new (flat_map (entries_at path) (drop n (fields_of f))) (entries_below f path) → GoesOn known ctx old new (entries_below f path)
+all_gone known methods {k} {p} {f} format ctx old new path n at count le shown goes =
     let many : length (fields_of f) ≡ length (out-Page p).fields =
     sym (length-map (fields_of f) sides_of) ∙ ap length (level_shown methods format at shown) ∙ level_length format.fields (out-Page p).fields count in
-    ends ctx old new (entries_below f path) (subst (λ z. GoesTo ctx old new (flat_map (entries_at path) z) (entries_below f path)) (drop_end (fields_of f) n (omega (arith, many, count, le))) goes)
+    ends known ctx old new (entries_below f path) (subst (λ z. GoesTo known ctx old new (flat_map (entries_at path) z) (entries_below f path)) (drop_end (fields_of f) n (omega (arith, many, count, le))) goes)

@@ -9,6 +9,9 @@ pub mod Leaving
 pub mod Growing
 mod Preparing
 mod Standing
+mod Comparing
 mod Chaining
 pub mod Settled
 pub mod Steadying
+mod Calling
+pub mod Ordered

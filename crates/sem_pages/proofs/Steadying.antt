@@ -38,7 +38,7 @@ use Rattle.sem_pages.specs.declared.page.Shown.{Shown, out-Shown}
 use Rattle.sem_pages.specs.Pages.{Shows, ShowsInside, level_by, numbers_in, side_in, sides_by, shows}
 use Rattle.sem_pages.specs.Prepared.{IsNumber}
 use Rattle.sem_pages.specs.declared.entries.Progress.{Progress}
-use Rattle.sem_pages.specs.Progress.{GoesOn, changed}
+use Rattle.sem_pages.specs.Progress.{GoesOn, WhereKnown, changed}
 use Rattle.sem_pages.specs.Steady.{AreLeaves, AreLiterals, Has, HasEntry, IsKept, IsLeafBy, IsSteadyAs, IsSteadyBy, IsSteadyInside}
 
 -- ---- entries that are there
@@ -91,9 +91,10 @@ front_has (x ∷ es) rest more distinct (suc n) e at =
     ∙ front_has es rest more distinct.1 n e at
 
 -- a context that went on by what a filling leaves has that
-pub all_there : (ctx : Entries) (begun p : Progress) (f : Filling) → AreDistinct ctx → begun.passed ≡ 0 → begun.changes.items ≡ [] → GoesOn ctx begun p (entries f) → Has (bits_at (changed ctx p.changes.items)) (entries f)
-all_there ctx begun p f distinct first none goes =
-    let passed = passed_all ctx begun p f first none goes in
+pub all_there : (known : Bool) (ctx : Entries) (begun p : Progress) (f : Filling) → AreDistinct ctx → begun.passed ≡ 0 → begun.changes.items ≡ [] → GoesOn known ctx begun p (entries f) → WhereKnown known ctx (entries f)
+    → Has (bits_at (changed ctx p.changes.items)) (entries f)
+all_there known ctx begun p f distinct first none goes where_known =
+    let passed = passed_all known ctx begun p f first none goes where_known in
     subst (λ es. Has (bits_at es) (entries f)) (sym passed.changed_are) (front_has (entries f) (drop p.passed ctx) passed.more (subst (IsDistinct bytes_eq) passed.paths_are distinct))
 
 -- ---- a constant, or `static`

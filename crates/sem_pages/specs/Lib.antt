@@ -4,3 +4,5 @@ pub mod Prepared
 pub mod Progress
 pub mod Chains
 pub mod Steady
+pub mod Comparing
+pub mod Alike

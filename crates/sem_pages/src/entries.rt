@@ -1,6 +1,6 @@
 //! What the filling of a page leaves in the context, and its asked values.
 
-ghost use Rattle.std.specs.Prelude.{◌≡◌, ◌<◌, ◌++◌, ◌∷◌, [], ℤ, List, false, suc, length, slice_get, IfOk, IfSome, IsTrue, OnOk, OnErr, Some, unwrap_or};
+ghost use Rattle.std.specs.Prelude.{◌≡◌, ◌<◌, ◌++◌, ◌∷◌, [], ℤ, Bool, List, false, true, suc, length, slice_get, IfOk, IfSome, IsTrue, OnOk, OnErr, Some, unwrap_or};
 ghost use Rattle.std.specs.Option.{option_copied};
 ghost use Rattle.sem_filling.specs.Fits.{Fits, format_at};
 ghost use Rattle.sem_context.specs.Entries.{Entries, bits_at};
@@ -10,7 +10,7 @@ ghost use Rattle.sem_filling.specs.Entries.{Path, below, entries, own_entry, ent
 ghost use Rattle.sem_filling.specs.Fillings as fillings;
 ghost use Rattle.sem_filling.specs.FillingLaws.{entries_at};
 ghost use Rattle.sem_pages.specs.Pages as spec;
-ghost use Rattle.sem_pages.specs.Progress.{GoesOn, changed};
+ghost use Rattle.sem_pages.specs.Progress.{HasFirst, GoesOn, WhereKnown, changed};
 ghost use Rattle.sem_pages.specs.Steady.{Has, IsKept};
 
 use crate::page::{Page, Shown};
@@ -144,22 +144,25 @@ fn bits_of(alloc: Global, word: &Option<Word>) -> Result<Bits, AllocError>
     }
 }
 
-/// Puts what the filling of the page leaves into the context. False where the context, which stays then, has not the paths of its entries first, in their order.
-/// Where memory runs out the context is as before.
+/// Puts what the filling of the page leaves into the context. False where the context, which stays then, has not the paths of its entries first, in their order:
+/// where that is known no path is compared. Where memory runs out the context is as before.
 pub fn advance(
     alloc: Global,
     context: &mut Context,
     methods: &[Method],
     method: usize,
     page: &Page,
+    known: bool,
 ) -> Result<bool, AllocError>
-    ensures ok { IfOk result (λ is. IsTrue is → (f : filling.Filling) → spec.Shows methods.now method page.now f → context.new ≡ next context.old f) }
+    ensures ok { IfOk result (λ is. IsTrue is → (f : filling.Filling) → spec.Shows methods.now method page.now f → WhereKnown known context.old (entries f) → context.new ≡ next context.old f) }
+    // the paths of its entries come first, as they did
+    ensures begins { IfOk result (λ is. IsTrue is → (f : filling.Filling) → spec.Shows methods.now method page.now f → WhereKnown known context.old (entries f) → HasFirst context.new (entries f)) }
     // and what is steady of the page fits again
-    ensures kept { IfOk result (λ is. IsTrue is → (f : filling.Filling) (args : List ℤ) → Fits methods.now (bits_at context.old) method args [] f → spec.Shows methods.now method page.now f → IsKept methods.now (bits_at context.new) method [] page.now) }
+    ensures kept { IfOk result (λ is. IsTrue is → (f : filling.Filling) (args : List ℤ) → Fits methods.now (bits_at context.old) method args [] f → spec.Shows methods.now method page.now f → WhereKnown known context.old (entries f) → IsKept methods.now (bits_at context.new) method [] page.now) }
     ensures stays { IfOk result (λ is. is ≡ false → context.new ≡ context.old) }
     ensures err { OnErr result (context.new ≡ context.old) }
 {
-    let Some(changes) = changes_in_order(alloc, context, methods, method, page)? else {
+    let Some(changes) = changes_in_order(alloc, context, methods, method, page, known)? else {
         return Ok(false);
     };
     put_changes(context, changes);
@@ -175,26 +178,48 @@ fn put_changes(context: &mut Context, changes: Vec<(usize, Bits)>)
     }
 }
 
-/// What the filling of the page changes in the context, where the first entries of the context have the paths of its entries, in their order.
+/// What the filling of the page changes in the context, where the first entries of the context have the paths of its entries, in their order. Where that is known
+/// no path is compared.
 fn changes_in_order(
     alloc: Global,
     context: &Context,
     methods: &[Method],
     method: usize,
     page: &Page,
+    known: bool,
 ) -> Result<Option<Vec<(usize, Bits)>>, AllocError>
-    ensures next { IfOk result (λ o. IfSome o (λ changes. (f : filling.Filling) → spec.Shows methods.now method page.now f → changed context.now changes.items ≡ next context.now f)) }
-    ensures there { IfOk result (λ o. IfSome o (λ changes. (f : filling.Filling) → spec.Shows methods.now method page.now f → Has (bits_at (changed context.now changes.items)) (entries f))) }
+    ensures next { IfOk result (λ o. IfSome o (λ changes. (f : filling.Filling) → spec.Shows methods.now method page.now f → WhereKnown known context.now (entries f) → changed context.now changes.items ≡ next context.now f)) }
+    ensures begins { IfOk result (λ o. IfSome o (λ changes. (f : filling.Filling) → spec.Shows methods.now method page.now f → WhereKnown known context.now (entries f) → HasFirst (changed context.now changes.items) (entries f))) }
+    ensures there { IfOk result (λ o. IfSome o (λ changes. (f : filling.Filling) → spec.Shows methods.now method page.now f → WhereKnown known context.now (entries f) → Has (bits_at (changed context.now changes.items)) (entries f))) }
 {
     let mut progress = Progress {
         passed: 0,
         changes: Vec::with_capacity(alloc, context.len().min(FEW))?,
     };
-    if !add_page(page, alloc, &mut progress, context, methods, method, "")? {
+    if !add_first(alloc, &mut progress, context, methods, method, page, known)? {
         return Ok(None);
     }
     let Progress { changes, .. } = progress;
     Ok(Some(changes))
+}
+
+/// Adds the changes by the entries of the page. Whether they are all in the context.
+fn add_first(
+    alloc: Global,
+    progress: &mut Progress,
+    context: &Context,
+    methods: &[Method],
+    method: usize,
+    page: &Page,
+    known: bool,
+) -> Result<bool, AllocError>
+    ensures { IfOk result (λ is. IsTrue is → (f : filling.Filling) → spec.Shows methods.now method page.now f → GoesOn known context.now progress.old progress.new (entries f)) }
+{
+    if known {
+        renew_page(page, alloc, progress, context, methods, method)
+    } else {
+        add_page(page, alloc, progress, context, methods, method, "")
+    }
 }
 
 /// Adds the changes by the entries of the page below a path, where those of the context that come next have their paths. Whether they have.
@@ -208,7 +233,7 @@ fn add_page(
     method: usize,
     path: &str,
 ) -> Result<bool, AllocError>
-    ensures { IfOk result (λ is. IsTrue is → (f : filling.Filling) → spec.Shows methods.now method page.now f → GoesOn context.now progress.old progress.new (entries_below f path.now)) }
+    ensures { IfOk result (λ is. IsTrue is → (f : filling.Filling) → spec.Shows methods.now method page.now f → GoesOn false context.now progress.old progress.new (entries_below f path.now)) }
 {
     let Some(format) = format_of(methods, method, page.format) else {
         return Ok(false);
@@ -239,7 +264,7 @@ fn add_field(
     path: &str,
     field: &Field,
 ) -> Result<bool, AllocError>
-    ensures { IfOk result (λ is. IsTrue is → (g : filled.FilledField) → spec.StandsFor methods.now field.now shown.now g → GoesOn context.now progress.old progress.new (entries_at path.now g)) }
+    ensures { IfOk result (λ is. IsTrue is → (g : filled.FilledField) → spec.StandsFor methods.now field.now shown.now g → GoesOn false context.now progress.old progress.new (entries_at path.now g)) }
 {
     let name = field.declared.name.as_str();
     let part = field.declared.part;
@@ -283,7 +308,7 @@ fn add_plain(
     name: &str,
     bits: &Option<Word>,
 ) -> Result<bool, AllocError>
-    ensures { IfOk result (λ is. IsTrue is → GoesOn context.now progress.old progress.new (own_entry part (below path.now name.now) (unwrap_or bits.now []))) }
+    ensures { IfOk result (λ is. IsTrue is → GoesOn false context.now progress.old progress.new (own_entry part (below path.now name.now) (unwrap_or bits.now []))) }
 {
     if let Part::Local = part {
         return Ok(true);
@@ -306,7 +331,7 @@ fn add_next<'a>(
     name: &str,
     bits: &Option<Word>,
 ) -> Result<Option<&'a str>, AllocError>
-    ensures { IfOk result (λ o. IfSome o (λ here. (here.now ≡ below path.now name.now) × GoesOn context.now progress.old progress.new (own_entry part here.now (unwrap_or bits.now [])))) }
+    ensures { IfOk result (λ o. IfSome o (λ here. (here.now ≡ below path.now name.now) × GoesOn false context.now progress.old progress.new (own_entry part here.now (unwrap_or bits.now [])))) }
 {
     if let Part::Local = part {
         return Ok(None);
@@ -324,6 +349,83 @@ fn add_next<'a>(
     Ok(Some(here))
 }
 
+/// Adds the changes by the entries of the page where the context's entries that come next are known to have their paths. Whether there are so many.
+#[cycle(renewed)]
+fn renew_page(
+    page: &Page,
+    alloc: Global,
+    progress: &mut Progress,
+    context: &Context,
+    methods: &[Method],
+    method: usize,
+) -> Result<bool, AllocError>
+    ensures { IfOk result (λ is. IsTrue is → (f : filling.Filling) (path : Path) → spec.Shows methods.now method page.now f → GoesOn true context.now progress.old progress.new (entries_below f path)) }
+{
+    let Some(format) = format_of(methods, method, page.format) else {
+        return Ok(false);
+    };
+    let fields = format.fields.as_slice();
+    let shown = page.fields.as_slice();
+    if shown.len() != fields.len() {
+        return Ok(false);
+    }
+    for i in 0..fields.len() {
+        if !renew_field(&shown[i], alloc, progress, context, methods, &fields[i])? {
+            return Ok(false);
+        }
+    }
+    Ok(true)
+}
+
+/// The same of one field.
+#[cycle(renewed)]
+fn renew_field(
+    shown: &Shown,
+    alloc: Global,
+    progress: &mut Progress,
+    context: &Context,
+    methods: &[Method],
+    field: &Field,
+) -> Result<bool, AllocError>
+    ensures { IfOk result (λ is. IsTrue is → (g : filled.FilledField) (path : Path) → spec.StandsFor methods.now field.now shown.now g → GoesOn true context.now progress.old progress.new (entries_at path g)) }
+{
+    let part = field.declared.part;
+    if !renew_own(alloc, progress, context, part, &shown.uncompressed)? {
+        return Ok(false);
+    }
+    let Some(inner) = &shown.inner else {
+        return Ok(true);
+    };
+    let Encoding::Call { method, .. } = field.encoding.get() else {
+        return Ok(false);
+    };
+    renew_page(inner, alloc, progress, context, methods, *method)
+}
+
+/// Adds the change by the entry, if there is one, that a field of that part leaves where it is known to come next. Whether it is there.
+#[inline(always)]
+fn renew_own(
+    alloc: Global,
+    progress: &mut Progress,
+    context: &Context,
+    part: Part,
+    bits: &Option<Word>,
+) -> Result<bool, AllocError>
+    ensures { IfOk result (λ is. IsTrue is → (here : Path) → GoesOn true context.now progress.old progress.new (own_entry part here (unwrap_or bits.now []))) }
+{
+    if let Part::Local = part {
+        return Ok(true);
+    }
+    let Some((_, kept)) = context.entry_at(progress.passed) else {
+        return Ok(false);
+    };
+    let Some(next) = progress.passed.checked_add(1) else {
+        return Ok(false);
+    };
+    pass(alloc, progress, next, kept, bits)?;
+    Ok(true)
+}
+
 /// Passes the entry that comes next, which has the one bits and is to have the others: so many are passed then.
 #[inline(always)]
 fn pass(
@@ -334,7 +436,7 @@ fn pass(
     bits: &Option<Word>,
 ) -> Result<(), AllocError>
     requires { next ≡ suc progress.old.passed }
-    ensures { OnOk result ((ctx : Entries) (here : Path) → slice_get ctx progress.old.passed ≡ Some (here, kept.now) → GoesOn ctx progress.old progress.new ((here, unwrap_or bits.now []) ∷ [])) }
+    ensures { OnOk result ((known : Bool) (ctx : Entries) (here : Path) → slice_get ctx progress.old.passed ≡ Some (here, kept.now) → GoesOn known ctx progress.old progress.new ((here, unwrap_or bits.now []) ∷ [])) }
 {
     if are_bits(bits, kept) {
         progress.passed = next;

@@ -6,6 +6,7 @@
 //! would not be there, nothing is read, though a filling may fit.
 #![tactic(auto)]
 
+pub use alike::calls_alike;
 pub use coding::{Source, coded, encoded, natural, summed};
 pub use constraints::constraint_holds;
 pub use entries::{advance, asked_values, has_asked};
@@ -18,6 +19,7 @@ pub use steady::is_steady;
 pub use view::View;
 pub use word::Word;
 
+mod alike;
 mod chains;
 mod coding;
 mod constraints;

@@ -1,9 +1,10 @@
 //! The two sides of the whole of a level, and whether what isn't listed is not sent.
 
-ghost use Rattle.std.specs.Prelude.{◌≡◌, ◌≤◌, ◌++◌, ◌∷◌, [], ℕ, false, true, IsTrue, IfOk, IfSome, length, option_and_then, slice_get, take, unwrap_or};
+ghost use Rattle.std.specs.Prelude.{◌≡◌, ◌+◌, ◌<◌, ◌++◌, ◌∷◌, [], ℕ, List, Bool, false, true, IsTrue, IfOk, IfSome, length, option_and_then, slice_get, unwrap_or};
 ghost use Rattle.sem_filling.specs.Fillings.{header_bits, packed_bits};
 ghost use Rattle.sem_profile.specs.Fields.{lists};
 ghost use Rattle.sem_pages.specs.declared.page.Shown as page;
+ghost use Rattle.sem_pages.specs.Comparing as comparing;
 ghost use Rattle.sem_pages.specs.Pages as spec;
 
 use crate::joined::Joined;
@@ -32,51 +33,89 @@ pub fn header_of(
     header.finish(alloc)
 }
 
-/// Whether the bits are the uncompressed sides of the header fields, joined in field order. It takes no memory.
+/// How far bits are compared with others: so many of them are, and the others that come next, at most 64, aren't compared yet.
+#[derive(Clone, Copy)]
+struct Compared {
+    place: usize,
+    tail: Word,
+}
+
+/// Whether the bits are the uncompressed sides of the header fields, joined in field order. 64 bits are compared at a time. It takes no memory.
 #[inline(always)]
 pub fn is_header(bits: &Bits, fields: &[Field], shown: &[Shown]) -> bool
     requires { length shown.now ≡ length fields.now }
     ensures { IsTrue result → bits.now ≡ header_bits (spec.level_by fields.now shown.now) }
 {
     let cursor = Cursor::new(bits);
-    let mut place = 0;
+    let mut compared = Compared {
+        place: 0,
+        tail: Word::new(),
+    };
     for i in 0..fields.len() {
-        let Some(next) = past(&cursor, place, &fields[i], &shown[i]) else {
+        if !goes_past(&cursor, &mut compared, &fields[i], &shown[i]) {
             return false;
-        };
-        place = next;
+        }
     }
-    place == bits.len()
+    is_end(&cursor, &compared)
 }
 
-/// The place after the uncompressed side of the field, where that stands at this one, if the field is one of the header.
+/// Goes past the uncompressed side of the field, if it is one of the header. False where that isn't read, or where it is found that other bits come next.
 #[inline(always)]
-fn past(cursor: &Cursor<'_>, place: usize, field: &Field, shown: &Shown) -> Option<usize>
-    requires { place ≤ length cursor.now.left }
-    ensures { IfSome result (λ next. (next ≤ length cursor.now.left) × (take next cursor.now.left ≡ take place cursor.now.left ++ header_bits (spec.sides_by field.now shown.now ∷ []))) }
+fn goes_past(cursor: &Cursor<'_>, compared: &mut Compared, field: &Field, shown: &Shown) -> bool
+    ensures { IsTrue result → (front : List Bool) → comparing.HasCome cursor.now.left compared.old front → comparing.HasCome cursor.now.left compared.new (front ++ header_bits (spec.sides_by field.now shown.now ∷ [])) }
 {
     match field.declared.part {
         Part::Header => match &shown.uncompressed {
-            Some(word) => past_word(cursor, place, word),
-            None => None,
+            Some(word) => goes_past_word(cursor, compared, word),
+            None => false,
         },
-        Part::Control | Part::Local => Some(place),
+        Part::Control | Part::Local => true,
     }
 }
 
 #[inline(always)]
-fn past_word(cursor: &Cursor<'_>, place: usize, word: &Word) -> Option<usize>
-    requires { place ≤ length cursor.now.left }
-    ensures { IfSome result (λ next. (next ≤ length cursor.now.left) × (take next cursor.now.left ≡ take place cursor.now.left ++ word.now)) }
+fn goes_past_word(cursor: &Cursor<'_>, compared: &mut Compared, word: &Word) -> bool
+    ensures { IsTrue result → (front : List Bool) → comparing.HasCome cursor.now.left compared.old front → comparing.HasCome cursor.now.left compared.new (front ++ word.now) }
 {
-    let count = word.len();
-    let found = cursor.peek(place, count)?;
-    let _most = cursor.rest();
-    if found == word.value() {
-        Some(place + count)
-    } else {
-        None
+    match compared.tail.joined(word) {
+        Some(both) => {
+            compared.tail = both;
+            true
+        }
+        None => spills_past(cursor, compared, word),
     }
+}
+
+/// The same where more than 64 bits aren't compared then: the first 64 of them are.
+#[inline(never)]
+fn spills_past(cursor: &Cursor<'_>, compared: &mut Compared, word: &Word) -> bool
+    requires { 64 < length compared.old.tail + length word.now }
+    ensures { IsTrue result → (front : List Bool) → comparing.HasCome cursor.now.left compared.old front → comparing.HasCome cursor.now.left compared.new (front ++ word.now) }
+{
+    let (first, rest) = compared.tail.filled(word);
+    let Some(found) = cursor.peek(compared.place, 64) else {
+        return false;
+    };
+    let _most = cursor.rest();
+    if found != first {
+        return false;
+    }
+    compared.place += 64;
+    compared.tail = rest;
+    true
+}
+
+/// Whether the bits end with those that aren't compared yet.
+#[inline(always)]
+fn is_end(cursor: &Cursor<'_>, compared: &Compared) -> bool
+    ensures { IsTrue result → (front : List Bool) → comparing.HasCome cursor.now.left compared.now front → cursor.now.left ≡ front }
+{
+    let count = compared.tail.len();
+    let Some(found) = cursor.peek(compared.place, count) else {
+        return false;
+    };
+    let most = cursor.rest();
+    found == compared.tail.value() && compared.place + count == most
 }
 
 /// Adds the uncompressed side at the end, if the field is one of the header. False where it isn't read.

@@ -18,7 +18,7 @@ use sem_filling::{Item, advance};
 use sem_pages::Page;
 use std::alloc::{AllocError, Global};
 use walk_engine::{UnpackFault, Unpacked, item_of, most_octets, unpack, unpack_drawn};
-use walk_pages::{ReadPage, asked_of, goes_on, read_page};
+use walk_pages::{ReadPage, asked_of, goes_on_after, read_page};
 
 /// How many octets are looked at ahead, at most: longer packets are tried octet by octet.
 const AHEAD_LIMIT: usize = 1024;
@@ -107,6 +107,7 @@ fn packet_by_page(
     ensures none { IfOk result (λ o. IfNone o (context.new ≡ context.old)) }
 {
     let last = page.take();
+    let known = last.is_some();
     if context.len() == 0 {
         return Ok(None);
     }
@@ -132,7 +133,7 @@ fn packet_by_page(
     let Some(asked) = asked_of(alloc, accepted, &own)? else {
         return Ok(None);
     };
-    if !goes_on(alloc, accepted, context, &own)? {
+    if !goes_on_after(alloc, accepted, context, &own, known)? {
         return Ok(None);
     }
     *page = Some(own);

@@ -5,7 +5,7 @@ ghost use Rattle.std.specs.Option.{SomeIff};
 ghost use Rattle.sem_bits.specs.Octets.{Holds};
 ghost use Rattle.walk_engine.specs.Writing as writing;
 ghost use Rattle.walk_line.specs.Lines.{no_entries};
-ghost use Rattle.walk_pages.specs.Kept.{IsKeptBy};
+ghost use Rattle.walk_pages.specs.Kept.{HasPaths, IsKeptBy};
 ghost use Rattle.walk_engine.specs.Reading.{Fitting};
 ghost use Rattle.walk_line.specs.Lines.Act.{Send, Reset};
 ghost use Rattle.walk_line.specs.States.{IsNotPut, IsPut};
@@ -24,7 +24,7 @@ use sem_pages::Page;
 use std::alloc::{AllocError, Global};
 use std::marker::Model;
 use walk_engine::{PackFault, Packed, Sent, pack, pack_page};
-use walk_pages::{WrittenPage, goes_on};
+use walk_pages::{WrittenPage, goes_on_after};
 
 /// The sending end: it packs the items of each flow in the flow's context. Of each flow it keeps the format of the last page, by its index, and the page itself while
 /// the context is what that left: the next item mostly goes by them.
@@ -161,13 +161,14 @@ fn put_packet(
     ensures kept { IfSome last.new.page (IsKeptBy accepted.now context.new) }
 {
     let page = last.page.take();
+    let known = page.is_some();
     // In an empty context no page tells what is left in it.
     if context.len() == 0 {
         return put_best(alloc, accepted, context, flow, item, out);
     }
     match pack_page(alloc, accepted, context, item, last.format, page) {
         Ok(Sent::Page(written)) => {
-            if put_page(alloc, accepted, context, flow, &written, out)? {
+            if put_page(alloc, accepted, context, flow, &written, known, out)? {
                 let WrittenPage { page, .. } = written;
                 last.format = Some(page.format);
                 last.page = Some(page);
@@ -205,7 +206,7 @@ fn put_best(
 }
 
 /// Adds the packed bits of what a page shows, after the flow's octet, and moves the context on. False where the context, which stays then, has not the paths of
-/// the page first: then nothing is added. Where memory runs out nothing changes.
+/// the page first: then nothing is added. Where memory runs out nothing changes. It is known, or not, that the context keeps a page.
 ///
 /// All room is made before anything changes.
 fn put_page(
@@ -214,15 +215,17 @@ fn put_page(
     context: &mut Context,
     flow: u8,
     written: &WrittenPage,
+    known: bool,
     out: &mut Vec<u8>,
 ) -> Result<bool, AllocError>
-    ensures ok { IfOk result (λ is. IsTrue is → (f : Filling) → ShowsPacked accepted.now f written.now → AddsPacket context.old context.new flow f out.old.items out.new.items) }
+    requires { IsTrue known → HasPaths accepted.now context.old }
+    ensures ok { IfOk result (λ is. IsTrue is → (f : Filling) → Fitting accepted.now context.old f → ShowsPacked accepted.now f written.now → AddsPacket context.old context.new flow f out.old.items out.new.items) }
     ensures kept { IfOk result (λ is. IsTrue is → (f : Filling) → Fitting accepted.now context.old f → ShowsPacked accepted.now f written.now → IsKeptBy accepted.now context.new written.now.page) }
     ensures stays { IfOk result (λ is. is ≡ false → (context.new ≡ context.old) × (out.new.items ≡ out.old.items)) }
     ensures err { OnErr result ((context.new ≡ context.old) × (out.new.items ≡ out.old.items)) }
 {
     out.reserve((written.packed.len() + 7) / 8 + 1)?;
-    if !goes_on(alloc, accepted, context, &written.page)? {
+    if !goes_on_after(alloc, accepted, context, &written.page, known)? {
         return Ok(false);
     }
     push_packet(flow, &written.packed, out);

@@ -4,3 +4,4 @@ pub mod Ending
 pub mod NumbersShown
 pub mod Telling
 mod Leaving
+pub mod Going

@@ -332,24 +332,18 @@ impl<'a> Draft<'a> {
         }
     }
 
-    /// Passes the field, which is read, where the source has its uncompressed side next if it takes that. Whether it is so. None where it isn't read.
+    /// Passes the field, if it is read, and its uncompressed side, where the field takes that from the source. Whether it is read. The header is compared at the end.
     #[inline(always)]
-    pub(crate) fn pass_up(&mut self, field: usize, takes: bool, cursor: &Cursor<'_>) -> Option<bool>
+    pub(crate) fn pass_up(&mut self, field: usize, takes: bool) -> bool
         ensures { (frame : PageFrame) → spec.GoesOn frame self.old self.new }
     {
-        let up = at(self.fields.as_slice(), field)?.uncompressed?;
-        if takes {
-            let source = Source {
-                cursor,
-                ahead: self.ahead,
-            };
-            let next = source.word(up.len())?;
-            if !next.is(&up) {
-                return Some(false);
+        match self.header_count(field) {
+            Some(count) => {
+                self.pass(takes, count);
+                true
             }
-            self.pass(true, up.len());
+            None => false,
         }
-        Some(true)
     }
 
     /// Takes the bits of a checksum.

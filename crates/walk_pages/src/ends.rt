@@ -187,7 +187,7 @@ fn is_solved(solved: &[usize], number: usize) -> bool
     solved.iter().any(|known| *known == number)
 }
 
-/// Whether each field whose uncompressed side isn't there is a checksum, which is right where it is there. It has both sides then, the one without bits.
+/// Whether each listed field whose uncompressed side isn't there is a checksum, which is right where it is there. It has both sides then, the one without bits.
 #[inline(always)]
 fn end_sums(
     alloc: Global,
@@ -198,12 +198,12 @@ fn end_sums(
 ) -> Result<bool, AllocError>
     ensures { IfOk result (λ b. IsTrue b → spec.AreEnded format.now arguments.now header.now fields.old fields.new) }
 {
-    for i in 0..fields.len() {
+    for i in format.listing.get().as_slice() {
         // Most fields are no checksums, for which nothing has to be called.
-        if is_up(fields.as_slice(), i) {
+        if is_up(fields.as_slice(), *i) {
             continue;
         }
-        if !is_ended(alloc, format, arguments, fields, header, i)? {
+        if !is_ended(alloc, format, arguments, fields, header, *i)? {
             return Ok(false);
         }
     }

@@ -2,7 +2,7 @@
 #![tactic(auto)]
 
 pub use numbers::page_number;
-pub use reader::{ReadPage, asked_of, goes_on, read_page};
+pub use reader::{ReadPage, asked_of, goes_on, goes_on_after, read_page};
 pub use writer::{WrittenPage, write_format, write_page};
 pub use writing::has_operations;
 

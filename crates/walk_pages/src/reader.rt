@@ -2,12 +2,13 @@
 
 ghost use Rattle.std.specs.Prelude.{◌≡◌, IfOk, IfSome, IfNone, IsTrue, OnErr, false, []};
 ghost use Rattle.sem_context.specs.Entries.{bits_at};
+ghost use Rattle.sem_elsewhere.specs.Paths.{CallAlike};
 ghost use Rattle.sem_filling.specs.declared.filling.Filling as filling;
 ghost use Rattle.sem_filling.specs.Entries.{next};
 ghost use Rattle.sem_filling.specs.Fillings.{asked_values, level};
 ghost use Rattle.sem_filling.specs.Fronts.{FitsTop};
 ghost use Rattle.sem_pages.specs.Pages.{IsPageOf, Shows};
-ghost use Rattle.walk_pages.specs.Kept.{IsKeptBy};
+ghost use Rattle.walk_pages.specs.Kept.{HasPaths, IsKeptBy};
 ghost use Rattle.walk_pages.specs.Reader as spec;
 
 use crate::draft::WholePage;
@@ -117,6 +118,44 @@ pub fn goes_on(
     ensures err { OnErr result (context.new ≡ context.old) }
 {
     let profile = accepted.profile();
-    let is = advance(alloc, context, profile.methods(), profile.top(), page)?;
+    profile.keeps();
+    let is = advance(
+        alloc,
+        context,
+        profile.methods(),
+        profile.top(),
+        page,
+        false,
+    )?;
     Ok(is)
+}
+
+/// The same of a page whose filling fits, where the context is known to keep a page, or isn't. Where it is, and the methods call alike, no path is compared.
+pub fn goes_on_after(
+    alloc: Global,
+    accepted: &Accepted,
+    context: &mut Context,
+    page: &Page,
+    known: bool,
+) -> Result<bool, AllocError>
+    requires { IsTrue known → HasPaths accepted.now context.old }
+    ensures ok { IfOk result (λ is. IsTrue is → (f : filling.Filling) → FitsTop accepted.now.profile.methods accepted.now.profile.top (bits_at context.old) f → Shows accepted.now.profile.methods accepted.now.profile.top page.now f → context.new ≡ next context.old f) }
+    ensures kept { IfOk result (λ is. IsTrue is → (f : filling.Filling) → FitsTop accepted.now.profile.methods accepted.now.profile.top (bits_at context.old) f → Shows accepted.now.profile.methods accepted.now.profile.top page.now f → IsKeptBy accepted.now context.new page.now) }
+    ensures stays { IfOk result (λ is. is ≡ false → context.new ≡ context.old) }
+    ensures err { OnErr result (context.new ≡ context.old) }
+{
+    let profile = accepted.profile();
+    profile.keeps();
+    let told = are_told(accepted, known);
+    let is = advance(alloc, context, profile.methods(), profile.top(), page, told)?;
+    Ok(is)
+}
+
+/// Whether a page is kept, and the methods call alike.
+#[inline(always)]
+fn are_told(accepted: &Accepted, known: bool) -> bool
+    ensures known { IsTrue result → IsTrue known }
+    ensures alike { IsTrue result → CallAlike accepted.now.profile.methods }
+{
+    known && accepted.calls_alike()
 }

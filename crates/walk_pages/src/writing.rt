@@ -11,7 +11,7 @@ use crate::draft::{Draft, Inside, PackedPage, Told, WholePage};
 use crate::ends::{ended, ended_as};
 use crate::picks::told_at;
 use cert_accepted::Accepted;
-use cert_compiled::{Length, Origin, PageWriting, first_left};
+use cert_compiled::{Length, Origin, PageWriting, format_left};
 use sem_bits::{Bits, Cursor};
 use sem_filling::whole_sides::reference_near;
 use sem_filling::{AskedValue, FieldPath};
@@ -148,8 +148,8 @@ fn step(
                 },
                 format: *format,
             };
-            if let Some(is) = draft.pass_up(*field, *takes, given.header) {
-                return Ok(is);
+            if draft.pass_up(*field, *takes) {
+                return Ok(true);
             }
             if !call(depth, alloc, accepted, frame, draft, wanted, given)? {
                 return Ok(false);
@@ -166,12 +166,18 @@ fn step(
             origin,
             length,
         } => {
+            if draft.pass_up(*field, is_taken(*origin)) {
+                return Ok(true);
+            }
             let wanted = FieldWriting {
                 field: *field,
                 origin: *origin,
                 length: *length,
             };
-            write_field(alloc, frame, draft, wanted, given)
+            if !write_field(alloc, frame, draft, wanted, given)? {
+                return Ok(false);
+            }
+            Ok(true)
         }
     }
 }
@@ -184,29 +190,8 @@ struct FieldWriting {
     length: Length,
 }
 
-/// Writes a field that calls no method.
+/// Writes a field that calls no method, and of which nothing is read.
 fn write_field(
-    alloc: Global,
-    frame: &PageFrame<'_>,
-    draft: &mut Draft<'_>,
-    wanted: FieldWriting,
-    given: &Given<'_, '_>,
-) -> Result<bool, AllocError>
-    ensures { IfOk result (λ b. IsTrue b → spec.GoesOn frame.now draft.old draft.new) }
-{
-    let takes = is_taken(wanted.origin);
-    if let Some(is) = draft.pass_up(wanted.field, takes, given.header) {
-        return Ok(is);
-    }
-    if !write_new(alloc, frame, draft, wanted, given)? {
-        return Ok(false);
-    }
-    Ok(true)
-}
-
-/// The same where nothing is read of the field.
-#[inline(always)]
-fn write_new(
     alloc: Global,
     frame: &PageFrame<'_>,
     draft: &mut Draft<'_>,
@@ -505,7 +490,12 @@ fn start_for<'a, 'b>(
         Target::Candidate(number) => start_of(accepted, frame.methods, frame.method, number),
         Target::Format(index) => start_in(accepted, frame.methods, frame.method, index),
         Target::Fitting => {
-            let index = first_left(frame.methods, frame.method, frame.arguments)?;
+            let index = format_left(
+                accepted.compiled(),
+                frame.methods,
+                frame.method,
+                frame.arguments,
+            )?;
             start_in(accepted, frame.methods, frame.method, index)
         }
     }

@@ -1,6 +1,6 @@
 use Rattle.std.proofs.Common.{◌∙◌, ap, refl, sym}
 use Rattle.sem_expr.specs.Values.{Assignment, apply, both, val}
-use Rattle.sem_pages.specs.Chains.{Meaning, Spells, attribute, parameter}
+use Rattle.sem_pages.specs.Chains.{Meaning, Spells, parameter}
 use Rattle.sem_pages.specs.declared.chains.Operand.{Operand}
 use Rattle.sem_pages.proofs.Chaining.{spells_alone, spells_more}
 use Rattle.sem_pages.proofs.CodedSides.{found_weaker, some_weaker}
@@ -17,7 +17,7 @@ returns-in-Parameter-clause-spells t c =
 
 pub returns-in-Attribute-clause-spells : goal.returns-in-Attribute-clause-spells
 returns-in-Attribute-clause-spells t c =
-    spells_alone c.args.chains.now _ c.args.links.now (λ a. val a c.args.expr.now) (λ (a : Assignment). a.attribute c.in-Attribute.attribute) c.requires (attribute (λ a. refl)) (λ a. ap (val a) c.in-Attribute.is)
+    spells_alone c.args.chains.now _ c.args.links.now (λ a. val a c.args.expr.now) (λ (a : Assignment). a.attribute c.in-Attribute.attribute) c.requires (c.attribute_operand.ensures c.args.chains.now) (λ a. ap (val a) c.in-Attribute.is)
 
 pub returns-in_ok-right-in-Binary-clause-spells : goal.returns-in_ok-right-in-Binary-clause-spells
 returns-in_ok-right-in-Binary-clause-spells t c =

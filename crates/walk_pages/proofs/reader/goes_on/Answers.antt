@@ -1,9 +1,21 @@
-use Rattle.std.proofs.Common.{rules}
+use Rattle.std.proofs.Common.{rules, subst}
+use Rattle.std.proofs.lemmas.Bool.{false≢true}
 use Rattle.sem_context.specs.Entries.{bits_at}
+use Rattle.sem_profile.specs.Alike.{AreAlike}
+use Rattle.sem_profile.specs.Resolved.{Resolved}
+use Rattle.walk_pages.proofs.Going.{all_begin, shown_moved}
 use Rattle.walk_pages.proofs.Leaving.{kept_moved}
 use Rattle.walk_pages.proofs.reader.goes_on.Goals as goal
 
+pub returns-clause-ok : goal.returns-clause-ok
+returns-clause-ok c = λ is f shown.
+    c.in_ok-is.ensures.ok is f (shown_moved c.methods.result.now c.args.accepted.now.profile.methods c.top.result c.args.accepted.now.profile.top c.args.page.now f (search rules) (search rules) shown) (λ known. absurd (false≢true known))
+
 pub returns-clause-kept : goal.returns-clause-kept
 returns-clause-kept c = λ is f fit shown.
-    kept_moved c.methods.result.now c.args.accepted.now.profile.methods c.top.result c.args.accepted.now.profile.top (bits_at c.args.context.now) (bits_at c.advance.new.context) f c.args.page.now (search rules) (search rules)
-    (c.in_ok-is.ensures.kept is f) fit shown
+    let seen = shown_moved c.methods.result.now c.args.accepted.now.profile.methods c.top.result c.args.accepted.now.profile.top c.args.page.now f (search rules) (search rules) shown in
+    record {
+      steady = kept_moved c.methods.result.now c.args.accepted.now.profile.methods c.top.result c.args.accepted.now.profile.top (bits_at c.args.context.now) (bits_at c.advance.new.context) f c.args.page.now (search rules) (search rules)
+          (λ args fit' shown'. c.in_ok-is.ensures.kept is f args fit' shown' (λ known. absurd (false≢true known))) fit shown;
+      paths = all_begin c.args.accepted.now (bits_at c.args.context.now) c.advance.new.context f (subst (λ (p : Resolved). AreAlike p.methods) c.profile-profile.ensures c.keeps.ensures.alike) fit (c.in_ok-is.ensures.begins is f seen (λ known. absurd (false≢true known)));
+    }

@@ -32,8 +32,8 @@ write_method-new-requires t c =
     let same : c.args.frame.now.methods.now ≡ c.args.accepted.now.profile.methods = (search rules) in
     record { prepared = found.told c.in-Some.start.format.now (ap (λ z. format_at z c.args.frame.now.method c.in-Some.start.index) (sym same) ∙ found.format_is) }
 
-pub step-returns-in-Some : goal.step-returns-in-Some
-step-returns-in-Some t c = λ _. c.pass_up.ensures c.args.frame.now
-
 pub step-returns-else-not-branch : goal.step-returns-else-not-branch
 step-returns-else-not-branch t c = λ _. goes_trans c.args.frame.now c.args.draft.now c.pass_up.new.self c.call.new.draft (c.pass_up.ensures c.args.frame.now) (c.in_ok-call-in-Call.ensures c.if-not-branch.false)
+
+pub step-returns-else-not-branch-2 : goal.step-returns-else-not-branch-2
+step-returns-else-not-branch-2 t c = λ _. goes_trans c.args.frame.now c.args.draft.now c.pass_up-in-Field.new.self c.write_field.new.draft (c.pass_up-in-Field.ensures c.args.frame.now) (c.in_ok-write_field-in-Field.ensures c.if-not-branch-2.false)

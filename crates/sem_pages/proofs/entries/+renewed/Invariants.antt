@@ -1,0 +1,14 @@
+use Rattle.std.proofs.Common.{drop, true}
+use Rattle.std.specs.List.{flat_map}
+use Rattle.sem_filling.specs.declared.filling.Filling.{Filling}
+use Rattle.sem_filling.specs.Fillings.{fields_of}
+use Rattle.sem_filling.specs.Entries.{Path, entries_below}
+use Rattle.sem_filling.specs.FillingLaws.{entries_at}
+use Rattle.sem_pages.proofs.InOrder.{GoesTo}
+use Rattle.sem_pages.specs.Pages.{Shows}
+use Rattle.sem_pages.proofs.entries.+renewed.Given as goal
+
+abbrev pub invariant-renew_page-loop-i : goal.invariant-renew_page-loop-i
+invariant-renew_page-loop-i l =
+    (f : Filling) (path : Path) → Shows l.methods l.method l.page f
+    → GoesTo true l.context l.fn.progress l.progress (flat_map (entries_at path) (drop l.i (fields_of f))) (entries_below f path)
