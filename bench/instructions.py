@@ -13,7 +13,7 @@ from .packing import bundled, PROFILES, stream
 NAMES = ["plain", "tick", "opt", "six", "mode", "turn"]
 FEW, MANY = 500, 2000
 # the most instructions that an event or a packet of real headers may cost
-BOUNDS = {("udp", "line"): 35500, ("udp", "line --receive"): 26500, ("rtp", "line"): 61500, ("rtp", "line --receive"): 37500}
+BOUNDS = {("udp", "line"): 30000, ("udp", "line --receive"): 23000, ("rtp", "line"): 53500, ("rtp", "line --receive"): 32700}
 
 
 def of_run(program, data, due):
