@@ -8,9 +8,11 @@ use Rattle.sem_filling.specs.Entries.{next}
 use Rattle.sem_filling.specs.Fillings.{packed}
 use Rattle.sem_pages.specs.Pages.{Shows}
 use Rattle.cert_accepted.specs.Accepted.{Accepting}
+use Rattle.walk_pages.specs.Kept.{IsKeptBy}
 use Rattle.walk_pages.specs.declared.writer.WrittenPage.{WrittenPage}
 use Rattle.walk_engine.specs.declared.search.Packed.{Packed}
 use Rattle.walk_engine.specs.declared.sender.Sent.TheVariants as sent
+use Rattle.walk_engine.specs.Reading.{Fitting}
 use Rattle.walk_engine.specs.Sending.{IsPackedAs}
 use Rattle.walk_engine.specs.Writing.{IsPacked}
 use Rattle.walk_session.specs.declared.refusal.PackRefusal.{PackRefusal}
@@ -60,6 +62,9 @@ module _ (a : Accepting) (ctx : Entries) (it : Item) where
     pub page_too_long : (room n : ℕ) → n ≡ length w.packed → room < (n + 7) / 8 → IsTooLong a ctx it room n
     page_too_long room n count short = record { p = shown; packed = is_packed; bits_are = count; short = short }
 
-    pub page_sent : (new : Entries) (room written : List ℕ) (n : ℕ) → IsWritten w.packed room written → n ≡ length w.packed → ((f : Filling) → Shows a.profile.methods a.profile.top w.page f → new ≡ next ctx f)
-        → IsSentPlain a ctx new it room written n
-    page_sent new room written n output count goes = record { p = shown; packed = is_packed; output = output; bits_are = count; new_is = goes s.sent.filling s.sent.stands.shown }
+    pub page_sent : (new : Entries) (room written : List ℕ) (n : ℕ) → IsWritten w.packed room written → n ≡ length w.packed
+        → ((f : Filling) → Fitting a ctx f → Shows a.profile.methods a.profile.top w.page f → new ≡ next ctx f) → IsSentPlain a ctx new it room written n
+    page_sent new room written n output count goes = record { p = shown; packed = is_packed; output = output; bits_are = count; new_is = goes s.sent.filling s.sent.best.fits s.sent.stands.shown }
+
+    pub page_kept : (new : Entries) → ((f : Filling) → Fitting a ctx f → Shows a.profile.methods a.profile.top w.page f → IsKeptBy a new w.page) → IsKeptBy a new w.page
+    page_kept new keeps = keeps s.sent.filling s.sent.best.fits s.sent.stands.shown

@@ -73,12 +73,12 @@ pub page_received : (a : Accepting) (ctx new : Entries) (packed : List ℕ) (cou
     (header header_new asked asked_new : List ℕ) → IsOf packed count bits → place ≡ record { used = []; left = bits } → flat.IsRead a ctx place rest r
     → ((f : Filling) → Shows a.profile.methods a.profile.top r.page f → given ≡ asked_values (level f)) → slice ≡ given → Spells slice values →
     t.header_bits ≡ length r.header → t.asked_octets ≡ length values → t.bits ≡ r.bits → IsWritten r.header header header_new → length values ≤ length asked → asked_new ≡ values ++ drop (length values) asked →
-    ((f : Filling) → Shows a.profile.methods a.profile.top r.page f → new ≡ next ctx f) → IsReceived a ctx new packed count header header_new asked asked_new t
+    ((f : Filling) → reading.Fitting a ctx f → Shows a.profile.methods a.profile.top r.page f → new ≡ next ctx f) → IsReceived a ctx new packed count header header_new asked asked_new t
 page_received a ctx new packed count bits place rest r given slice values t header header_new asked asked_new are begins read listed same spelled long many taken put within put_there on =
     received_is a ctx new packed count bits place rest (record { header = r.header; filling = read.filling; bits = r.bits }) (record { header = r.header; asked = given }) slice values t header header_new asked asked_new are begins
     (record { fits = read.fits; advances = read.advances; header_is = read.header_is; bits_is = read.bits_is })
     (λ i. record { header = read.header_is i; asked = listed read.filling read.shown i })
-    same spelled long many taken put within put_there (on read.filling read.shown)
+    same spelled long many taken put within put_there (on read.filling read.fits read.shown)
 
 -- ---- at a flow
 

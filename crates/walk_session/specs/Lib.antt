@@ -3,6 +3,7 @@ pub mod Asked
 pub mod State
 pub mod Most
 pub mod Packer
+pub mod Pages
 pub mod Unpacker
 pub mod Steps
 pub mod Laws

@@ -12,6 +12,7 @@ pub mod laws;
 pub mod most;
 mod octets;
 mod packer;
+mod pages;
 pub mod refusal;
 pub mod session;
 pub mod unpacker;

@@ -1,12 +1,15 @@
 //! From the octets of an item to those of its packet.
 
-ghost use Rattle.std.specs.Prelude.{◌≡◌, IfOk, IfErr, OnErr, length};
+ghost use Rattle.std.specs.Prelude.{◌≡◌, IfOk, IfErr, IfSome, OnErr, length};
+ghost use Rattle.walk_pages.specs.Kept.{IsKeptBy};
 ghost use Rattle.walk_session.specs.Packer as spec;
+ghost use Rattle.walk_session.specs.Pages.{IsKeptAt};
 
 use crate::asked::values_of;
 use crate::ends::Sending;
 use crate::most::most_packet;
 use crate::octets::{has_room, write_bits};
+use crate::pages::Last;
 use crate::refusal::PackRefusal;
 use cert_accepted::Accepted;
 use sem_bits::Bits;
@@ -15,7 +18,7 @@ use sem_filling::{Item, advance};
 use sem_profile::AskedField;
 use std::alloc::Global;
 use walk_engine::{PackFault, Packed, Sent, pack, pack_page};
-use walk_pages::goes_on;
+use walk_pages::{WrittenPage, goes_on_after};
 use walk_robust::{Robust, RobustFault};
 
 /// The item of a header and of the values of the asked fields, in octets.
@@ -38,23 +41,28 @@ pub(crate) fn item_of(
     Ok(Item { header, asked })
 }
 
-/// Packs an item, writes its packet to the start of the room, and goes on. A refusal changes neither. How many bits the packet has. Where a page is packed, its
-/// format is the last one then.
+/// Packs an item, writes its packet to the start of the room, and goes on. A refusal changes neither. How many bits the packet has. Where a page is packed, it is the
+/// last one then.
 pub(crate) fn send(
     alloc: Global,
     accepted: &Accepted,
     sending: &mut Sending,
     item: &Item,
-    last: &mut Option<usize>,
+    last: &mut Last,
     room: &mut [u8],
 ) -> Result<usize, PackRefusal>
+    requires { IfSome last.old.page (IsKeptAt accepted.now sending.old) }
+    ensures kept { IfSome last.new.page (IsKeptAt accepted.now sending.new) }
     ensures ok { IfOk result (spec.IsSent accepted.now sending.old sending.new item.now room.old room.new) }
     ensures stays { OnErr result ((sending.new ≡ sending.old) × (room.new ≡ room.old)) }
     ensures fault { IfErr result (λ e. spec.BlamesSend e accepted.now sending.old item.now (length room.old)) }
 {
     match sending {
         Sending::Plain(context) => send_plain(alloc, accepted, context, item, last, room),
-        Sending::Robust(robust) => send_robust(alloc, accepted, robust, item, room),
+        Sending::Robust(robust) => {
+            last.page = None;
+            send_robust(alloc, accepted, robust, item, room)
+        }
     }
 }
 
@@ -64,28 +72,35 @@ fn send_plain(
     accepted: &Accepted,
     context: &mut Context,
     item: &Item,
-    last: &mut Option<usize>,
+    last: &mut Last,
     room: &mut [u8],
 ) -> Result<usize, PackRefusal>
+    requires { IfSome last.old.page (IsKeptBy accepted.now context.old) }
+    ensures kept { IfSome last.new.page (IsKeptBy accepted.now context.new) }
     ensures ok { IfOk result (spec.IsSentPlain accepted.now context.old context.new item.now room.old room.new) }
     ensures stays { OnErr result ((context.new ≡ context.old) × (room.new ≡ room.old)) }
     ensures fault { IfErr result (λ e. spec.BlamesPlain e accepted.now context.old item.now (length room.old)) }
 {
+    let page = last.page.take();
+    let known = page.is_some();
     // In an empty context no page tells what is left in it.
     if context.len() == 0 {
         return send_best(alloc, accepted, context, item, room);
     }
-    match pack_page(alloc, accepted, context, item, *last, None) {
+    match pack_page(alloc, accepted, context, item, last.format, page) {
         Ok(Sent::Page(written)) => {
             if !has_room(written.packed.len(), room) {
                 return Err(PackRefusal::NoRoom(written.packed.len()));
             }
-            if !goes_on(alloc, accepted, context, &written.page)? {
+            if !goes_on_after(alloc, accepted, context, &written.page, known)? {
                 return send_best(alloc, accepted, context, item, room);
             }
-            *last = Some(written.page.format);
             write_bits(&written.packed, room);
-            Ok(written.packed.len())
+            let count = written.packed.len();
+            let WrittenPage { page, .. } = written;
+            last.format = Some(page.format);
+            last.page = Some(page);
+            Ok(count)
         }
         Ok(Sent::Filling(found)) => put(alloc, context, &found, room),
         Err(fault) => Err(refusal_of(fault)),

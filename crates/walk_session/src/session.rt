@@ -6,23 +6,29 @@ ghost use Rattle.walk_session.specs.Steps as spec;
 
 use crate::ends::{Ends, Sending};
 use crate::packer::{item_of, send};
+use crate::pages::{Last, keep_page, take_page};
 use crate::refusal::{PackRefusal, UnpackRefusal};
 use crate::unpacker::{Taken, receive};
 use cert_accepted::Accepted;
+use sem_pages::Page;
 use std::alloc::{AllocError, Global};
 use std::marker::Model;
 use walk_robust::Robust;
 
-/// An accepted profile, and both ends of each flow. Of each flow it keeps the format of the last page that was packed, by its index: the next item mostly goes by
-/// that.
+/// An accepted profile, and both ends of each flow. Of each flow it keeps the format of the last page that was packed, by its index, and the last pages themselves,
+/// one that was packed and one that was unpacked, while the contexts are what those left: the next item and the next packet mostly go by them. Of a sending end that
+/// holds several contexts no page is kept.
 #[derive(Drop)]
 pub struct Session {
     accepted: Accepted,
     flows: Vec<Ends>,
     formats: Vec<Option<usize>>,
+    sent: Vec<Option<Page>>,
+    received: Vec<Option<Page>>,
 }
 
 impl Model for Session {
+    ghost use Rattle.walk_session.specs.Pages.{AreKept, KeepsReceived, KeepsSent};
     ghost use Rattle.walk_session.specs.State.{State};
     ghost use Rattle.walk_session.specs.contracts.ends.Ends as ends;
     ghost use Rattle.sem_expr.specs.contracts.expr.Expr as expr;
@@ -34,6 +40,8 @@ impl Model for Session {
     ghost coded = { Prim.hlevel (codes, expr.the_row.coded, cond.the_row.coded, ends.the_row.coded) };
 
     ghost view = { λ s. record { accepted = s.accepted; flows = s.flows.items } };
+
+    ghost invariant = { λ s. AreKept (KeepsSent s.accepted) s.flows.items s.sent.items × AreKept (KeepsReceived s.accepted) s.flows.items s.received.items };
 }
 
 impl Session {
@@ -46,6 +54,8 @@ impl Session {
             accepted,
             flows,
             formats,
+            sent: Vec::new(alloc),
+            received: Vec::new(alloc),
         })
     }
 
@@ -86,7 +96,10 @@ impl Session {
             Ok(item) => item,
             Err(refusal) => return Err(refusal),
         };
-        let mut last = last_format(self.formats.as_slice(), flow);
+        let mut last = Last {
+            format: last_format(self.formats.as_slice(), flow),
+            page: take_page(&mut self.sent, flow),
+        };
         let ends = &mut self.flows[flow];
         let sent = send(
             alloc,
@@ -96,7 +109,9 @@ impl Session {
             &mut last,
             room,
         );
-        note_format(&mut self.formats, flow, last);
+        let Last { format, page } = last;
+        note_format(&mut self.formats, flow, format);
+        keep_page(&mut self.sent, flow, page);
         sent
     }
 
@@ -118,17 +133,21 @@ impl Session {
         if flow >= self.flows.len() {
             return Err(UnpackRefusal::Flow);
         }
+        let mut page = take_page(&mut self.received, flow);
         let ends = &mut self.flows[flow];
         let context = &mut ends.receiving;
-        receive(
+        let taken = receive(
             alloc,
             &self.accepted,
             context,
+            &mut page,
             packed,
             packed_bits,
             header,
             asked,
-        )
+        );
+        keep_page(&mut self.received, flow, page);
+        taken
     }
 
     /// Both ends of a flow begin anew. Whether there is such a flow.
@@ -139,6 +158,8 @@ impl Session {
         if flow >= self.flows.len() {
             return false;
         }
+        let _sent = take_page(&mut self.sent, flow);
+        let _received = take_page(&mut self.received, flow);
         self.flows[flow] = Ends::new(alloc);
         true
     }
@@ -153,6 +174,7 @@ impl Session {
             return Ok(false);
         }
         let robust = robust_of(alloc, &self.flows[flow].sending, lost)?;
+        let _sent = take_page(&mut self.sent, flow);
         self.flows[flow].sending = Sending::Robust(robust);
         Ok(true)
     }

@@ -1,6 +1,7 @@
 //! From the octets of a packet to those of its item.
 
 ghost use Rattle.std.specs.Prelude.{◌≡◌, ℕ, List, IfOk, IfErr, IfSome, IfNone, OnErr, length};
+ghost use Rattle.walk_pages.specs.Kept.{IsKeptBy};
 ghost use Rattle.walk_session.specs.Octets.{IsOf};
 ghost use Rattle.walk_session.specs.Unpacker as spec;
 
@@ -11,9 +12,10 @@ use cert_accepted::Accepted;
 use sem_bits::{Bits, Cursor};
 use sem_context::Context;
 use sem_filling::advance;
+use sem_pages::Page;
 use std::alloc::{AllocError, Global};
 use walk_engine::{UnpackFault, Unpacked, item_of, unpack};
-use walk_pages::{ReadPage, asked_of, goes_on, read_page};
+use walk_pages::{ReadPage, asked_of, goes_on_after, read_page};
 
 /// How much was written of an item, and how many bits its packet took.
 #[derive(Clone, Copy)]
@@ -25,15 +27,19 @@ pub struct Taken {
 }
 
 /// Unpacks the packet at the front of bits, writes its header and the values of its asked fields to the starts of the rooms, and goes on. A refusal changes nothing.
+/// What is read by a page goes by the last one, where one is kept, and leaves it for the next.
 pub(crate) fn receive(
     alloc: Global,
     accepted: &Accepted,
     context: &mut Context,
+    page: &mut Option<Page>,
     packed: &[u8],
     packed_bits: usize,
     header: &mut [u8],
     asked: &mut [u8],
 ) -> Result<Taken, UnpackRefusal>
+    requires { IfSome page.old (IsKeptBy accepted.now context.old) }
+    ensures kept { IfSome page.new (IsKeptBy accepted.now context.new) }
     ensures ok { IfOk result (spec.IsReceived accepted.now context.old context.new packed.now packed_bits header.old header.new asked.old asked.new) }
     ensures stays { OnErr result ((context.new ≡ context.old) × (header.new ≡ header.old) × (asked.new ≡ asked.old)) }
     ensures fault { IfErr result (λ e. spec.BlamesReceive e accepted.now context.old packed.now packed_bits (length header.old) (length asked.old)) }
@@ -41,9 +47,12 @@ pub(crate) fn receive(
     let Some(bits) = Bits::from_octets(alloc, packed, packed_bits)? else {
         return Err(UnpackRefusal::BadBits);
     };
-    match received_at_once(alloc, accepted, context, &bits, header, asked)? {
+    match received_at_once(alloc, accepted, context, page, &bits, header, asked)? {
         Some(taken) => Ok(taken),
-        None => received_walked(alloc, accepted, context, &bits, header, asked),
+        None => {
+            *page = None;
+            received_walked(alloc, accepted, context, &bits, header, asked)
+        }
     }
 }
 
@@ -53,33 +62,39 @@ fn received_at_once(
     alloc: Global,
     accepted: &Accepted,
     context: &mut Context,
+    page: &mut Option<Page>,
     bits: &Bits,
     header: &mut [u8],
     asked: &mut [u8],
 ) -> Result<Option<Taken>, AllocError>
+    requires { IfSome page.old (IsKeptBy accepted.now context.old) }
+    ensures kept { IfSome page.new (IsKeptBy accepted.now context.new) }
     ensures some { IfOk result (λ o. IfSome o (λ taken. (packed : List ℕ) (count : ℕ) → IsOf packed count bits.now → spec.IsReceived accepted.now context.old context.new packed count header.old header.new asked.old asked.new taken)) }
     ensures none { IfOk result (λ o. IfNone o ((context.new ≡ context.old) × (header.new ≡ header.old) × (asked.new ≡ asked.old))) }
     ensures stays { OnErr result ((context.new ≡ context.old) × (header.new ≡ header.old) × (asked.new ≡ asked.old)) }
 {
+    let last = page.take();
+    let known = last.is_some();
     let mut cursor = Cursor::new(bits);
-    let Some(read) = read_page(alloc, accepted, context, &mut cursor, None)? else {
+    let Some(read) = read_page(alloc, accepted, context, &mut cursor, last)? else {
         return Ok(None);
     };
     let ReadPage {
         header: found,
-        page,
+        page: own,
         bits: count,
     } = read;
-    let Some(given) = asked_of(alloc, accepted, &page)? else {
+    let Some(given) = asked_of(alloc, accepted, &own)? else {
         return Ok(None);
     };
     let values = octets_of(alloc, given.as_slice())?;
     if !has_room(found.len(), header) || values.len() > asked.len() {
         return Ok(None);
     }
-    if !goes_on(alloc, accepted, context, &page)? {
+    if !goes_on_after(alloc, accepted, context, &own, known)? {
         return Ok(None);
     }
+    *page = Some(own);
     write_bits(&found, header);
     put(values.as_slice(), asked);
     Ok(Some(Taken {
